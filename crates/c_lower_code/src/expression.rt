@@ -1,6 +1,6 @@
 // Expressions, in the four ways in which they are lowered.
 ghost use Rattle.std.specs.Prelude.{◌≡◌, IfOk, true, false};
-ghost use Rattle.c_types.specs.Typed.{term, place_of, terms};
+ghost use Rattle.c_types.specs.Typed.{terms};
 ghost use Rattle.c_lower_scheme.specs.Parts as parts;
 ghost use Rattle.c_lower_scheme.specs.Places.{integer_of};
 ghost use Rattle.c_lower_scheme.specs.Conditions as conditions;
@@ -9,6 +9,7 @@ ghost use Rattle.c_lower_scheme.specs.Assignments as assignments;
 ghost use Rattle.c_lower_scheme.specs.Expressions as expressions;
 ghost use Rattle.c_lower_code.specs.Views.{low, two, found, ready, passing, done, destination};
 ghost use Rattle.c_lower_code.specs.Changes.{applied};
+ghost use Rattle.c_lower_code.specs.Ways.{way_of, seek_of};
 
 use crate::change::{
     Change, fill_drop, fill_low, local_of, step_before, step_ready, store_drop, store_low,
@@ -35,7 +36,7 @@ use gg_base::{NoMemory, Rel};
 /// A place, from the first free temporary and label on.
 #[cycle(expression)]
 pub(crate) fn seek(frame: Frame, place: &Place, t: u32, l: u32) -> Result<Located, NoMemory>
-    ensures { IfOk result (λ r. found r ≡ expressions.seek frame.locals frame.functions (place_of place.now) t l) }
+    ensures { IfOk result (λ r. found r ≡ seek_of frame place.now t l) }
 {
     match place {
         Place::Variable(of, v) => {
@@ -55,8 +56,7 @@ pub(crate) fn seek(frame: Frame, place: &Place, t: u32, l: u32) -> Result<Locate
 // Two values that are due in turn.
 #[cycle(expression)]
 fn joined(frame: Frame, a: &Expression, b: &Expression, t: u32, l: u32) -> Result<Pair, NoMemory>
-    ensures { IfOk result (λ r. two r ≡ values.joined frame.locals frame.functions
-        (expressions.way frame.locals frame.functions (term a.now)) (expressions.way frame.locals frame.functions (term b.now)) t l) }
+    ensures { IfOk result (λ r. two r ≡ values.joined frame.locals frame.functions (way_of frame a.now) (way_of frame b.now) t l) }
 {
     let p = value(frame, a, t, l)?;
     let q = value(frame, b, p.temps, p.labels)?;
@@ -75,7 +75,7 @@ fn relation(
     l: u32,
 ) -> Result<Emitted, NoMemory>
     ensures { IfOk result (λ d. done d ≡ conditions.compare r to (values.joined frame.locals frame.functions
-        (expressions.way frame.locals frame.functions (term a.now)) (expressions.way frame.locals frame.functions (term b.now)) t l)) }
+        (way_of frame a.now) (way_of frame b.now) t l)) }
 {
     compare(r, to, joined(frame, a, b, t, l)?)
 }
@@ -92,8 +92,7 @@ fn chain(
     t: u32,
     l: u32,
 ) -> Result<Emitted, NoMemory>
-    ensures { IfOk result (λ d. done d ≡ conditions.chain stop (expressions.way frame.locals frame.functions (term a.now))
-        (expressions.way frame.locals frame.functions (term b.now)) sense to t l) }
+    ensures { IfOk result (λ d. done d ≡ conditions.chain stop (way_of frame a.now) (way_of frame b.now) sense to t l) }
 {
     let inner = after(l)?;
     if stop == sense {
@@ -117,8 +116,7 @@ fn drop_chain(
     t: u32,
     l: u32,
 ) -> Result<Emitted, NoMemory>
-    ensures { IfOk result (λ d. done d ≡ conditions.chain_drop (expressions.way frame.locals frame.functions (term a.now)) stop
-        (expressions.way frame.locals frame.functions (term b.now)) t l) }
+    ensures { IfOk result (λ d. done d ≡ conditions.chain_drop (way_of frame a.now) stop (way_of frame b.now) t l) }
 {
     let p = branch(frame, a, stop, l, t, after(l)?)?;
     let q = discard(frame, b, p.temps, p.labels)?;
@@ -134,8 +132,7 @@ fn drop_two(
     t: u32,
     l: u32,
 ) -> Result<Emitted, NoMemory>
-    ensures { IfOk result (λ d. done d ≡ conditions.drop_two (expressions.way frame.locals frame.functions (term a.now))
-        (expressions.way frame.locals frame.functions (term b.now)) t l) }
+    ensures { IfOk result (λ d. done d ≡ conditions.drop_two (way_of frame a.now) (way_of frame b.now) t l) }
 {
     let p = discard(frame, a, t, l)?;
     let q = discard(frame, b, p.temps, p.labels)?;
@@ -152,9 +149,8 @@ fn updated(
     t: u32,
     l: u32,
 ) -> Result<Assignable, NoMemory>
-    ensures { IfOk result (λ r. ready r ≡ assignments.updated frame.locals frame.functions (applied change)
-        (expressions.seek frame.locals frame.functions (place_of place.now) t l)
-        (expressions.way frame.locals frame.functions (term e.now)).low) }
+    ensures { IfOk result (λ r. ready r ≡ assignments.updated frame.locals frame.functions (applied change) (seek_of frame place.now t l)
+        (way_of frame e.now).low) }
 {
     let p = seek(frame, place, t, l)?;
     let q = value(frame, e, p.temps, p.labels)?;
@@ -172,8 +168,7 @@ fn changed(
     l: u32,
 ) -> Result<Lowered, NoMemory>
     ensures { IfOk result (λ r. low r ≡ assignments.store_low (assignments.updated frame.locals frame.functions (applied change)
-        (expressions.seek frame.locals frame.functions (place_of place.now) t l)
-        (expressions.way frame.locals frame.functions (term e.now)).low)) }
+        (seek_of frame place.now t l) (way_of frame e.now).low)) }
 {
     store_low(frame.alloc, updated(frame, change, place, e, t, l)?)
 }
@@ -189,8 +184,7 @@ fn drop_changed(
     l: u32,
 ) -> Result<Emitted, NoMemory>
     ensures { IfOk result (λ r. done r ≡ assignments.store_drop (assignments.updated frame.locals frame.functions (applied change)
-        (expressions.seek frame.locals frame.functions (place_of place.now) t l)
-        (expressions.way frame.locals frame.functions (term e.now)).low)) }
+        (seek_of frame place.now t l) (way_of frame e.now).low)) }
 {
     store_drop(frame.alloc, updated(frame, change, place, e, t, l)?)
 }
@@ -205,9 +199,8 @@ fn assign_value(
     l: u32,
 ) -> Result<Lowered, NoMemory>
     ensures { IfOk result (λ r. low r ≡ assignments.assign_low frame.locals frame.functions
-        (assignments.local_of frame.locals frame.functions (expressions.seek frame.locals frame.functions (place_of place.now) t l))
-        (expressions.seek frame.locals frame.functions (place_of place.now) t l)
-        (expressions.way frame.locals frame.functions (term e.now))) }
+        (assignments.local_of frame.locals frame.functions (seek_of frame place.now t l)) (seek_of frame place.now t l)
+        (way_of frame e.now)) }
 {
     let p = seek(frame, place, t, l)?;
     match local_of(frame, &p) {
@@ -232,9 +225,8 @@ fn assign_effect(
     l: u32,
 ) -> Result<Emitted, NoMemory>
     ensures { IfOk result (λ r. done r ≡ assignments.assign_drop frame.locals frame.functions
-        (assignments.local_of frame.locals frame.functions (expressions.seek frame.locals frame.functions (place_of place.now) t l))
-        (expressions.seek frame.locals frame.functions (place_of place.now) t l)
-        (expressions.way frame.locals frame.functions (term e.now))) }
+        (assignments.local_of frame.locals frame.functions (seek_of frame place.now t l)) (seek_of frame place.now t l)
+        (way_of frame e.now)) }
 {
     let p = seek(frame, place, t, l)?;
     match local_of(frame, &p) {
@@ -274,8 +266,7 @@ fn chosen(
     t: u32,
     l: u32,
 ) -> Result<Lowered, NoMemory>
-    ensures { IfOk result (λ r. low r ≡ (conditions.choose (expressions.way frame.locals frame.functions (term c.now))
-        (expressions.way frame.locals frame.functions (term a.now)) (expressions.way frame.locals frame.functions (term b.now))).low t l) }
+    ensures { IfOk result (λ r. low r ≡ (conditions.choose (way_of frame c.now) (way_of frame a.now) (way_of frame b.now)).low t l) }
 {
     let p = branch(frame, c, false, l, after(t)?, after(after(l)?)?)?;
     let q = value(frame, a, p.temps, p.labels)?;
@@ -293,8 +284,7 @@ fn drop_chosen(
     t: u32,
     l: u32,
 ) -> Result<Emitted, NoMemory>
-    ensures { IfOk result (λ r. done r ≡ (conditions.choose (expressions.way frame.locals frame.functions (term c.now))
-        (expressions.way frame.locals frame.functions (term a.now)) (expressions.way frame.locals frame.functions (term b.now))).drop t l) }
+    ensures { IfOk result (λ r. done r ≡ (conditions.choose (way_of frame c.now) (way_of frame a.now) (way_of frame b.now)).drop t l) }
 {
     let p = branch(frame, c, false, l, t, after(after(l)?)?)?;
     let q = discard(frame, a, p.temps, p.labels)?;
@@ -321,8 +311,7 @@ fn unary(
     t: u32,
     l: u32,
 ) -> Result<Lowered, NoMemory>
-    ensures { IfOk result (λ r. low r ≡ (expressions.unary frame.locals frame.functions op
-        (expressions.way frame.locals frame.functions (term e.now))).low t l) }
+    ensures { IfOk result (λ r. low r ≡ (expressions.unary frame.locals frame.functions op (way_of frame e.now)).low t l) }
 {
     match op {
         UnaryOperator::Plus => value(frame, e, t, l),
@@ -340,7 +329,7 @@ fn unary(
 /// An expression for its value, from the first free temporary and label on.
 #[cycle(expression)]
 pub(crate) fn value(frame: Frame, e: &Expression, t: u32, l: u32) -> Result<Lowered, NoMemory>
-    ensures { IfOk result (λ r. low r ≡ (expressions.way frame.locals frame.functions (term e.now)).low t l) }
+    ensures { IfOk result (λ r. low r ≡ (way_of frame e.now).low t l) }
 {
     let alloc = frame.alloc;
     match e {
@@ -405,8 +394,7 @@ pub(crate) fn value(frame: Frame, e: &Expression, t: u32, l: u32) -> Result<Lowe
 // The effect of one expression, and then the value of another.
 #[cycle(expression)]
 fn comma(frame: Frame, a: &Expression, b: &Expression, t: u32, l: u32) -> Result<Lowered, NoMemory>
-    ensures { IfOk result (λ r. low r ≡ (conditions.comma (expressions.way frame.locals frame.functions (term a.now))
-        (expressions.way frame.locals frame.functions (term b.now))).low t l) }
+    ensures { IfOk result (λ r. low r ≡ (conditions.comma (way_of frame a.now) (way_of frame b.now)).low t l) }
 {
     let p = discard(frame, a, t, l)?;
     let q = value(frame, b, p.temps, p.labels)?;
@@ -423,7 +411,7 @@ fn tested(
     t: u32,
     l: u32,
 ) -> Result<Emitted, NoMemory>
-    ensures { IfOk result (λ r. done r ≡ conditions.test sense to ((expressions.way frame.locals frame.functions (term e.now)).low t l)) }
+    ensures { IfOk result (λ r. done r ≡ conditions.test sense to ((way_of frame e.now).low t l)) }
 {
     test(sense, to, value(frame, e, t, l)?)
 }
@@ -439,8 +427,7 @@ fn unary_branch(
     t: u32,
     l: u32,
 ) -> Result<Emitted, NoMemory>
-    ensures { IfOk result (λ r. done r ≡ (expressions.unary frame.locals frame.functions op
-        (expressions.way frame.locals frame.functions (term e.now))).branch sense to t l) }
+    ensures { IfOk result (λ r. done r ≡ (expressions.unary frame.locals frame.functions op (way_of frame e.now)).branch sense to t l) }
 {
     match op {
         UnaryOperator::Plus => test(sense, to, unary(frame, UnaryOperator::Plus, e, t, l)?),
@@ -464,7 +451,7 @@ pub(crate) fn branch(
     t: u32,
     l: u32,
 ) -> Result<Emitted, NoMemory>
-    ensures { IfOk result (λ r. done r ≡ (expressions.way frame.locals frame.functions (term e.now)).branch sense to t l) }
+    ensures { IfOk result (λ r. done r ≡ (way_of frame e.now).branch sense to t l) }
 {
     match e {
         Expression::Unary(op, a) => unary_branch(frame, *op, a, sense, to, t, l),
@@ -503,8 +490,7 @@ pub(crate) fn branch(
 // A value that goes to its destination by a root of its own.
 #[cycle(expression)]
 fn kept(frame: Frame, to: Destination, e: &Expression, t: u32, l: u32) -> Result<Emitted, NoMemory>
-    ensures { IfOk result (λ r. done r ≡ parts.delivered (destination to)
-        ((expressions.way frame.locals frame.functions (term e.now)).low t l)) }
+    ensures { IfOk result (λ r. done r ≡ parts.delivered (destination to) ((way_of frame e.now).low t l)) }
 {
     delivered(to, value(frame, e, t, l)?)
 }
@@ -519,8 +505,7 @@ fn deliver_as(
     t: u32,
     l: u32,
 ) -> Result<Emitted, NoMemory>
-    ensures { IfOk result (λ r. done r ≡ conditions.deliver_as (integer_of of)
-        (expressions.way frame.locals frame.functions (term e.now)) (destination to) t l) }
+    ensures { IfOk result (λ r. done r ≡ conditions.deliver_as (integer_of of) (way_of frame e.now) (destination to) t l) }
 {
     match integer_of(of) {
         Integer::Int => deliver(frame, to, e, t, l),
@@ -548,7 +533,7 @@ fn unary_deliver(
     l: u32,
 ) -> Result<Emitted, NoMemory>
     ensures { IfOk result (λ r. done r ≡ (expressions.unary frame.locals frame.functions op
-        (expressions.way frame.locals frame.functions (term e.now))).deliver (destination to) t l) }
+        (way_of frame e.now)).deliver (destination to) t l) }
 {
     match op {
         UnaryOperator::Plus => delivered(to, unary(frame, UnaryOperator::Plus, e, t, l)?),
@@ -572,8 +557,7 @@ fn deliver_chosen(
     t: u32,
     l: u32,
 ) -> Result<Emitted, NoMemory>
-    ensures { IfOk result (λ r. done r ≡ (conditions.choose (expressions.way frame.locals frame.functions (term c.now))
-        (expressions.way frame.locals frame.functions (term a.now)) (expressions.way frame.locals frame.functions (term b.now))).deliver
+    ensures { IfOk result (λ r. done r ≡ (conditions.choose (way_of frame c.now) (way_of frame a.now) (way_of frame b.now)).deliver
         (destination to) t l) }
 {
     let p = branch(frame, c, false, l, t, after(after(l)?)?)?;
@@ -591,7 +575,7 @@ pub(crate) fn deliver(
     t: u32,
     l: u32,
 ) -> Result<Emitted, NoMemory>
-    ensures { IfOk result (λ r. done r ≡ (expressions.way frame.locals frame.functions (term e.now)).deliver (destination to) t l) }
+    ensures { IfOk result (λ r. done r ≡ (way_of frame e.now).deliver (destination to) t l) }
 {
     match e {
         Expression::Call(_, f, types, es) => {
@@ -643,7 +627,7 @@ fn step_drop(frame: Frame, by: Direction, p: Located) -> Result<Emitted, NoMemor
 // A value that is not wanted.
 #[cycle(expression)]
 fn unwanted(frame: Frame, e: &Expression, t: u32, l: u32) -> Result<Emitted, NoMemory>
-    ensures { IfOk result (λ r. done r ≡ conditions.dropped ((expressions.way frame.locals frame.functions (term e.now)).low t l)) }
+    ensures { IfOk result (λ r. done r ≡ conditions.dropped ((way_of frame e.now).low t l)) }
 {
     dropped(value(frame, e, t, l)?)
 }
@@ -651,7 +635,7 @@ fn unwanted(frame: Frame, e: &Expression, t: u32, l: u32) -> Result<Emitted, NoM
 /// An expression for its effect alone.
 #[cycle(expression)]
 pub(crate) fn discard(frame: Frame, e: &Expression, t: u32, l: u32) -> Result<Emitted, NoMemory>
-    ensures { IfOk result (λ r. done r ≡ (expressions.way frame.locals frame.functions (term e.now)).drop t l) }
+    ensures { IfOk result (λ r. done r ≡ (way_of frame e.now).drop t l) }
 {
     match e {
         Expression::Call(_, f, to, es) => {
@@ -704,8 +688,7 @@ fn unary_drop(
     t: u32,
     l: u32,
 ) -> Result<Emitted, NoMemory>
-    ensures { IfOk result (λ r. done r ≡ (expressions.unary frame.locals frame.functions op
-        (expressions.way frame.locals frame.functions (term e.now))).drop t l) }
+    ensures { IfOk result (λ r. done r ≡ (expressions.unary frame.locals frame.functions op (way_of frame e.now)).drop t l) }
 {
     match op {
         UnaryOperator::Plus => discard(frame, e, t, l),
