@@ -25,11 +25,11 @@ pub fn read_accepted<F: Folder, E: Sink>(
     ensures description { IfOk result (λ a. Holds description_form (F.holds folder.old name.now) a.content) }
     ensures numbered { IfOk result IsNumbered }
     ensures accepted { IfOk result (λ a. IsAccepted a.content) }
-    ensures unfailed { OnOk result (IsUnfailed (lookup F.holds F.failed folder.old folder.new)) }
+    ensures unfailed { OnOk result (IsUnfailed (lookup F.Folder folder.old folder.new)) }
     ensures untold { OnOk result (report.new ≡ report.old) }
     ensures refused { IfErr result (λ status. NotAccepted name.now
-        (lookup F.holds F.failed folder.old folder.new) status (change E.told E.faults report.old report.new)) }
-    ensures names { FailsAtMost name.now (lookup F.holds F.failed folder.old folder.new) }
+        (lookup F.Folder folder.old folder.new) status (change E.Sink report.old report.new)) }
+    ensures names { FailsAtMost name.now (lookup F.Folder folder.old folder.new) }
     ensures holds { (n : List ℕ) → F.holds folder.new n ≡ F.holds folder.old n }
 {
     let tables = match read_tables(alloc, folder, name, report) {

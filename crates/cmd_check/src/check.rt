@@ -1,6 +1,5 @@
 // The command `check D`.
 ghost use Rattle.std.specs.Prelude.{◌≡◌, ℕ, List};
-ghost use Rattle.cmd_session.specs.Writing.{change};
 ghost use Rattle.cmd_files.specs.Outsides.{lookup, outside, FailsAtMost};
 ghost use Rattle.cmd_check.specs.Outcome.{Leaves};
 ghost use Rattle.cmd_check.specs.Exact.{IsExact};
@@ -21,9 +20,8 @@ fn read_and_tell<F: Folder, O: Sink, E: Sink>(
     out: &mut O,
     report: &mut E,
 ) -> Status
-    ensures leaves { Leaves result name.now (outside (lookup F.holds F.failed folder.old folder.new)
-        (change O.told O.faults out.old out.new) (change E.told E.faults report.old report.new)) }
-    ensures names { FailsAtMost name.now (lookup F.holds F.failed folder.old folder.new) }
+    ensures leaves { Leaves result name.now (outside F.Folder O.Sink E.Sink folder.old folder.new out.old out.new report.old report.new) }
+    ensures names { FailsAtMost name.now (lookup F.Folder folder.old folder.new) }
     ensures holds { (n : List ℕ) → F.holds folder.new n ≡ F.holds folder.old n }
 {
     let accepted = match read_accepted(alloc, folder, name, report) {
@@ -50,13 +48,11 @@ pub fn check_description<F: Folder, O: Sink, E: Sink>(
     report: &mut E,
 ) -> Status
     // What each status says of the file, of its tables and rules, and of what both outputs gained.
-    ensures leaves { Leaves result name.now (outside (lookup F.holds F.failed folder.old folder.new)
-        (change O.told O.faults out.old out.new) (change E.told E.faults report.old report.new)) }
+    ensures leaves { Leaves result name.now (outside F.Folder O.Sink E.Sink folder.old folder.new out.old out.new report.old report.new) }
     // And that each comes where its cause is there, but for counted faults and want of memory.
-    ensures exact { IsExact result name.now (outside (lookup F.holds F.failed folder.old folder.new)
-        (change O.told O.faults out.old out.new) (change E.told E.faults report.old report.new)) }
+    ensures exact { IsExact result name.now (outside F.Folder O.Sink E.Sink folder.old folder.new out.old out.new report.old report.new) }
     // The folder is asked for that name alone, and stays as it was.
-    ensures names { FailsAtMost name.now (lookup F.holds F.failed folder.old folder.new) }
+    ensures names { FailsAtMost name.now (lookup F.Folder folder.old folder.new) }
     ensures holds { (n : List ℕ) → F.holds folder.new n ≡ F.holds folder.old n }
 {
     read_and_tell(alloc, name, folder, out, report)

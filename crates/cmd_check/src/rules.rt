@@ -54,7 +54,7 @@ fn unlike_lines(alloc: Global, rule: u32, wanted: &Effect, found: &Effect) -> Re
 
 // Tells what stands against the rules.
 fn tell_fault<E: Sink>(alloc: Global, fault: &ShowFault, report: &mut E) -> Status
-    ensures { TellsFault fault.now result (change E.told E.faults report.old report.new) }
+    ensures { TellsFault fault.now result (change E.Sink report.old report.new) }
 {
     match fault {
         ShowFault::NoMemory => no_memory(report),
@@ -78,7 +78,7 @@ fn tell_fault<E: Sink>(alloc: Global, fault: &ShowFault, report: &mut E) -> Stat
 }
 
 fn tell_refused<E: Sink>(alloc: Global, refused: (Tables, ShowFault), report: &mut E) -> Status
-    ensures { TellsFault refused.1 result (change E.told E.faults report.old report.new) }
+    ensures { TellsFault refused.1 result (change E.Sink report.old report.new) }
 {
     tell_fault(alloc, &refused.1, report)
 }
@@ -89,7 +89,7 @@ pub fn shown<E: Sink>(alloc: Global, checked: Checked, report: &mut E) -> Result
     ensures tables { IfOk result (λ a. a ≡ checked) }
     ensures shown { OnOk result (vax_refusal checked.content ≡ None) }
     ensures untold { OnOk result (report.new ≡ report.old) }
-    ensures refused { IfErr result (λ status. RulesRefused checked.content status (change E.told E.faults report.old report.new)) }
+    ensures refused { IfErr result (λ status. RulesRefused checked.content status (change E.Sink report.old report.new)) }
 {
     match accept(alloc, checked) {
         Ok(accepted) => Ok(accepted),

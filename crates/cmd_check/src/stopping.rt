@@ -25,7 +25,7 @@ fn stop_lines(alloc: Global, line: &str, sample: &Sample) -> Result<Text, NoMemo
 
 // Tells why tables are refused.
 fn tell_stop<E: Sink>(alloc: Global, fault: &CheckFault, report: &mut E) -> Status
-    ensures { TellsStop fault.now result (change E.told E.faults report.old report.new) }
+    ensures { TellsStop fault.now result (change E.Sink report.old report.new) }
 {
     match fault {
         CheckFault::NoMemory => no_memory(report),
@@ -46,7 +46,7 @@ fn tell_stop<E: Sink>(alloc: Global, fault: &CheckFault, report: &mut E) -> Stat
 }
 
 fn tell_refused<E: Sink>(alloc: Global, refused: (Tables, CheckFault), report: &mut E) -> Status
-    ensures { TellsStop refused.1 result (change E.told E.faults report.old report.new) }
+    ensures { TellsStop refused.1 result (change E.Sink report.old report.new) }
 {
     tell_stop(alloc, &refused.1, report)
 }
@@ -58,7 +58,7 @@ pub fn checked<E: Sink>(alloc: Global, tables: Tables, report: &mut E) -> Result
     ensures never { OnOk result (NeverStops tables.content) }
     ensures sums { OnOk result (¬ HasTooManySums tables.content) }
     ensures untold { OnOk result (report.new ≡ report.old) }
-    ensures refused { IfErr result (λ status. StopRefused tables.content status (change E.told E.faults report.old report.new)) }
+    ensures refused { IfErr result (λ status. StopRefused tables.content status (change E.Sink report.old report.new)) }
 {
     tables.is_numbered();
     match check(alloc, tables) {

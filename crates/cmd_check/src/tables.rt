@@ -25,7 +25,7 @@ fn build_tables<E: Sink>(
     ensures few { OnOk result (¬ HasTooManySets description) }
     ensures untold { OnOk result (report.new ≡ report.old) }
     ensures refused { IfErr result (λ status. BuildRefused description status
-        (change E.told E.faults report.old report.new)) }
+        (change E.Sink report.old report.new)) }
 {
     match build(alloc, description) {
         Ok(tables) => {
@@ -52,11 +52,11 @@ pub fn read_tables<F: Folder, E: Sink>(
     ensures description { IfOk result (λ t. Holds description_form (F.holds folder.old name.now) t.content) }
     ensures numbered { IfOk result IsNumbered }
     ensures few { IfOk result (λ t. ¬ HasTooManySets t.content) }
-    ensures unfailed { OnOk result (IsUnfailed (lookup F.holds F.failed folder.old folder.new)) }
+    ensures unfailed { OnOk result (IsUnfailed (lookup F.Folder folder.old folder.new)) }
     ensures untold { OnOk result (report.new ≡ report.old) }
     ensures refused { IfErr result (λ status. TablesRefused name.now
-        (lookup F.holds F.failed folder.old folder.new) status (change E.told E.faults report.old report.new)) }
-    ensures names { FailsAtMost name.now (lookup F.holds F.failed folder.old folder.new) }
+        (lookup F.Folder folder.old folder.new) status (change E.Sink report.old report.new)) }
+    ensures names { FailsAtMost name.now (lookup F.Folder folder.old folder.new) }
     ensures holds { (n : List ℕ) → F.holds folder.new n ≡ F.holds folder.old n }
 {
     match read_file::<DescriptionText, F, E>(alloc, folder, name, report) {

@@ -1,5 +1,6 @@
 -- What was said of the second file, once the first was read.
-use Rattle.std.proofs.Common.{◌≡◌, ℕ, List, [], ◌∷◌, ◌++◌, Option, refl, sym, ap, ◌∙◌, subst}
+use Rattle.std.proofs.Common.{◌≡◌, ℕ, List, [], ◌∷◌, ◌++◌, refl, sym, ap, ◌∙◌, subst}
+use Rattle.gg_outside.specs.declared.traits.Sink.{Ghosts as Sink}
 use Rattle.gg_outside.specs.Outside.{Content, OnlyName, IsLonger}
 use Rattle.cmd_session.specs.declared.status.Status.{Status}
 use Rattle.cmd_session.specs.Writing.{Change, change, IsUntouched}
@@ -26,6 +27,6 @@ pub file_held : {A : Type 0} (form : Form A) (mid old : Content) (item : A) → 
 file_held form mid old item same h = subst (λ (c : Content). Holds form c item) same h
 
 -- a sink that nothing was written to
-pub untouched : {S : Type 0} (told : S → Option (List ℕ)) (faults : S → ℕ) (old new : S) → new ≡ old → IsUntouched (change told faults old new)
-untouched {S = S} told faults old new e =
-    subst (λ (x : S). IsUntouched (change told faults old x)) (sym e) (record { held = refl; quiet = refl })
+pub untouched : {S : Type 0} (sink : Sink S) (old new : S) → new ≡ old → IsUntouched (change sink old new)
+untouched {S = S} sink old new e =
+    subst (λ (x : S). IsUntouched (change sink old x)) (sym e) (record { held = refl; quiet = refl })

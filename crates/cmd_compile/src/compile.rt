@@ -1,6 +1,5 @@
 // The command `compile D S`.
 ghost use Rattle.std.specs.Prelude.{◌≡◌, ℕ, List};
-ghost use Rattle.cmd_session.specs.Writing.{change};
 ghost use Rattle.cmd_files.specs.Outsides.{lookup, outside};
 ghost use Rattle.cmd_compile.specs.Outcome.{files, FailAtMost, Leaves};
 ghost use Rattle.cmd_compile.specs.Exact.{IsExact};
@@ -22,9 +21,9 @@ fn read_and_write<F: Folder, O: Sink, E: Sink>(
     out: &mut O,
     report: &mut E,
 ) -> Status
-    ensures leaves { Leaves result (files description.now source.now) (outside (lookup F.holds F.failed folder.old folder.new)
-        (change O.told O.faults out.old out.new) (change E.told E.faults report.old report.new)) }
-    ensures names { FailAtMost (files description.now source.now) (lookup F.holds F.failed folder.old folder.new) }
+    ensures leaves { Leaves result (files description.now source.now)
+        (outside F.Folder O.Sink E.Sink folder.old folder.new out.old out.new report.old report.new) }
+    ensures names { FailAtMost (files description.now source.now) (lookup F.Folder folder.old folder.new) }
     ensures holds { (n : List ℕ) → F.holds folder.new n ≡ F.holds folder.old n }
 {
     let accepted = match read_accepted(alloc, folder, description, report) {
@@ -57,13 +56,13 @@ pub fn compile_source<F: Folder, O: Sink, E: Sink>(
     report: &mut E,
 ) -> Status
     // What was found in both files, and what both outputs gained.
-    ensures leaves { Leaves result (files description.now source.now) (outside (lookup F.holds F.failed folder.old folder.new)
-        (change O.told O.faults out.old out.new) (change E.told E.faults report.old report.new)) }
+    ensures leaves { Leaves result (files description.now source.now)
+        (outside F.Folder O.Sink E.Sink folder.old folder.new out.old out.new report.old report.new) }
     // And that each status comes where its cause is there, but for counted faults and want of memory.
-    ensures exact { IsExact result (files description.now source.now) (outside (lookup F.holds F.failed folder.old folder.new)
-        (change O.told O.faults out.old out.new) (change E.told E.faults report.old report.new)) }
+    ensures exact { IsExact result (files description.now source.now)
+        (outside F.Folder O.Sink E.Sink folder.old folder.new out.old out.new report.old report.new) }
     // The folder is asked for these two names alone, and stays as it was.
-    ensures names { FailAtMost (files description.now source.now) (lookup F.holds F.failed folder.old folder.new) }
+    ensures names { FailAtMost (files description.now source.now) (lookup F.Folder folder.old folder.new) }
     ensures holds { (n : List ℕ) → F.holds folder.new n ≡ F.holds folder.old n }
 {
     read_and_write(alloc, description, source, folder, out, report)

@@ -24,7 +24,7 @@ pub fn text_of<E: Sink>(
     ensures text { IfOk result (λ text. IsTextOf accepted.now.content (program source.now.held) (string_bytes text)) }
     ensures untold { OnOk result (report.new ≡ report.old) }
     ensures refused { IfErr result (λ status. HasNoText (program source.now.held) status
-        (change E.told E.faults report.old report.new)) }
+        (change E.Sink report.old report.new)) }
 {
     let compiled = match compile(alloc, accepted, source) {
         Ok(compiled) => compiled,

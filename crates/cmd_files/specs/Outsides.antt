@@ -1,8 +1,10 @@
 -- The outside of a command before and behind it, but for the input.
 use Rattle.std.specs.Prelude.{◌≡◌, ℕ, List}
+use Rattle.gg_outside.specs.declared.traits.Folder.{Ghosts as Folder}
+use Rattle.gg_outside.specs.declared.traits.Sink.{Ghosts as Sink}
 use Rattle.gg_outside.specs.Outside.{Content, GainsName, OnlyName, IsLonger}
 use Rattle.cmd_session.specs.Lines.{cannot_read_line, too_long_line}
-use Rattle.cmd_session.specs.Writing.{Change, IsUntouched, Rises, Reports}
+use Rattle.cmd_session.specs.Writing.{Change, change, IsUntouched, Rises, Reports}
 use Rattle.cmd_files.specs.Forms.{Form, HoldsNone}
 
 -- the folder: what each name holds, and the names whose reading failed before and behind
@@ -11,8 +13,9 @@ pub record Lookup : Type 0 where
   pub before : List (List ℕ)
   pub now : List (List ℕ)
 
-abbrev pub lookup : {F : Type 0} → (F → List ℕ → Content) → (F → List (List ℕ)) → F → F → Lookup
-lookup holds failed old new = record { holds = holds old; before = failed old; now = failed new }
+-- from one state of a folder to another
+abbrev pub lookup : {F : Type 0} → Folder F → F → F → Lookup
+lookup folder old new = record { holds = folder.holds old; before = folder.failed old; now = folder.failed new }
 
 -- no reading failed
 abbrev pub IsUnfailed : Lookup → Type 0
@@ -30,8 +33,10 @@ pub record Outside : Type 0 where
   pub out : Change
   pub report : Change
 
-abbrev pub outside : Lookup → Change → Change → Outside
-outside folder out report = record { folder = folder; out = out; report = report }
+-- from one state of the folder, of the output and of the report to another
+abbrev pub outside : {F O E : Type 0} → Folder F → Sink O → Sink E → F → F → O → O → E → E → Outside
+outside f o e folder folder' out out' report report' =
+    record { folder = lookup f folder folder'; out = change o out out'; report = change e report report' }
 
 -- before any output was written, the command was refused with this line
 pub record IsRefusedAtOnce (at : Outside) (line : List ℕ) : Type 0 where

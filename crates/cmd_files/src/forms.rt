@@ -72,5 +72,5 @@ pub trait Runs: FileForm {
         report: &mut E,
     ) -> Status
         ensures { ToldRun Self.runner Self.form.status (Self.item self.now) input.now count result
-            (change O.told O.faults out.old out.new) (change E.told E.faults report.old report.new) };
+            (change O.Sink out.old out.new) (change E.Sink report.old report.new) };
 }

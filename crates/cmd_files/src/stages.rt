@@ -22,11 +22,11 @@ pub fn read_file<T: FileForm, F: Folder, E: Sink>(
     report: &mut E,
 ) -> Result<T, Status>
     ensures item { IfOk result (λ x. Holds T.form (F.holds folder.old name.now) (T.item x)) }
-    ensures unfailed { OnOk result (IsUnfailed (lookup F.holds F.failed folder.old folder.new)) }
+    ensures unfailed { OnOk result (IsUnfailed (lookup F.Folder folder.old folder.new)) }
     ensures untold { OnOk result (report.new ≡ report.old) }
     ensures refused { IfErr result (λ status. FileRefused T.form name.now
-        (lookup F.holds F.failed folder.old folder.new) status (change E.told E.faults report.old report.new)) }
-    ensures names { FailsAtMost name.now (lookup F.holds F.failed folder.old folder.new) }
+        (lookup F.Folder folder.old folder.new) status (change E.Sink report.old report.new)) }
+    ensures names { FailsAtMost name.now (lookup F.Folder folder.old folder.new) }
     ensures holds { (n : List ℕ) → F.holds folder.new n ≡ F.holds folder.old n }
 {
     let mut bytes = Vec::new(alloc);
@@ -55,13 +55,13 @@ pub fn read_input<I: Source, E: Sink>(
     input: &mut I,
     report: &mut E,
 ) -> Result<Bytes, Status>
-    ensures whole { IfOk result (λ bytes. GivesAll (intake I.left I.faults input.old input.new) bytes) }
+    ensures whole { IfOk result (λ bytes. GivesAll (intake I.Source input.old input.new) bytes) }
     ensures within { IfOk result (λ bytes. length bytes ≤ input_limit) }
-    ensures unbroken { OnOk result (IsUnbroken (intake I.left I.faults input.old input.new)) }
+    ensures unbroken { OnOk result (IsUnbroken (intake I.Source input.old input.new)) }
     ensures untold { OnOk result (report.new ≡ report.old) }
-    ensures refused { IfErr result (λ status. InputRefused (intake I.left I.faults input.old input.new) status
-        (change E.told E.faults report.old report.new)) }
-    ensures taken { TakesAtMost (input_limit + 1) (intake I.left I.faults input.old input.new) }
+    ensures refused { IfErr result (λ status. InputRefused (intake I.Source input.old input.new) status
+        (change E.Sink report.old report.new)) }
+    ensures taken { TakesAtMost (input_limit + 1) (intake I.Source input.old input.new) }
 {
     match read_all(alloc, input, SOURCE_LIMIT as usize) {
         Ok(bytes) => Ok(bytes),
@@ -81,10 +81,10 @@ pub fn read_input<I: Source, E: Sink>(
 
 /// Writes all of the bytes to the output.
 pub fn write_out<O: Sink, E: Sink>(out: &mut O, bytes: &[u8], report: &mut E) -> Result<(), Status>
-    ensures all { OnOk result (TakesAll (change O.told O.faults out.old out.new) bytes.now) }
+    ensures all { OnOk result (TakesAll (change O.Sink out.old out.new) bytes.now) }
     ensures untold { OnOk result (report.new ≡ report.old) }
     ensures refused { IfErr result (λ status. OutputRefused bytes.now status
-        (change O.told O.faults out.old out.new) (change E.told E.faults report.old report.new)) }
+        (change O.Sink out.old out.new) (change E.Sink report.old report.new)) }
 {
     match write_all(out, bytes) {
         Ok(()) => Ok(()),

@@ -27,7 +27,7 @@ fn load_by<O: Sink, E: Sink>(
 ) -> Status
     requires { (1 ≤ functions) × (functions ≤ 1000) }
     ensures { Loads accepted.now.content functions result
-        (change O.told O.faults out.old out.new) (change E.told E.faults report.old report.new) }
+        (change O.Sink out.old out.new) (change E.Sink report.old report.new) }
 {
     generated_source_has_program();
     both_sides_end_alike();
@@ -60,9 +60,9 @@ fn read_and_load<F: Folder, O: Sink, E: Sink>(
     report: &mut E,
 ) -> Status
     requires { IsCount greatest_size functions }
-    ensures leaves { Leaves result description.now functions (outside (lookup F.holds F.failed folder.old folder.new)
-        (change O.told O.faults out.old out.new) (change E.told E.faults report.old report.new)) }
-    ensures names { FailsAtMost description.now (lookup F.holds F.failed folder.old folder.new) }
+    ensures leaves { Leaves result description.now functions
+        (outside F.Folder O.Sink E.Sink folder.old folder.new out.old out.new report.old report.new) }
+    ensures names { FailsAtMost description.now (lookup F.Folder folder.old folder.new) }
     ensures holds { (n : List ℕ) → F.holds folder.new n ≡ F.holds folder.old n }
 {
     let accepted = match read_accepted(alloc, folder, description, report) {
@@ -86,15 +86,15 @@ pub fn load_generated<F: Folder, O: Sink, E: Sink>(
 ) -> Status
     requires { IsCount greatest_size functions }
     // What was found in the file, what both sides came to, and what both outputs gained.
-    ensures leaves { Leaves result description.now functions (outside (lookup F.holds F.failed folder.old folder.new)
-        (change O.told O.faults out.old out.new) (change E.told E.faults report.old report.new)) }
+    ensures leaves { Leaves result description.now functions
+        (outside F.Folder O.Sink E.Sink folder.old folder.new out.old out.new report.old report.new) }
     // No other status comes: the source is one, its functions fit, its text is read and can be run, and both sides end alike.
     ensures comes { MayCome result }
     // Each status comes where its cause is there, but for counted faults and want of memory.
-    ensures exact { IsExact result description.now (outside (lookup F.holds F.failed folder.old folder.new)
-        (change O.told O.faults out.old out.new) (change E.told E.faults report.old report.new)) }
+    ensures exact { IsExact result description.now
+        (outside F.Folder O.Sink E.Sink folder.old folder.new out.old out.new report.old report.new) }
     // The folder is asked for that name alone, and stays as it was.
-    ensures names { FailsAtMost description.now (lookup F.holds F.failed folder.old folder.new) }
+    ensures names { FailsAtMost description.now (lookup F.Folder folder.old folder.new) }
     ensures holds { (n : List ℕ) → F.holds folder.new n ≡ F.holds folder.old n }
 {
     read_and_load(alloc, description, functions, folder, out, report)

@@ -56,7 +56,7 @@ pub fn run_sides(alloc: Global, program: &Program, text: &[u8]) -> Result<Sides,
 
 // Writes the line of a summary.
 fn tell_summary<E: Sink>(alloc: Global, summary: Summary, report: &mut E) -> Status
-    ensures { SummaryTold summary result (change E.told E.faults report.old report.new) }
+    ensures { SummaryTold summary result (change E.Sink report.old report.new) }
 {
     let Ok(line) = summary_line(alloc, summary) else {
         return no_memory(report);
@@ -71,7 +71,7 @@ fn tell_summary<E: Sink>(alloc: Global, summary: Summary, report: &mut E) -> Sta
 // Tells how both sides ended.
 fn tell_ends<E: Sink>(alloc: Global, sizes: Sizes, sides: &Sides, report: &mut E) -> Status
     ensures { EndsTold sizes (outcome_of sides.now.source) (outcome_of sides.now.text) result
-        (change E.told E.faults report.old report.new) }
+        (change E.Sink report.old report.new) }
 {
     let Sides { source, text } = sides;
     match (source.end, text.end) {
@@ -103,7 +103,7 @@ pub fn tell_sides<O: Sink, E: Sink>(
     report: &mut E,
 ) -> Status
     ensures { SidesTold sizes (outcome_of sides.now.source) (outcome_of sides.now.text) result
-        (change O.told O.faults out.old out.new) (change E.told E.faults report.old report.new) }
+        (change O.Sink out.old out.new) (change E.Sink report.old report.new) }
 {
     match write_out(out, sides.text.output.as_slice(), report) {
         Ok(()) => tell_ends(alloc, sizes, sides, report),

@@ -1,7 +1,6 @@
 // The command `meaning S N`.
 ghost use Rattle.std.specs.Prelude.{◌≡◌, ◌+◌, ℕ, List};
 ghost use Rattle.cmd_session.specs.Reading.{intake, TakesAtMost};
-ghost use Rattle.cmd_session.specs.Writing.{change};
 ghost use Rattle.cmd_files.specs.Outsides.{lookup, outside, FailsAtMost};
 ghost use Rattle.cmd_files.specs.Stages.{input_limit};
 ghost use Rattle.cmd_files.specs.Calls.{call_of};
@@ -28,17 +27,15 @@ pub fn run_source<F: Folder, I: Source, O: Sink, E: Sink>(
     report: &mut E,
 ) -> Status
     // What each status says of the source, of the input, of its run, and of what both outputs gained.
-    ensures leaves { Leaves source_form source_runner result (call_of name.now count (intake I.left I.faults input.old input.new)
-        (outside (lookup F.holds F.failed folder.old folder.new)
-        (change O.told O.faults out.old out.new) (change E.told E.faults report.old report.new))) }
+    ensures leaves { Leaves source_form source_runner result (call_of name.now count (intake I.Source input.old input.new)
+        (outside F.Folder O.Sink E.Sink folder.old folder.new out.old out.new report.old report.new)) }
     // And that each comes where its cause is there, but for counted faults and want of memory.
-    ensures exact { IsExact source_form source_runner result (call_of name.now count (intake I.left I.faults input.old input.new)
-        (outside (lookup F.holds F.failed folder.old folder.new)
-        (change O.told O.faults out.old out.new) (change E.told E.faults report.old report.new))) }
+    ensures exact { IsExact source_form source_runner result (call_of name.now count (intake I.Source input.old input.new)
+        (outside F.Folder O.Sink E.Sink folder.old folder.new out.old out.new report.old report.new)) }
     // The folder is asked for that name alone, and stays as it was; one byte beyond the limit is taken of the input at most.
-    ensures names { FailsAtMost name.now (lookup F.holds F.failed folder.old folder.new) }
+    ensures names { FailsAtMost name.now (lookup F.Folder folder.old folder.new) }
     ensures holds { (n : List ℕ) → F.holds folder.new n ≡ F.holds folder.old n }
-    ensures taken { TakesAtMost (input_limit + 1) (intake I.left I.faults input.old input.new) }
+    ensures taken { TakesAtMost (input_limit + 1) (intake I.Source input.old input.new) }
 {
     run_file::<SourceText, F, I, O, E>(alloc, name, count, folder, input, out, report)
 }

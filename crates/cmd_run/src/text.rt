@@ -25,7 +25,7 @@ pub struct CodeText {
 
 // Tells why a code can't be run.
 fn refuse_code<E: Sink>(alloc: Global, report: &mut E, fault: &LoadFault) -> Status
-    ensures { CodeIsRefused fault.now result (change E.told E.faults report.old report.new) }
+    ensures { CodeIsRefused fault.now result (change E.Sink report.old report.new) }
 {
     match fault {
         LoadFault::NoMemory => no_memory(report),

@@ -1,5 +1,6 @@
 -- What a source gives in a call.
 use Rattle.std.specs.Prelude.{◌≡◌, ◌<◌, ◌≤◌, ℕ, List, [], ◌++◌, length, Option, Some, None, Result, Ok, Err}
+use Rattle.gg_outside.specs.declared.traits.Source.{Ghosts as Source}
 use Rattle.gg_outside.specs.Outside.{Rose, RoseAtMostOnce, next_count}
 use Rattle.cmd_session.specs.declared.input.InputFault.{InputFault}
 use Rattle.cmd_session.specs.declared.input.InputFault.TheVariants as faults
@@ -11,8 +12,9 @@ pub record Intake : Type 0 where
   pub before : ℕ
   pub now : ℕ
 
-abbrev pub intake : {S : Type 0} → (S → Option (List ℕ)) → (S → ℕ) → S → S → Intake
-intake left faults old new = record { old = left old; new = left new; before = faults old; now = faults new }
+-- from one state of a source to another
+abbrev pub intake : {S : Type 0} → Source S → S → S → Intake
+intake source old new = record { old = source.left old; new = source.left new; before = source.faults old; now = source.faults new }
 
 -- these bytes were taken from the front, where it is told
 abbrev pub Loses : Option (List ℕ) → Option (List ℕ) → List ℕ → Type 0

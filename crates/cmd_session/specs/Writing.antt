@@ -1,5 +1,6 @@
 -- What a sink gains in a call.
 use Rattle.std.specs.Prelude.{◌≡◌, ◌⊎◌, ℕ, List, ◌++◌, Option, Some, None}
+use Rattle.gg_outside.specs.declared.traits.Sink.{Ghosts as Sink}
 use Rattle.gg_outside.specs.Outside.{Rose, RoseAtMostOnce}
 
 -- a sink before and after a call: what it holds, where it tells that, and its count of faults
@@ -9,8 +10,9 @@ pub record Change : Type 0 where
   pub before : ℕ
   pub now : ℕ
 
-abbrev pub change : {S : Type 0} → (S → Option (List ℕ)) → (S → ℕ) → S → S → Change
-change told faults old new = record { old = told old; new = told new; before = faults old; now = faults new }
+-- from one state of a sink to another
+abbrev pub change : {S : Type 0} → Sink S → S → S → Change
+change sink old new = record { old = sink.told old; new = sink.told new; before = sink.faults old; now = sink.faults new }
 
 -- what is held now is what was held before and these bytes, where it is told
 abbrev pub Adds : Option (List ℕ) → Option (List ℕ) → List ℕ → Type 0

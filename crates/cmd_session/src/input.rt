@@ -60,7 +60,7 @@ fn read_piece<I: Source>(
     ensures moved { IfOk result (λ n. Moves n (I.left input.old) (I.left input.new) bytes.old.items bytes.new.items) }
     ensures within { IfOk result (λ n. n ≤ length piece.new) }
     ensures grown { IfOk result (λ n. vec_len bytes.new ≡ vec_len bytes.old + n) }
-    ensures taken { OnErr result (TakesAtMost (length piece.new) (intake I.left I.faults input.old input.new)) }
+    ensures taken { OnErr result (TakesAtMost (length piece.new) (intake I.Source input.old input.new)) }
     ensures counts { I.faults input.new ≡ count_after (I.faults input.old) result }
     ensures no_limit { IsErrOf result faults.TooLong → ⊥ }
 {
@@ -72,10 +72,10 @@ fn read_piece<I: Source>(
 /// All that is left of an input of at most `limit` bytes. No more than one byte beyond the limit is taken from it.
 pub fn read_all<I: Source>(alloc: Global, input: &mut I, limit: usize) -> Result<Bytes, InputFault>
     requires { limit < usize.MAX }
-    ensures whole { IfOk result (λ bytes. GivesAll (intake I.left I.faults input.old input.new) bytes) }
+    ensures whole { IfOk result (λ bytes. GivesAll (intake I.Source input.old input.new) bytes) }
     ensures within { IfOk result (λ bytes. length bytes ≤ limit) }
     ensures too_long { IsErrOf result faults.TooLong → HasOver limit (I.left input.old) }
-    ensures taken { TakesAtMost (limit + 1) (intake I.left I.faults input.old input.new) }
+    ensures taken { TakesAtMost (limit + 1) (intake I.Source input.old input.new) }
     ensures counts { I.faults input.new ≡ count_after (I.faults input.old) result }
 {
     let mut piece = piece_of(alloc, PIECE)?;

@@ -44,8 +44,8 @@ const PIECE: usize = 65_536;
 /// before the end is answered.
 pub fn write_run<R: Run, K: Sink>(alloc: Global, run: &mut R, out: &mut K) -> Result<End, SinkFault>
     ensures end { IfOk result (λ end. (R.coming run.old).end ≡ end) }
-    ensures output { OnOk result (Gains (change K.told K.faults out.old out.new) (R.coming run.old).output) }
-    ensures front { GainsFront (change K.told K.faults out.old out.new) (R.coming run.old).output }
+    ensures output { OnOk result (Gains (change K.Sink out.old out.new) (R.coming run.old).output) }
+    ensures front { GainsFront (change K.Sink out.old out.new) (R.coming run.old).output }
     ensures counts { K.faults out.new ≡ count_after_write (K.faults out.old) result }
 {
     let mut piece = Vec::with_capacity(alloc, PIECE)?;
@@ -77,8 +77,8 @@ pub fn tell_run<R: Run, O: Sink, E: Sink>(
     out: &mut O,
     report: &mut E,
 ) -> Status
-    ensures { Tells result (R.coming run.old) count (change O.told O.faults out.old out.new)
-        (change E.told E.faults report.old report.new) }
+    ensures { Tells result (R.coming run.old) count (change O.Sink out.old out.new)
+        (change E.Sink report.old report.new) }
 {
     let end = match write_run(alloc, run, out) {
         Ok(end) => end,

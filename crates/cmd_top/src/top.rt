@@ -43,78 +43,70 @@ pub fn ggvax<F: Folder, I: Source, O: Sink, E: Sink>(
     // where its
     // cause is there.
     ensures check { (d : List ℕ) → SaysCheck (spelled words.now) d
-        → CheckLeaves result d (outside (lookup F.holds F.failed folder.old folder.new)
-        (change O.told O.faults out.old out.new) (change E.told E.faults report.old report.new)) }
+        → CheckLeaves result d (outside F.Folder O.Sink E.Sink folder.old folder.new out.old out.new report.old report.new) }
     ensures check_exact { (d : List ℕ) → SaysCheck (spelled words.now) d
-        → CheckIsExact result d (outside (lookup F.holds F.failed folder.old folder.new)
-        (change O.told O.faults out.old out.new) (change E.told E.faults report.old report.new)) }
+        → CheckIsExact result d (outside F.Folder O.Sink E.Sink folder.old folder.new out.old out.new report.old report.new) }
 
     // `compile D S`: the same of the machine description, of the source and of the text of its code. Where a text is written, it is
     // that of one
     // code, which loads and on every input does what the source does; and a source whose functions fit their frames has one.
     ensures compile { (d source : List ℕ) → SaysCompile (spelled words.now) d source
-        → CompileLeaves result (files d source) (outside (lookup F.holds F.failed folder.old folder.new)
-        (change O.told O.faults out.old out.new) (change E.told E.faults report.old report.new)) }
+        → CompileLeaves result (files d source)
+        (outside F.Folder O.Sink E.Sink folder.old folder.new out.old out.new report.old report.new) }
     ensures compile_exact { (d source : List ℕ) → SaysCompile (spelled words.now) d source
-        → CompileIsExact result (files d source) (outside (lookup F.holds F.failed folder.old folder.new)
-        (change O.told O.faults out.old out.new) (change E.told E.faults report.old report.new)) }
+        → CompileIsExact result (files d source)
+        (outside F.Folder O.Sink E.Sink folder.old folder.new out.old out.new report.old report.new) }
 
     // `run A N`: the same of the text, of its code's run with N steps on the input, and of what was taken of the input.
     ensures run { (text : List ℕ) (count : ℕ) → SaysRun (spelled words.now) text count
-        → Leaves text_form code_runner result (call_of text count (intake I.left I.faults input.old input.new)
-        (outside (lookup F.holds F.failed folder.old folder.new)
-        (change O.told O.faults out.old out.new) (change E.told E.faults report.old report.new))) }
+        → Leaves text_form code_runner result (call_of text count (intake I.Source input.old input.new)
+        (outside F.Folder O.Sink E.Sink folder.old folder.new out.old out.new report.old report.new)) }
     ensures run_exact { (text : List ℕ) (count : ℕ) → SaysRun (spelled words.now) text count
-        → IsExact text_form code_runner result (call_of text count (intake I.left I.faults input.old input.new)
-        (outside (lookup F.holds F.failed folder.old folder.new)
-        (change O.told O.faults out.old out.new) (change E.told E.faults report.old report.new))) }
+        → IsExact text_form code_runner result (call_of text count (intake I.Source input.old input.new)
+        (outside F.Folder O.Sink E.Sink folder.old folder.new out.old out.new report.old report.new)) }
 
     // `meaning S N`: the same of the source, of its run by its meaning with at most N counted turns and calls, and of the input.
     ensures meaning { (source : List ℕ) (count : ℕ) → SaysMeaning (spelled words.now) source count
-        → Leaves source_form source_runner result (call_of source count (intake I.left I.faults input.old input.new)
-        (outside (lookup F.holds F.failed folder.old folder.new)
-        (change O.told O.faults out.old out.new) (change E.told E.faults report.old report.new))) }
+        → Leaves source_form source_runner result (call_of source count (intake I.Source input.old input.new)
+        (outside F.Folder O.Sink E.Sink folder.old folder.new out.old out.new report.old report.new)) }
     ensures meaning_exact { (source : List ℕ) (count : ℕ) → SaysMeaning (spelled words.now) source count
-        → IsExact source_form source_runner result (call_of source count (intake I.left I.faults input.old input.new)
-        (outside (lookup F.holds F.failed folder.old folder.new)
-        (change O.told O.faults out.old out.new) (change E.told E.faults report.old report.new))) }
+        → IsExact source_form source_runner result (call_of source count (intake I.Source input.old input.new)
+        (outside F.Folder O.Sink E.Sink folder.old folder.new out.old out.new report.old report.new)) }
 
     // `load D K`: the same of the machine description, and of the generated source of K functions, of its text and of what both
     // sides' runs came
     // to; and that no other status comes.
     ensures load { (d : List ℕ) (k : ℕ) → SaysLoad (spelled words.now) d k
-        → LoadLeaves result d k (outside (lookup F.holds F.failed folder.old folder.new)
-        (change O.told O.faults out.old out.new) (change E.told E.faults report.old report.new)) }
+        → LoadLeaves result d k (outside F.Folder O.Sink E.Sink folder.old folder.new out.old out.new report.old report.new) }
     ensures load_comes { (d : List ℕ) (k : ℕ) → SaysLoad (spelled words.now) d k → LoadMayCome result }
     ensures load_exact { (d : List ℕ) (k : ℕ) → SaysLoad (spelled words.now) d k
-        → LoadIsExact result d (outside (lookup F.holds F.failed folder.old folder.new)
-        (change O.told O.faults out.old out.new) (change E.told E.faults report.old report.new)) }
+        → LoadIsExact result d (outside F.Folder O.Sink E.Sink folder.old folder.new out.old out.new report.old report.new) }
 
     // Words that say no command, and these alone, are answered by the usage; nothing else is touched.
     ensures usage { result ≡ Status.Usage → SaysNone (spelled words.now) }
     ensures usage_line { SaysNone (spelled words.now)
-        → IsRefused Status.Usage usage_line result (change E.told E.faults report.old report.new) }
-    ensures usage_out { SaysNone (spelled words.now) → IsUntouched (change O.told O.faults out.old out.new) }
+        → IsRefused Status.Usage usage_line result (change E.Sink report.old report.new) }
+    ensures usage_out { SaysNone (spelled words.now) → IsUntouched (change O.Sink out.old out.new) }
     ensures usage_names { SaysNone (spelled words.now) → F.failed folder.new ≡ F.failed folder.old }
 
     // The folder is asked for the command's names alone. `input` is read by `run` and `meaning` alone, one byte beyond its
     // limit at most.
     ensures check_names { (d : List ℕ) → SaysCheck (spelled words.now) d
-        → FailsAtMost d (lookup F.holds F.failed folder.old folder.new) }
+        → FailsAtMost d (lookup F.Folder folder.old folder.new) }
     ensures compile_names { (d source : List ℕ) → SaysCompile (spelled words.now) d source
-        → FailAtMost (files d source) (lookup F.holds F.failed folder.old folder.new) }
+        → FailAtMost (files d source) (lookup F.Folder folder.old folder.new) }
     ensures run_names { (text : List ℕ) (count : ℕ) → SaysRun (spelled words.now) text count
-        → FailsAtMost text (lookup F.holds F.failed folder.old folder.new) }
+        → FailsAtMost text (lookup F.Folder folder.old folder.new) }
     ensures meaning_names { (source : List ℕ) (count : ℕ) → SaysMeaning (spelled words.now) source count
-        → FailsAtMost source (lookup F.holds F.failed folder.old folder.new) }
+        → FailsAtMost source (lookup F.Folder folder.old folder.new) }
     ensures load_names { (d : List ℕ) (k : ℕ) → SaysLoad (spelled words.now) d k
-        → FailsAtMost d (lookup F.holds F.failed folder.old folder.new) }
+        → FailsAtMost d (lookup F.Folder folder.old folder.new) }
     ensures holds { (n : List ℕ) → F.holds folder.new n ≡ F.holds folder.old n }
     ensures check_input { (d : List ℕ) → SaysCheck (spelled words.now) d → input.new ≡ input.old }
     ensures compile_input { (d source : List ℕ) → SaysCompile (spelled words.now) d source → input.new ≡ input.old }
     ensures load_input { (d : List ℕ) (k : ℕ) → SaysLoad (spelled words.now) d k → input.new ≡ input.old }
     ensures usage_input { SaysNone (spelled words.now) → input.new ≡ input.old }
-    ensures taken { TakesAtMost (input_limit + 1) (intake I.left I.faults input.old input.new) }
+    ensures taken { TakesAtMost (input_limit + 1) (intake I.Source input.old input.new) }
 {
     let Some(command) = command_of(words) else {
         return refuse(

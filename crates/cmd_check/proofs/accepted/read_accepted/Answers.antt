@@ -18,9 +18,9 @@ returns-in-Err-checked-clause-refused g c =
 pub returns-in-Ok-checked-clause-refused : goal.returns-in-Ok-checked-clause-refused
 returns-in-Ok-checked-clause-refused g c =
     IfErr-weaker c.shown.result
-    (λ (s : Status). RulesRefused c.in-Ok.tables.content s (change g.E.Sink.told g.E.Sink.faults c.args.report.now c.shown.new.report))
-    (λ (s : Status). NotAccepted c.args.name.now (lookup g.F.Folder.holds g.F.Folder.failed c.args.folder.now c.read_tables.new.folder) s
-    (change g.E.Sink.told g.E.Sink.faults c.args.report.now c.shown.new.report))
+    (λ (s : Status). RulesRefused c.in-Ok.tables.content s (change g.E.Sink c.args.report.now c.shown.new.report))
+    (λ (s : Status). NotAccepted c.args.name.now (lookup g.F.Folder c.args.folder.now c.read_tables.new.folder) s
+    (change g.E.Sink c.args.report.now c.shown.new.report))
     (λ s r. NoRules c.in-Ok.tables.content c.in-Ok.ensures.description c.in-Ok.ensures.unfailed c.in-Ok.ensures.few c.in-Ok-checked.ensures.sums c.in-Ok-checked.ensures.never r)
     (rw (c.in-Ok-checked.ensures.tables, c.in-Ok-checked.ensures.untold, c.in-Ok.ensures.untold) at c.shown.ensures.refused)
 

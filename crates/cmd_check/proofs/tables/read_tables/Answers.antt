@@ -8,9 +8,9 @@ use Rattle.cmd_check.proofs.tables.read_tables.Goals as goal
 pub returns-in-Ok-clause-refused : goal.returns-in-Ok-clause-refused
 returns-in-Ok-clause-refused g c =
     IfErr-weaker c.build_tables.result
-    (λ (s : Status). BuildRefused c.in-Ok.text.description s (change g.E.Sink.told g.E.Sink.faults c.args.report.now c.build_tables.new.report))
-    (λ (s : Status). TablesRefused c.args.name.now (lookup g.F.Folder.holds g.F.Folder.failed c.args.folder.now c.read_file.new.folder) s
-    (change g.E.Sink.told g.E.Sink.faults c.args.report.now c.build_tables.new.report))
+    (λ (s : Status). BuildRefused c.in-Ok.text.description s (change g.E.Sink c.args.report.now c.build_tables.new.report))
+    (λ (s : Status). TablesRefused c.args.name.now (lookup g.F.Folder c.args.folder.now c.read_file.new.folder) s
+    (change g.E.Sink c.args.report.now c.build_tables.new.report))
     (λ s r. NotBuilt c.in-Ok.text.description c.in-Ok.ensures.item c.in-Ok.ensures.unfailed r)
     (rw c.in-Ok.ensures.untold at c.build_tables.ensures.refused)
 

@@ -40,7 +40,7 @@ returns-in-Ok-write_out-clause-leaves g c = Written refl (record {
   text = string_bytes c.in-Ok-text_of.text;
   is_text = rw c.program.ensures at c.in-Ok-text_of.ensures.text;
   takes = rw c.as_bytes.ensures.value at c.in-Ok-write_out.ensures.all;
-  untold = untouched g.E.Sink.told g.E.Sink.faults c.args.report.now c.write_out.new.report
+  untold = untouched g.E.Sink c.args.report.now c.write_out.new.report
       (c.in-Ok-write_out.ensures.untold ∙ c.in-Ok-text_of.ensures.untold ∙ c.in-Ok-read_file.ensures.untold ∙ c.in-Ok.ensures.untold);
 })
 

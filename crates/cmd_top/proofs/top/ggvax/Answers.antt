@@ -1,5 +1,4 @@
 use Rattle.cmd_session.specs.Reading.{intake}
-use Rattle.cmd_session.specs.Writing.{change}
 use Rattle.cmd_files.specs.Outsides.{lookup, outside}
 use Rattle.cmd_files.specs.Outcome.{Leaves}
 use Rattle.cmd_files.specs.Calls.{call_of}
@@ -18,74 +17,58 @@ use Rattle.cmd_top.proofs.top.ggvax.Goals as goal
 pub returns-in-Meaning-clause-meaning : goal.returns-in-Meaning-clause-meaning
 returns-in-Meaning-clause-meaning g c = λ source count said.
     carried (λ s n. Leaves source_form source_runner c.run_source.result (call_of s n
-    (intake g.I.Source.left g.I.Source.faults c.args.input.now c.run_source.new.input)
-    (outside (lookup g.F.Folder.holds g.F.Folder.failed c.args.folder.now c.run_source.new.folder)
-    (change g.O.Sink.told g.O.Sink.faults c.args.out.now c.run_source.new.out)
-    (change g.E.Sink.told g.E.Sink.faults c.args.report.now c.run_source.new.report))))
+    (intake g.I.Source c.args.input.now c.run_source.new.input)
+    (outside g.F.Folder g.O.Sink g.E.Sink c.args.folder.now c.run_source.new.folder c.args.out.now c.run_source.new.out c.args.report.now c.run_source.new.report)))
     _ _ _ _ (only_meaning _ _ _ _ c.in-Some.ensures.only c.in-Meaning.is source count said) c.run_source.ensures.leaves
 
 pub returns-in-Meaning-clause-meaning_exact : goal.returns-in-Meaning-clause-meaning_exact
 returns-in-Meaning-clause-meaning_exact g c = λ source count said.
     carried (λ s n. IsExact source_form source_runner c.run_source.result (call_of s n
-    (intake g.I.Source.left g.I.Source.faults c.args.input.now c.run_source.new.input)
-    (outside (lookup g.F.Folder.holds g.F.Folder.failed c.args.folder.now c.run_source.new.folder)
-    (change g.O.Sink.told g.O.Sink.faults c.args.out.now c.run_source.new.out)
-    (change g.E.Sink.told g.E.Sink.faults c.args.report.now c.run_source.new.report))))
+    (intake g.I.Source c.args.input.now c.run_source.new.input)
+    (outside g.F.Folder g.O.Sink g.E.Sink c.args.folder.now c.run_source.new.folder c.args.out.now c.run_source.new.out c.args.report.now c.run_source.new.report)))
     _ _ _ _ (only_meaning _ _ _ _ c.in-Some.ensures.only c.in-Meaning.is source count said) c.run_source.ensures.exact
 
 pub returns-in-Run-clause-run : goal.returns-in-Run-clause-run
 returns-in-Run-clause-run g c = λ text count said.
     carried (λ s n. Leaves text_form code_runner c.run_text.result (call_of s n
-    (intake g.I.Source.left g.I.Source.faults c.args.input.now c.run_text.new.input)
-    (outside (lookup g.F.Folder.holds g.F.Folder.failed c.args.folder.now c.run_text.new.folder)
-    (change g.O.Sink.told g.O.Sink.faults c.args.out.now c.run_text.new.out)
-    (change g.E.Sink.told g.E.Sink.faults c.args.report.now c.run_text.new.report))))
+    (intake g.I.Source c.args.input.now c.run_text.new.input)
+    (outside g.F.Folder g.O.Sink g.E.Sink c.args.folder.now c.run_text.new.folder c.args.out.now c.run_text.new.out c.args.report.now c.run_text.new.report)))
     _ _ _ _ (only_run _ _ _ _ c.in-Some.ensures.only c.in-Run.is text count said) c.run_text.ensures.leaves
 
 pub returns-in-Run-clause-run_exact : goal.returns-in-Run-clause-run_exact
 returns-in-Run-clause-run_exact g c = λ text count said.
     carried (λ s n. IsExact text_form code_runner c.run_text.result (call_of s n
-    (intake g.I.Source.left g.I.Source.faults c.args.input.now c.run_text.new.input)
-    (outside (lookup g.F.Folder.holds g.F.Folder.failed c.args.folder.now c.run_text.new.folder)
-    (change g.O.Sink.told g.O.Sink.faults c.args.out.now c.run_text.new.out)
-    (change g.E.Sink.told g.E.Sink.faults c.args.report.now c.run_text.new.report))))
+    (intake g.I.Source c.args.input.now c.run_text.new.input)
+    (outside g.F.Folder g.O.Sink g.E.Sink c.args.folder.now c.run_text.new.folder c.args.out.now c.run_text.new.out c.args.report.now c.run_text.new.report)))
     _ _ _ _ (only_run _ _ _ _ c.in-Some.ensures.only c.in-Run.is text count said) c.run_text.ensures.exact
 
 pub returns-in-Check-clause-check : goal.returns-in-Check-clause-check
 returns-in-Check-clause-check g c = λ d said.
-    named (λ s. CheckLeaves c.check_description.result s (outside
-    (lookup g.F.Folder.holds g.F.Folder.failed c.args.folder.now c.check_description.new.folder)
-    (change g.O.Sink.told g.O.Sink.faults c.args.out.now c.check_description.new.out)
-    (change g.E.Sink.told g.E.Sink.faults c.args.report.now c.check_description.new.report)))
+    named (λ s. CheckLeaves c.check_description.result s
+    (outside g.F.Folder g.O.Sink g.E.Sink c.args.folder.now c.check_description.new.folder c.args.out.now c.check_description.new.out c.args.report.now c.check_description.new.report))
     _ _ (only_check _ _ _ c.in-Some.ensures.only c.in-Check.is d said) c.check_description.ensures.leaves
 
 pub returns-in-Check-clause-check_exact : goal.returns-in-Check-clause-check_exact
 returns-in-Check-clause-check_exact g c = λ d said.
-    named (λ s. CheckIsExact c.check_description.result s (outside
-    (lookup g.F.Folder.holds g.F.Folder.failed c.args.folder.now c.check_description.new.folder)
-    (change g.O.Sink.told g.O.Sink.faults c.args.out.now c.check_description.new.out)
-    (change g.E.Sink.told g.E.Sink.faults c.args.report.now c.check_description.new.report)))
+    named (λ s. CheckIsExact c.check_description.result s
+    (outside g.F.Folder g.O.Sink g.E.Sink c.args.folder.now c.check_description.new.folder c.args.out.now c.check_description.new.out c.args.report.now c.check_description.new.report))
     _ _ (only_check _ _ _ c.in-Some.ensures.only c.in-Check.is d said) c.check_description.ensures.exact
 
 pub returns-in-Compile-clause-compile : goal.returns-in-Compile-clause-compile
 returns-in-Compile-clause-compile g c = λ d source said.
     paired (λ x y. CompileLeaves c.compile_source.result (files x y)
-    (outside (lookup g.F.Folder.holds g.F.Folder.failed c.args.folder.now c.compile_source.new.folder)
-    (change g.O.Sink.told g.O.Sink.faults c.args.out.now c.compile_source.new.out)
-    (change g.E.Sink.told g.E.Sink.faults c.args.report.now c.compile_source.new.report)))
+    (outside g.F.Folder g.O.Sink g.E.Sink c.args.folder.now c.compile_source.new.folder c.args.out.now c.compile_source.new.out c.args.report.now c.compile_source.new.report))
     _ _ _ _ (only_compile _ _ _ _ c.in-Some.ensures.only c.in-Compile.is d source said) c.compile_source.ensures.leaves
 
 pub returns-in-Compile-clause-compile_exact : goal.returns-in-Compile-clause-compile_exact
 returns-in-Compile-clause-compile_exact g c = λ d source said.
     paired (λ x y. CompileIsExact c.compile_source.result (files x y)
-    (outside (lookup g.F.Folder.holds g.F.Folder.failed c.args.folder.now c.compile_source.new.folder)
-    (change g.O.Sink.told g.O.Sink.faults c.args.out.now c.compile_source.new.out)
-    (change g.E.Sink.told g.E.Sink.faults c.args.report.now c.compile_source.new.report)))
+    (outside g.F.Folder g.O.Sink g.E.Sink c.args.folder.now c.compile_source.new.folder c.args.out.now c.compile_source.new.out c.args.report.now c.compile_source.new.report))
     _ _ _ _ (only_compile _ _ _ _ c.in-Some.ensures.only c.in-Compile.is d source said) c.compile_source.ensures.exact
 
 pub returns-in-Compile-clause-compile_names : goal.returns-in-Compile-clause-compile_names
 returns-in-Compile-clause-compile_names g c = λ d source said.
-    paired (λ x y. FailAtMost (files x y) (lookup g.F.Folder.holds g.F.Folder.failed c.args.folder.now c.compile_source.new.folder))
+    paired (λ x y. FailAtMost (files x y) (lookup g.F.Folder c.args.folder.now c.compile_source.new.folder))
     _ _ _ _ (only_compile _ _ _ _ c.in-Some.ensures.only c.in-Compile.is d source said) c.compile_source.ensures.names
 
 pub load_generated-requires : goal.load_generated-requires
@@ -93,16 +76,12 @@ load_generated-requires g c = counts _ _ _ _ c.in-Some.ensures.some c.in-Load.is
 
 pub returns-in-Load-clause-load : goal.returns-in-Load-clause-load
 returns-in-Load-clause-load g c = λ d k said.
-    carried (λ s n. LoadLeaves c.load_generated.result s n (outside
-    (lookup g.F.Folder.holds g.F.Folder.failed c.args.folder.now c.load_generated.new.folder)
-    (change g.O.Sink.told g.O.Sink.faults c.args.out.now c.load_generated.new.out)
-    (change g.E.Sink.told g.E.Sink.faults c.args.report.now c.load_generated.new.report)))
+    carried (λ s n. LoadLeaves c.load_generated.result s n
+    (outside g.F.Folder g.O.Sink g.E.Sink c.args.folder.now c.load_generated.new.folder c.args.out.now c.load_generated.new.out c.args.report.now c.load_generated.new.report))
     _ _ _ _ (only_load _ _ _ _ c.in-Some.ensures.only c.in-Load.is d k said) c.load_generated.ensures.leaves
 
 pub returns-in-Load-clause-load_exact : goal.returns-in-Load-clause-load_exact
 returns-in-Load-clause-load_exact g c = λ d k said.
-    carried (λ s n. LoadIsExact c.load_generated.result s (outside
-    (lookup g.F.Folder.holds g.F.Folder.failed c.args.folder.now c.load_generated.new.folder)
-    (change g.O.Sink.told g.O.Sink.faults c.args.out.now c.load_generated.new.out)
-    (change g.E.Sink.told g.E.Sink.faults c.args.report.now c.load_generated.new.report)))
+    carried (λ s n. LoadIsExact c.load_generated.result s
+    (outside g.F.Folder g.O.Sink g.E.Sink c.args.folder.now c.load_generated.new.folder c.args.out.now c.load_generated.new.out c.args.report.now c.load_generated.new.report))
     _ _ _ _ (only_load _ _ _ _ c.in-Some.ensures.only c.in-Load.is d k said) c.load_generated.ensures.exact
