@@ -5,7 +5,7 @@ use Rattle.gg_base.specs.declared.run.Break.{Break}
 use Rattle.gg_base.specs.declared.run.End.{End}
 use Rattle.gg_base.specs.declared.run.End.TheVariants as ends
 use Rattle.gg_base.specs.Runs.{Outcome, Remaining}
-use Rattle.cmd_session.specs.Running.{Coming}
+use Rattle.cmd_session.specs.Running.{coming_of}
 use Rattle.cmd_session.specs.Telling.{Tells}
 use Rattle.cmd_session.specs.Writing.{Change}
 use Rattle.cmd_session.specs.declared.status.Status.{Status}
@@ -19,7 +19,6 @@ use Rattle.c_typed.specs.declared.source.SourceFault.TheVariants as faults
 use Rattle.c_typed.specs.Sources.{Reads, IsRefused, IsOnly}
 use Rattle.c_meaning.specs.Programs.{source}
 use Rattle.cmd_meaning.specs.Lines.{fault_line}
-use Rattle.cmd_meaning.specs.Moments.{coming}
 use Rattle.cmd_meaning.specs.Sources.{source_form, source_runner, IsSourceEnd}
 
 -- bytes that are no source
@@ -42,11 +41,11 @@ source_end (ends.Broken kind) unbroken = absurd (unbroken kind refl)
 -- the run that was begun was told
 pub told_run : (program shown : AProgram) (input : List ℕ) (count : ℕ) (status : Status) (out report : Change) (run : Remaining) → shown ≡ program → run
     ≡ record { outcome = source shown input count; taken = 0; failed = false } → ((n : ℕ) (kind : Break) → (source shown input n).end ≡ ends.Broken kind → ⊥)
-    → Tells status (coming run.outcome) count out report → ToldRun source_runner statuses.SourceRefused program input count status out report
+    → Tells status (coming_of run.outcome) count out report → ToldRun source_runner statuses.SourceRefused program input count status out report
 told_run program shown input count status out report run same begins unbroken told =
     let one : run.outcome ≡ source program input count =
     ap (λ (r : Remaining). r.outcome) begins ∙ ap (λ (p : AProgram). source p input count) same in
     let whole : (n : ℕ) (kind : Break) → (source program input n).end ≡ ends.Broken kind → ⊥ =
     subst (λ (p : AProgram). (n : ℕ) (kind : Break) → (source p input n).end ≡ ends.Broken kind → ⊥) same unbroken in
     Told refl (source_end (source program input count).end (whole count))
-    (subst (λ (o : Outcome). Tells status (coming o) count out report) one told)
+    (subst (λ (o : Outcome). Tells status (coming_of o) count out report) one told)

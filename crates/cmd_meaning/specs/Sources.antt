@@ -4,13 +4,13 @@ use Rattle.gg_base.specs.declared.place.Place.{Place}
 use Rattle.gg_base.specs.declared.run.End.{End}
 use Rattle.gg_base.specs.declared.run.End.TheVariants as ends
 use Rattle.cmd_session.specs.declared.status.Status.TheVariants as statuses
+use Rattle.cmd_session.specs.Running.{coming_of}
 use Rattle.cmd_files.specs.Forms.{Form, Runner}
 use Rattle.c_program.specs.Programs.{AProgram}
 use Rattle.c_typed.specs.declared.source.SourceKind.{SourceKind}
 use Rattle.c_typed.specs.Sources.{Reads, IsFaultAt}
 use Rattle.c_meaning.specs.Programs.{source}
 use Rattle.cmd_meaning.specs.Lines.{fault_line}
-use Rattle.cmd_meaning.specs.Moments.{coming}
 
 -- the longest source
 abbrev pub source_limit : ℕ
@@ -40,6 +40,6 @@ IsSourceEnd (ends.Broken kind) = ⊥
 abbrev pub source_runner : Runner AProgram
 source_runner = record {
   fault = λ program. None;
-  run = λ program input count. coming (source program input count);
+  run = λ program input count. coming_of (source program input count);
   ends = IsSourceEnd;
 }

@@ -10,9 +10,10 @@ pub struct MeaningRun<'a> {
 }
 
 impl Run for MeaningRun<'_> {
-    ghost use Rattle.cmd_meaning.specs.Moments.{coming, left_of};
+    ghost use Rattle.cmd_session.specs.Running.{coming_of};
+    ghost use Rattle.cmd_meaning.specs.Moments.{left_of};
 
-    ghost coming = { λ r. coming r.run.remaining.outcome };
+    ghost coming = { λ r. coming_of r.run.remaining.outcome };
 
     ghost left = { λ r. left_of r.run.remaining };
 

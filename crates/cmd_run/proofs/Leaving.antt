@@ -4,7 +4,7 @@ use Rattle.gg_base.specs.declared.run.End.{End}
 use Rattle.gg_base.specs.declared.run.End.TheVariants as ends
 use Rattle.gg_base.specs.Runs.{Runs}
 use Rattle.cmd_session.specs.Writing.{Change, IsUntouched}
-use Rattle.cmd_session.specs.Running.{Coming}
+use Rattle.cmd_session.specs.Running.{Coming, coming_of}
 use Rattle.cmd_session.specs.Telling.{IsRefused, Tells}
 use Rattle.cmd_session.specs.declared.status.Status.{Status}
 use Rattle.cmd_session.specs.declared.status.Status.TheVariants as statuses
@@ -15,7 +15,7 @@ use Rattle.vax_machine.specs.Loading.{load_fault, Loads, Loaded, Stands, start}
 use Rattle.vax_machine.specs.declared.loading.LoadFault.{LoadFault}
 use Rattle.vax_machine.specs.declared.loading.LoadFault.TheVariants as loading_fault
 use Rattle.vax_machine.specs.Running.{run, state_run}
-use Rattle.cmd_run.specs.Counting.{coming, coming_of}
+use Rattle.cmd_run.specs.Counting.{coming}
 use Rattle.cmd_run.specs.Lines.{load_line}
 use Rattle.cmd_run.specs.Refusing.{CodeIsRefused}
 use Rattle.cmd_run.specs.Texts.{code_runner, fault_line, IsMachineEnd}

@@ -3,6 +3,7 @@ use Rattle.std.specs.Prelude.{◌≡◌, ℕ, List, Option, Some, None}
 use Rattle.gg_base.specs.declared.run.End.{End}
 use Rattle.gg_base.specs.declared.run.End.TheVariants as ends
 use Rattle.cmd_session.specs.declared.status.Status.TheVariants as statuses
+use Rattle.cmd_session.specs.Running.{coming_of}
 use Rattle.cmd_files.specs.Forms.{Form, Runner}
 use Rattle.vax_core.specs.declared.code.Code.{Code}
 use Rattle.vax_reader.specs.declared.fault.AsmKind.{AsmKind}
@@ -10,7 +11,6 @@ use Rattle.vax_reader.specs.Grammar.{Reads, IsFirstWrong}
 use Rattle.vax_machine.specs.declared.loading.LoadFault.{LoadFault}
 use Rattle.vax_machine.specs.Loading.{load_fault}
 use Rattle.vax_machine.specs.Running.{run}
-use Rattle.cmd_run.specs.Counting.{coming_of}
 use Rattle.cmd_run.specs.Lines.{wrong_line, load_line}
 
 -- the longest text

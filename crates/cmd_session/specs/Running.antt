@@ -1,6 +1,7 @@
 -- What a run that is done moment by moment tells.
 use Rattle.std.specs.Prelude.{◌≡◌, ◌<◌, ℕ, List, [], ◌∷◌}
 use Rattle.gg_base.specs.declared.run.End.{End}
+use Rattle.gg_base.specs.Runs.{Outcome}
 use Rattle.cmd_session.specs.declared.running.Moment.{Moment}
 use Rattle.cmd_session.specs.declared.running.Moment.TheVariants.{Going, Wrote, Over}
 
@@ -8,6 +9,10 @@ use Rattle.cmd_session.specs.declared.running.Moment.TheVariants.{Going, Wrote, 
 pub record Coming : Type 0 where
   pub output : List ℕ
   pub end : End
+
+-- what is to come of a run's outcome
+abbrev pub coming_of : Outcome → Coming
+coming_of o = record { output = o.output; end = o.end }
 
 -- what a moment says of what is to come before it and behind it
 abbrev pub Passes : Coming → Moment → Coming → Type 0
