@@ -22,10 +22,10 @@ use Rattle.c_phrases.specs.Units.{ALength, AnInit, value, elements, AnInitialise
 use Rattle.c_phrases.specs.Units.{AParam, SomeParams, AnExternal, AUnit, if_else, expression, break_off, continue_on}
 use Rattle.c_phrases.specs.Units.{give_back, local_item, statement_item, ALocal, ADeclared}
 use Rattle.c_phrases.specs.UnitSpelling.{onto_init}
-use Rattle.c_phrases.specs.Fits.{InitFits}
+use Rattle.c_phrases.specs.Fits.{InitFits, IsSome}
 use Rattle.c_phrases.specs.UnitLevels.{LowInit}
 use Rattle.c_phrases.specs.Fronts.{Quiet, IsNot, strength, mark_strength}
-use Rattle.c_syntax.specs.Reads.{NoName, IsRead, ReadsSpec, ReadsStars, ArgumentsSoFar, IsSome}
+use Rattle.c_syntax.specs.Reads.{NoName, IsRead, ReadsSpec, ReadsStars, ArgumentsSoFar}
 use Rattle.c_syntax.specs.Leads.{Fails, Leads, TailFails, TailLeads, CondLeads}
 use Rattle.c_syntax.specs.Stands.{ReadsPart, ReadsCondition, ReadsStatement, ReadsParams, ReadsLocal}
 use Rattle.c_syntax.specs.Stands.{ReadsElements, ReadsExternal}

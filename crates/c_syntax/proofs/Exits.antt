@@ -26,8 +26,9 @@ use Rattle.c_phrases.specs.Operators.{binary_mark, step_mark, assign_mark}
 use Rattle.c_phrases.specs.Levels.{LowExps, limit}
 use Rattle.c_phrases.specs.Takes.{IsTypeWord, assign_of, prefix_of, step_of, NoPrefix, NoPrefixMark, NoStep, NoStepMark, NoAssign, NoAssignMark}
 use Rattle.c_phrases.specs.Fronts.{Quiet, IsNot, NoCast}
+use Rattle.c_phrases.specs.Fits.{IsSome}
 use Rattle.c_syntax.specs.Reads.{NoName, NoNumber, NoString, BeginsCast, StopClass, IsStop, IsRead, ReadsType}
-use Rattle.c_syntax.specs.Reads.{ArgumentsSoFar, ReadsArguments, IsSome}
+use Rattle.c_syntax.specs.Reads.{ArgumentsSoFar, ReadsArguments}
 use Rattle.c_syntax.specs.Leads.{Fails, Leads, TailFails, TailLeads, PostFails, CommasFail}
 use Rattle.c_syntax_goals.specs.Wanted as Wanted
 use Rattle.c_syntax_goals.specs.Expressions as Expressions

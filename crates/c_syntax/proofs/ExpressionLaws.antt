@@ -23,12 +23,13 @@ use Rattle.c_phrases.specs.Levels.{LowExp, LowExps, limit}
 use Rattle.c_phrases.specs.Shapes.{exp, exp_list}
 use Rattle.c_phrases.specs.Fronts.{Quiet, mark_strength}
 use Rattle.c_phrases.specs.Takes.{NoBinary}
+use Rattle.c_phrases.specs.Fits.{IsSome}
 use Rattle.c_phrases.proofs.Rows.{exps_row_is}
 use Rattle.c_syntax.proofs.Stops.{quiet_unjoined}
 use Rattle.c_syntax_goals.proofs.PhraseLaws.{lower, binary_strength, level_top, quieter, limit_low}
 use Rattle.c_syntax_goals.specs.Goals.{Want, CallTail}
 use Rattle.c_syntax.specs.Leads.{Leads}
-use Rattle.c_syntax.specs.Reads.{IsPart, IsRead, IsMore, Ready, IsSome, ArgumentsSoFar, ReadsArguments}
+use Rattle.c_syntax.specs.Reads.{IsPart, IsRead, IsMore, Ready, ArgumentsSoFar, ReadsArguments}
 
 -- a call's arguments as a list
 

@@ -9,9 +9,10 @@ use Rattle.c_syntax_goals.specs.Goals.{Want, AfterShort, AfterUnsigned, TypeWord
 use Rattle.c_syntax_goals.specs.Types.{type_goals}
 use Rattle.c_phrases.specs.declared.operator.Spec.{Spec as SpecWords}
 use Rattle.c_phrases.specs.declared.tree.TypeName.{TypeName}
-use Rattle.c_phrases.specs.Phrases.{AnExp, SomeExps, no_exps, exps, AllAt, IsAt, after_exp}
+use Rattle.c_phrases.specs.Phrases.{AnExp, SomeExps, AllAt, IsAt, after_exp}
 use Rattle.c_phrases.specs.Spelling.{onto_exp, onto_int, onto_spec, onto_stars, onto_type, onto_first}
 use Rattle.c_phrases.specs.Takes.{IsTypeWord}
+use Rattle.c_phrases.specs.Fits.{IsSome}
 use Rattle.c_phrases.specs.Levels.{LowExp, LowExps, limit}
 use Rattle.c_phrases.specs.Fronts.{Quiet}
 use Rattle.c_syntax.specs.Leads.{Leads}
@@ -124,10 +125,6 @@ NoNumber (t ∷ ts) = (v : ℕ) → t.kind ≢ token.Number v
 abbrev pub NoString : List Placed → Type 0
 NoString [] = Unit {0}
 NoString (t ∷ ts) = (b : List ℕ) → t.kind ≢ token.Str b
-
-abbrev pub IsSome : SomeExps → Type 0
-IsSome no_exps = ⊥
-IsSome (exps e es) = Unit {0}
 
 -- the arguments so far are read: what is spelled behind them is the whole list's
 pub record ArgumentsSoFar (n : ℕ) (ts : List Placed) (es : SomeExps) (rest : List Placed) : Type 0 where
