@@ -5,14 +5,22 @@ use Rattle.md_reader_pieces.specs.declared.piece.Line.{Line}
 use Rattle.sel_target.specs.declared.attr.Attr.{Attr}
 use Rattle.sel_target.specs.declared.attr.Attr.TheVariants as attr
 use Rattle.sel_target.specs.Meaning.{Meaning}
+use Rattle.lr_check_parse.specs.Attributes.{Selecting}
+use Rattle.sel_parse_desk.specs.Entries.{Entry}
 use Rattle.sel_parse_desk.specs.Desk.{Desk, Stack, Outcome, Full, Stuck}
+use Rattle.sel_parse_desk.specs.Selected.{Kept, selecting}
 use Rattle.sel_parse_desk.specs.declared.desk.Desk.{Desk as Held}
+use Rattle.sel_parse_desk.specs.declared.desk.Setting.{Setting}
 use Rattle.sel_parse_desk.specs.declared.desk.DeskFault.{DeskFault}
 use Rattle.sel_parse_desk.specs.declared.desk.DeskFault.TheVariants as desk_fault
 use Rattle.sel_parse_desk.specs.Tallied.{IsTallied}
 
 abbrev pub desk_of : {O I : Type 0} → Held O I → Desk O I
 desk_of k = record { below = k.stack.entries; symbols = k.symbols; late = k.late.items; code = k.code.items; most = k.most }
+
+-- how the questions of a parse are answered in a setting
+abbrev pub selecting_in : {O I S F T : Type 0} → Meaning O I S F → Setting T → Selecting (Kept O I) (Entry O)
+selecting_in of setting = selecting of setting.program.now setting.description.now setting.first
 
 -- between two reductions
 abbrev pub stack_of : {O I : Type 0} → Held O I → Stack O I

@@ -6,9 +6,8 @@ ghost use Rattle.sel_target.specs.declared.attr.Attr.TheVariants as attr;
 ghost use Rattle.sel_target.specs.Symbols.{token_number, constant_of, relation_of, size_of_entry};
 ghost use Rattle.sel_parse_desk.specs.Entries.{alone, spelled_leaf, spelled};
 ghost use Rattle.sel_parse_desk.specs.Entries.{same_operands};
-ghost use Rattle.sel_parse_desk.specs.Selected.{selecting};
 ghost use Rattle.sel_parse_desk.specs.Joined.{entry_at};
-ghost use Rattle.sel_parse_desk.specs.Mirror.{stack_of};
+ghost use Rattle.sel_parse_desk.specs.Mirror.{stack_of, selecting_in};
 
 use crate::desk::{Desk, Setting};
 use crate::entries::Entries;
@@ -231,8 +230,8 @@ fn alike_at<T: Templates>(
 ) -> Result<bool, NoMemory>
     requires a { a < length entries.now }
     requires b { b < length entries.now }
-    ensures { IfOk result (λ yes. yes ≡ same_spelling (selecting T.meaning setting.now.program.now setting.now.description.now
-        setting.now.first) (slice_get entries.now a) (slice_get entries.now b)) }
+    ensures { IfOk result (λ yes. yes ≡ same_spelling (selecting_in T.meaning setting.now)
+        (slice_get entries.now a) (slice_get entries.now b)) }
 {
     if same_size(
         size_of_entry(entries.kind(a)),
@@ -253,8 +252,8 @@ fn alike<T: Templates>(
 ) -> Result<bool, NoMemory>
     requires a { IfSome a (λ i. i < length entries.now) }
     requires b { IfSome b (λ i. i < length entries.now) }
-    ensures { IfOk result (λ yes. yes ≡ same_spelling (selecting T.meaning setting.now.program.now setting.now.description.now
-        setting.now.first) (entry_at entries.now a) (entry_at entries.now b)) }
+    ensures { IfOk result (λ yes. yes ≡ same_spelling (selecting_in T.meaning setting.now)
+        (entry_at entries.now a) (entry_at entries.now b)) }
 {
     match (a, b) {
         (Some(a), Some(b)) => alike_at(setting, entries, a, b),
@@ -268,8 +267,7 @@ fn constant_at<T: Templates>(
     at: Option<usize>,
 ) -> Option<u32>
     requires { IfSome at (λ i. i < length entries.now) }
-    ensures { result ≡ constant_at (selecting T.meaning setting.now.program.now setting.now.description.now setting.now.first)
-        (entry_at entries.now at) }
+    ensures { result ≡ constant_at (selecting_in T.meaning setting.now) (entry_at entries.now at) }
 {
     match at {
         Some(at) => constant_of(setting.program, entries.attr(at)),
@@ -283,8 +281,7 @@ fn relation_at<T: Templates>(
     at: Option<usize>,
 ) -> Option<Rel>
     requires { IfSome at (λ i. i < length entries.now) }
-    ensures { result ≡ relation_at (selecting T.meaning _setting.now.program.now _setting.now.description.now _setting.now.first)
-        (entry_at entries.now at) }
+    ensures { result ≡ relation_at (selecting_in T.meaning _setting.now) (entry_at entries.now at) }
 {
     match at {
         Some(at) => relation_of(entries.attr(at)),
@@ -299,8 +296,8 @@ fn holds<T: Templates>(
     size: usize,
     restriction: Restriction,
 ) -> Result<bool, NoMemory>
-    ensures { IfOk result (λ yes. yes ≡ holds (selecting T.meaning setting.now.program.now setting.now.description.now
-        setting.now.first) (drop (length entries.now - size) entries.now) restriction) }
+    ensures { IfOk result (λ yes. yes ≡ holds (selecting_in T.meaning setting.now)
+        (drop (length entries.now - size) entries.now) restriction) }
 {
     match restriction {
         Restriction::Same(i, j) => {
@@ -325,8 +322,7 @@ pub fn answered<T: Templates>(
     desk: &Desk<T::Operand, T::Instr>,
     rule: &Rule,
 ) -> Result<bool, NoMemory>
-    ensures { IfOk result (λ yes. yes ≡ answered (selecting T.meaning setting.now.program.now setting.now.description.now
-        setting.now.first) rule.now (Some (stack_of desk.now))) }
+    ensures { IfOk result (λ yes. yes ≡ answered (selecting_in T.meaning setting.now) rule.now (Some (stack_of desk.now))) }
 {
     let size = rule.right.as_slice().len();
     for restriction in rule.restrictions.as_slice() {
