@@ -1,5 +1,5 @@
--- Classes of bytes, and how long a run of one class is.
-use Rattle.std.specs.Prelude.{ℕ, suc, ◌-◌, Bool, true, false, ◌==◌, ◌||◌, ◌&&◌, nat_le, nat_lt, List, [], ◌∷◌, if◌then◌else◌}
+-- Classes of bytes.
+use Rattle.std.specs.Prelude.{ℕ, ◌-◌, Bool, true, false, ◌==◌, ◌||◌, ◌&&◌, nat_le, nat_lt, if◌then◌else◌}
 
 abbrev pub is_between : ℕ → ℕ → ℕ → Bool
 is_between low high b = nat_le low b && nat_le b high
@@ -29,8 +29,3 @@ is_digit_of base b = nat_lt (digit_value b) base
 -- any byte but LF
 abbrev pub in_line : ℕ → Bool
 in_line b = if b == 10 then false else true
-
--- how many bytes at the front pass the test
-abbrev pub run_len : (ℕ → Bool) → List ℕ → ℕ
-run_len p [] = 0
-run_len p (b ∷ bs) = if p b then suc (run_len p bs) else 0

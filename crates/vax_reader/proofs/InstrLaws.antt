@@ -5,6 +5,7 @@ use Rattle.std.specs.Option.{option_map, option_and_then}
 use Rattle.std.proofs.lemmas.Bool.{and_parts}
 use Rattle.std.proofs.lemmas.List.{append-nil, take_at, drop_at, take-append-drop}
 use Rattle.std.proofs.lemmas.Option.{same_Some, option_and_then_some, cond_some}
+use Rattle.std.specs.List.{prefix_len as run_len}
 use Rattle.vax_core.specs.declared.operand.Operand.{Operand}
 use Rattle.vax_core.specs.declared.op.Op.{Op}
 use Rattle.vax_core.specs.declared.op.OperandKind.{OperandKind}
@@ -12,7 +13,7 @@ use Rattle.vax_core.specs.declared.code.Instr.{Instr}
 use Rattle.vax_core.specs.Ops.{shape}
 use Rattle.vax_core.specs.Text.{operand_text, operands_text, tail_text, instr_text}
 use Rattle.vax_core.specs.Valid.{allows, is_base, is_index, is_operand, are_operands, is_target, is_instr}
-use Rattle.vax_reader.specs.Fronts.{strip, run_len, name_front}
+use Rattle.vax_reader.specs.Fronts.{strip, name_front}
 use Rattle.vax_reader.specs.Operands.{operand_front}
 use Rattle.vax_core.specs.Mnemonics.{op_of}
 use Rattle.vax_reader.specs.Lines.{in_word, word_at, behind_word, is_last, comma, operands_front, some_target, target_front, made, checked, with_target, behind_operands}

@@ -2,7 +2,7 @@
 use Rattle.std.proofs.Common.{◌≡◌, inl, inr, ℕ, zero, suc, ◌<◌, Bool, true, false, cond, eqb, ◌||◌, not, List, [], ◌∷◌, ◌++◌, length, take, drop, get_or, Option, Some, None, refl}
 use Rattle.std.proofs.Common.{sym, ap, subst, ◌∙◌, arith}
 use Rattle.std.specs.Prelude.{codes, is_some}
-use Rattle.std.specs.List.{Contains}
+use Rattle.std.specs.List.{Contains, prefix_len as run_len}
 use Rattle.std.specs.Cmp.Lexicographic.{same_text}
 use Rattle.std.proofs.lemmas.Bool.{eqb-true, eqb-false, or_cases, or_right, both_ways}
 use Rattle.std.proofs.lemmas.List.{take_at, take-append-drop}
@@ -12,7 +12,7 @@ use Rattle.vax_reader.specs.declared.fault.AsmKind.{AsmKind}
 use Rattle.vax_reader.specs.declared.fault.AsmKind.TheVariants as kinds
 use Rattle.vax_reader.specs.declared.kind.Stage.{Stage}
 use Rattle.vax_reader.specs.declared.kind.Stage.TheVariants as stages
-use Rattle.vax_reader.specs.Fronts.{strip, run_len}
+use Rattle.vax_reader.specs.Fronts.{strip}
 use Rattle.vax_core.specs.Mnemonics.{op_of}
 use Rattle.vax_reader.specs.Lines.{in_word, word_at, behind_word, named_front}
 use Rattle.vax_reader.specs.Kinds.{same, is_area_word, is_code_word, is_allowed, behind_first_tab, begins_allowed, is_label_line, has_line_feed, kind_of}

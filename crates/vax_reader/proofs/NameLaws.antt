@@ -1,7 +1,7 @@
 -- A name or a register at the front is its one spelling, and each spelling is found.
 use Rattle.std.proofs.Common.{◌≡◌, ℕ, suc, ◌≤◌, Bool, true, false, cond, eqb, leb, ◌&&◌, List, [], ◌∷◌, ◌++◌, length, take, drop, Option, Some, refl, sym, ap, subst, ◌∙◌, arith, append_assoc}
 use Rattle.std.specs.Prelude.{codes}
-use Rattle.std.specs.List.{list_all}
+use Rattle.std.specs.List.{list_all, prefix_len as run_len}
 use Rattle.std.specs.Option.{option_and_then}
 use Rattle.std.specs.Fmt.{decimal, digits}
 use Rattle.std.proofs.lemmas.Bool.{eqb-true, leb-true, le-leb, and_parts}
@@ -13,7 +13,7 @@ use Rattle.vax_core.specs.declared.register.Reg.TheVariants.{R0, R1, R2, R3, R4,
 use Rattle.vax_core.specs.Registers.{reg_text}
 use Rattle.vax_core.specs.Text.{at_text}
 use Rattle.vax_core.specs.Valid.{is_name_start, is_name_part, is_name}
-use Rattle.vax_reader.specs.Fronts.{strip, run_len, number_front, name_of, name_front, general, numbered, general_front, found_reg, reg_front, closed, at_front}
+use Rattle.vax_reader.specs.Fronts.{strip, number_front, name_of, name_front, general, numbered, general_front, found_reg, reg_front, closed, at_front}
 use Rattle.vax_reader.proofs.Choices.{either_some, map_some}
 use Rattle.vax_reader.proofs.FrontLaws.{strip_takes, EndsNumber, number_takes, number_again}
 

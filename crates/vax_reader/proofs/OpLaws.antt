@@ -1,12 +1,13 @@
 -- What holds of each row of the instruction table, and how a mnemonic is looked up.
 use Rattle.std.proofs.Common.{◌≡◌, ℕ, List, ◌∷◌, ◌++◌, length, None, refl}
 use Rattle.std.specs.Prelude.{codes}
+use Rattle.std.specs.List.{prefix_len as run_len}
 use Rattle.vax_core.specs.declared.op.Op.{Op}
 use Rattle.vax_core.specs.declared.op.Op.TheVariants.{Movb, Movw, Movl, Clrb, Clrw, Clrl, Mnegl, Mcoml, Pushl, Cvtbl, Cvtwl, Cvtlb, Cvtlw, Movzbl, Movzwl, Movab, Movaw, Moval}
 use Rattle.vax_core.specs.declared.op.Op.TheVariants.{Addl2, Addl3, Subl2, Subl3, Mull2, Mull3, Divl2, Divl3, Incl, Decl, Bisl2, Bisl3, Bicl2, Bicl3, Xorl2, Xorl3, Bitl, Ashl}
 use Rattle.vax_core.specs.declared.op.Op.TheVariants.{Cmpb, Cmpw, Cmpl, Tstb, Tstw, Tstl, Jbr, Jeql, Jneq, Jlss, Jleq, Jgtr, Jgeq, Jlssu, Jlequ, Jgtru, Jgequ, Calls, Ret}
 use Rattle.vax_core.specs.Ops.{shape}
-use Rattle.vax_reader.specs.Fronts.{run_len, strip}
+use Rattle.vax_reader.specs.Fronts.{strip}
 use Rattle.vax_reader.specs.Lines.{in_word}
 
 -- a mnemonic is one word
