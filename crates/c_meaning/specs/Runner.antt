@@ -4,6 +4,7 @@ use Rattle.gg_base.specs.declared.run.End.TheVariants as ends
 use Rattle.gg_base.specs.declared.run.SourceTurn.{SourceTurn}
 use Rattle.gg_base.specs.declared.run.SourceTurn.TheVariants as turns
 use Rattle.gg_base.specs.Runs.{Outcome, Runs, Remaining, stop, emit, counted}
+use Rattle.gg_base.specs.Turns.{Turns, counted_from}
 use Rattle.c_program.specs.Programs.{program}
 use Rattle.c_program.specs.Statements.{AnAction, SomeActions}
 use Rattle.c_meaning.specs.declared.flow.Flow.{Flow}
@@ -17,7 +18,7 @@ use Rattle.c_meaning.specs.declared.frame.Frame.{Frame}
 use Rattle.c_meaning.specs.declared.frame.Control.{Control}
 use Rattle.c_meaning.specs.declared.machine.Machine.{Machine}
 use Rattle.c_meaning.specs.State.{State}
-use Rattle.c_meaning.specs.Turns.{answers, Turns}
+use Rattle.c_meaning.specs.Turns.{answers}
 use Rattle.c_meaning.specs.Meaning.{stmt, stmts}
 use Rattle.c_meaning.specs.Programs.{means}
 use Rattle.c_meaning.specs.Work.{act_work, acts_work}
@@ -88,9 +89,6 @@ turn_of finish.Wild = turns.Wild
 turn_of finish.Deep = turns.Deep
 
 -- where a run stands; its number counts from its begin
-abbrev pub counted_from : ℕ → Outcome → Outcome
-counted_from taken o = record { output = o.output; end = o.end; number = taken + o.number }
-
 abbrev pub to_go : Bool → Machine → ℕ → Outcome
 to_go true m left = record { output = []; end = ends.Spent; number = 0 }
 to_go false m left = to_come m left

@@ -1,10 +1,10 @@
 -- The answers of a program's run, one after another.
-use Rattle.std.specs.Prelude.{◌≡◌, ℕ, zero, suc, List, [], ◌∷◌, drop, length}
+use Rattle.std.specs.Prelude.{ℕ, zero, suc, List, [], ◌∷◌, drop, length}
 use Rattle.gg_base.specs.declared.run.End.{End}
 use Rattle.gg_base.specs.declared.run.End.TheVariants as ends
 use Rattle.gg_base.specs.declared.run.SourceTurn.{SourceTurn}
 use Rattle.gg_base.specs.declared.run.SourceTurn.TheVariants as turns
-use Rattle.gg_base.specs.Runs.{Runs, Remaining}
+use Rattle.gg_base.specs.Runs.{Runs}
 
 -- Bytes are written before other answers.
 abbrev pub writing : List ℕ → List SourceTurn → List SourceTurn
@@ -43,18 +43,3 @@ behind_first r n =
 abbrev pub answers : Runs → ℕ → List SourceTurn
 answers r zero = writing (r 0).output (last (r 0).end)
 answers r (suc n) = writing (r 0).output (counting (r 0).end (answers (behind_first r) n))
-
--- An answer is the first of those that were still to come; that of the end is answered again and again.
-abbrev pub Answers : SourceTurn → List SourceTurn → List SourceTurn → Type 0
-Answers turns.Going old new = old ≡ turns.Going ∷ new
-Answers (turns.Wrote b) old new = old ≡ turns.Wrote b ∷ new
-Answers (turns.Ended v) old new = (old ≡ turns.Ended v ∷ []) × (new ≡ old)
-Answers turns.Trapped old new = (old ≡ turns.Trapped ∷ []) × (new ≡ old)
-Answers turns.Wild old new = (old ≡ turns.Wild ∷ []) × (new ≡ old)
-Answers turns.Deep old new = (old ≡ turns.Deep ∷ []) × (new ≡ old)
-Answers turns.Spent old new = (old ≡ turns.Spent ∷ []) × (new ≡ old)
-
--- a run that is done event by event: the answers that are still to come, and what else is
-pub record Turns : Type 0 where
-  pub answers : List SourceTurn
-  pub remaining : Remaining

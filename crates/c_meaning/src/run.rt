@@ -4,12 +4,13 @@ ghost use Rattle.std.specs.Prelude.{◌≡◌, ◌≤◌, true, false, List, ℕ
 ghost use Rattle.gg_base.specs.declared.run.Break.{Break as ABreak};
 ghost use Rattle.gg_base.specs.declared.run.End.TheVariants.{Broken};
 ghost use Rattle.gg_base.specs.Runs.{OneEnd, Advances};
+ghost use Rattle.gg_base.specs.Turns.{Answers};
 ghost use Rattle.c_program.specs.Programs.{AProgram, program as plain};
 ghost use Rattle.c_meaning.specs.State.{State};
 ghost use Rattle.c_meaning.specs.Programs.{source, means};
 ghost use Rattle.c_meaning.specs.Values.{Behind, Task};
 ghost use Rattle.c_meaning.specs.Meaning.{task};
-ghost use Rattle.c_meaning.specs.Turns.{answers, Answers};
+ghost use Rattle.c_meaning.specs.Turns.{answers};
 
 use crate::flow::Event;
 use crate::machine::Machine;
@@ -31,7 +32,7 @@ pub struct SourceRun<'a> {
 
 impl<'a> Model for SourceRun<'a> {
     ghost use Rattle.std.specs.Prelude.{◌+◌, ◌<◌, ◌^◌};
-    ghost use Rattle.c_meaning.specs.Turns.{Turns};
+    ghost use Rattle.gg_base.specs.Turns.{Turns};
 
     ghost Value = { Turns };
 

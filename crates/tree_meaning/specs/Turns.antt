@@ -1,9 +1,10 @@
 -- The answers of a run of trees, one after another.
-use Rattle.std.specs.Prelude.{◌≡◌, ℕ, zero, suc, ◌+◌, ◌≤◌, List, [], ◌∷◌, Option, Some, None, Bool}
+use Rattle.std.specs.Prelude.{◌≡◌, ℕ, zero, suc, ◌≤◌, List, [], ◌∷◌, Option, Some, None, Bool}
 use Rattle.gg_base.specs.declared.run.End.TheVariants as ends
 use Rattle.gg_base.specs.declared.run.SourceTurn.{SourceTurn}
 use Rattle.gg_base.specs.declared.run.SourceTurn.TheVariants as turns
 use Rattle.gg_base.specs.Runs.{Outcome, Remaining, AdvancesBy}
+use Rattle.gg_base.specs.Turns.{Turns, counted_from}
 use Rattle.tree_core.specs.declared.program.TreeProgram.{TreeProgram}
 use Rattle.tree_core.specs.Trees.{grown}
 use Rattle.tree_meaning.specs.declared.machine.Finish.{Finish}
@@ -58,26 +59,7 @@ answers program (suc n) (tree_at w s) = before (turn (tree_step program s (grown
 abbrev pub tree_answers : TreeProgram → List ℕ → ℕ → List SourceTurn
 tree_answers program input n = answers program n (first_at program input)
 
--- An answer is the first of those that were still to come; that of the end is answered again and again.
-abbrev pub Answers : SourceTurn → List SourceTurn → List SourceTurn → Type 0
-Answers turns.Going old new = old ≡ turns.Going ∷ new
-Answers (turns.Wrote b) old new = old ≡ turns.Wrote b ∷ new
-Answers (turns.Ended v) old new = (old ≡ turns.Ended v ∷ []) × (new ≡ old)
-Answers turns.Trapped old new = (old ≡ turns.Trapped ∷ []) × (new ≡ old)
-Answers turns.Wild old new = (old ≡ turns.Wild ∷ []) × (new ≡ old)
-Answers turns.Deep old new = (old ≡ turns.Deep ∷ []) × (new ≡ old)
-Answers turns.Spent old new = (old ≡ turns.Spent ∷ []) × (new ≡ old)
-
 -- ---- what is still to come of it
-
--- the number counts from the run's begin
-abbrev pub counted_from : ℕ → Outcome → Outcome
-counted_from taken o = record { output = o.output; end = o.end; number = taken + o.number }
-
--- a run that is done tree by tree: the answers that are still to come, and what else is
-pub record Turns : Type 0 where
-  pub answers : List SourceTurn
-  pub remaining : Remaining
 
 -- at none where it was answered that the number is used up
 abbrev pub answers_at : TreeProgram → Option Next → ℕ → List SourceTurn

@@ -2,8 +2,9 @@
 
 ghost use Rattle.std.specs.Prelude.{◌≡◌, ◌≤◌, true, false, IfOk, IfErr, IsErr};
 ghost use Rattle.gg_base.specs.Runs.{OneEnd};
+ghost use Rattle.gg_base.specs.Turns.{Answers};
 ghost use Rattle.tree_meaning.specs.Meaning.{tree_run};
-ghost use Rattle.tree_meaning.specs.Turns.{Answers, AdvancesTrees, tree_answers};
+ghost use Rattle.tree_meaning.specs.Turns.{AdvancesTrees, tree_answers};
 
 use crate::machine::Machine;
 use gg_base::laws::lasting_is_enough;
@@ -25,7 +26,7 @@ pub struct TreeRun<'a> {
 
 impl<'a> Model for TreeRun<'a> {
     ghost use Rattle.std.specs.Prelude.{◌+◌, ◌<◌, ◌^◌};
-    ghost use Rattle.tree_meaning.specs.Turns.{Turns};
+    ghost use Rattle.gg_base.specs.Turns.{Turns};
 
     ghost Value = { Turns };
 

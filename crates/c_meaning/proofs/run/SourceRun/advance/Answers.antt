@@ -1,5 +1,5 @@
 use Rattle.std.proofs.Common.{ap}
-use Rattle.c_meaning.specs.Turns.{Turns}
+use Rattle.gg_base.specs.Turns.{Turns}
 use Rattle.c_meaning.proofs.Runs.{wrote, going, stopped, spent_now}
 use Rattle.c_meaning.proofs.Coming.{wrote_next, going_next, end_next, spent_next, spent_again}
 use Rattle.c_meaning.proofs.run.SourceRun.advance.Goals as goal
