@@ -5,6 +5,7 @@ ghost use Rattle.std.specs.Prelude.{slice_set, IfSome};
 ghost use Rattle.sel_regs.specs.declared.pool.Register.{Register};
 ghost use Rattle.sel_regs.specs.Pool.{bit, start_of, IsOldest, older_of};
 
+use std::array;
 use std::marker::Model;
 
 /// A register: outside the pool, free, or taken by a holder.
@@ -35,11 +36,9 @@ impl Pool {
         ensures long { length result ≡ 16 }
         ensures each { (r : ℕ) → r < 16 → slice_get result r ≡ Some (start_of registers r) }
     {
-        let mut all = [Register::Outside; 16];
-        for r in 0..16u8 {
-            all[r as usize] = start(registers, r);
+        Pool {
+            registers: array::from_fn(|r| start(registers, r as u8)),
         }
-        Pool { registers: all }
     }
 
     /// Takes the lowest free register.
