@@ -1,22 +1,41 @@
--- What the fields of a call mean, as they change.
-use Rattle.std.proofs.Common.{◌≡◌, ℕ, zero, suc, ◌+◌, List, [], ◌∷◌, ◌++◌, take, drop, reverse, refl, sym, ap, ◌∙◌, arith}
-use Rattle.std.proofs.lemmas.List.{reverse-append}
+-- Where a label first stands.
+use Rattle.std.proofs.Common.{◌≡◌, ℕ, suc, ◌+◌, ◌==◌, List, [], ◌∷◌, Bool, true, false, not, Option, Some, None, cond, length, drop, refl, sym, ap, subst, ◌∙◌, arith}
+use Rattle.std.proofs.lemmas.Bool.{ltb-false}
+use Rattle.std.proofs.lemmas.List.{drop_all}
+use Rattle.std.proofs.Math.Dec.{ltb}
+use Rattle.std.specs.List.{position_or_len}
+use Rattle.std.specs.Option.{MatchOption}
+use Rattle.tree_core.specs.declared.program.TreeItem.{TreeItem}
+use Rattle.tree_core.specs.declared.program.TreeItem.TheVariants.{Label, Root}
+use Rattle.tree_meaning.specs.State.{is_label, behind}
 
-drop_nil : (i : ℕ) → drop {A = ℕ} i [] ≡ []
-drop_nil zero = refl
-drop_nil (suc i) = refl
-
--- one more of a list is taken
-pub one_taken : (i v : ℕ) (xs ys : List ℕ) → drop i xs ≡ v ∷ ys → (take (i + 1) xs ≡ take i xs ++ v ∷ []) × (drop (i + 1) xs ≡ ys)
-one_taken i v [] ys e = absurd (nil_cons (sym (drop_nil i) ∙ e))
+-- the items behind a label stand behind the first item that is it
+behind_first : (l : ℕ) (is : List TreeItem) → behind is l ≡ drop (position_or_len (is_label l) is + 1) is
+behind_first l [] = refl
+behind_first l (Root w ∷ is) =
+    let p = position_or_len (is_label l) is in
+    let on : suc (p + 1) ≡ 1 + p + 1 = omega arith in
+    behind_first l is ∙ ap (λ k. drop k (Root w ∷ is)) on
+behind_first l (Label m ∷ is) = by (m == l) (behind_first l is)
   where
-    nil_cons : [] ≡ v ∷ ys → ⊥
-    nil_cons q = cc
-one_taken zero v (x ∷ xs) ys e = (ap (λ (y : ℕ). y ∷ []) (let z : x ≡ v = cc in z), (let z : xs ≡ ys = cc in z))
-one_taken (suc i) v (x ∷ xs) ys e =
-    let h = one_taken i v xs ys e in
-    let z : suc i + 1 ≡ suc (i + 1) = omega arith in
-    rw z (ap (λ (zs : List ℕ). x ∷ zs) h.0, h.1)
+    p : ℕ
+    p = position_or_len (is_label l) is
 
-pub last_of : (items rest : List ℕ) (v : ℕ) → items ≡ rest ++ v ∷ [] → reverse items ≡ v ∷ reverse rest
-last_of items rest v e = ap (λ (t : List ℕ). reverse t) e ∙ reverse-append rest (v ∷ [])
+    by : (b : Bool) → behind is l ≡ drop (p + 1) is → cond b is (behind is l) ≡ drop (cond (not b) (1 + p) 0 + 1) (Label m ∷ is)
+    by true e = refl
+    by false e = let on : suc (p + 1) ≡ 1 + p + 1 = omega arith in e ∙ ap (λ k. drop k (Label m ∷ is)) on
+
+module _ (l : ℕ) (is : List TreeItem) where
+  -- what stands behind the label, by its first place
+  abbrev pub BehindIs : Option ℕ → Type 0
+  BehindIs r = MatchOption r (behind is l ≡ []) (λ at. behind is l ≡ drop (at + 1) is)
+
+  pub behind_found : (r : Option ℕ) → r ≡ cond (ltb (position_or_len (is_label l) is) (length is)) (Some (position_or_len (is_label l) is)) None → BehindIs r
+  behind_found r e = subst BehindIs (sym e) (by (ltb p (length is)) refl)
+    where
+      p : ℕ
+      p = position_or_len (is_label l) is
+
+      by : (b : Bool) → ltb p (length is) ≡ b → BehindIs (cond b (Some p) None)
+      by true t = behind_first l is
+      by false t = behind_first l is ∙ drop_all (p + 1) is (omega (arith, ltb-false p (length is) t))

@@ -1,5 +1,5 @@
 -- Where a run of a tree program stands.
-use Rattle.std.specs.Prelude.{ℕ, ◌==◌, List, [], ◌∷◌, Option, Some, None, cond}
+use Rattle.std.specs.Prelude.{ℕ, ◌==◌, List, [], ◌∷◌, Option, Some, None, Bool, false, cond}
 use Rattle.tree_core.specs.declared.tree.Leaf.{Leaf}
 use Rattle.tree_core.specs.declared.program.TreeItem.{TreeItem}
 use Rattle.tree_core.specs.declared.program.TreeItem.TheVariants as tree_item
@@ -45,6 +45,10 @@ behind_if (Some m) l is rest = cond (m == l) is rest
 abbrev pub label_of : TreeItem → Option ℕ
 label_of (tree_item.Label l) = Some l
 label_of (tree_item.Root w) = None
+
+abbrev pub is_label : ℕ → TreeItem → Bool
+is_label l (tree_item.Label m) = m == l
+is_label l (tree_item.Root w) = false
 
 abbrev pub behind : List TreeItem → ℕ → List TreeItem
 behind [] l = []

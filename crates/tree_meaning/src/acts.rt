@@ -167,7 +167,7 @@ impl<'a> Machine<'a> {
     {
         match att {
             Att::Callee { function, count } => {
-                let arguments = self.running.take_pushed(alloc, count)?;
+                let arguments = self.running.take_pushed(count)?;
                 self.call_with(alloc, function, arguments)
             }
             _ => {

@@ -2,7 +2,7 @@
 
 ghost use Rattle.std.specs.Prelude.{◌≡◌, ◌∷◌, ◌-◌, IfOk, OnOk, take, drop, reverse, slice_set};
 ghost use Rattle.std.specs.Option.{option_map};
-ghost use Rattle.tree_meaning.specs.State.{begun, with_local, behind, ahead};
+ghost use Rattle.tree_meaning.specs.State.{begun, with_local, is_label, behind, ahead};
 ghost use Rattle.tree_meaning.specs.View.{activation, written};
 
 use std::alloc::{AllocError, Global};
@@ -77,12 +77,12 @@ impl<'a> Frame<'a> {
     }
 
     /// Takes so many of the arguments that were pushed, the last one first.
-    pub(crate) fn take_pushed(&mut self, alloc: Global, count: u32) -> Result<Vec<u32>, AllocError>
+    pub(crate) fn take_pushed(&mut self, count: u32) -> Result<Vec<u32>, AllocError>
         ensures taken { IfOk result (λ args. args.items ≡ take count (activation self.old).pushed) }
         ensures left { OnOk result (activation self.new ≡ record (activation self.old)
             { pushed = drop count (activation self.old).pushed }) }
     {
-        take_last(alloc, &mut self.pushed, count)
+        take_last(&mut self.pushed, count)
     }
 
     /// Goes on behind a label, at its first place in the code.
@@ -106,17 +106,13 @@ fn set_local(locals: &mut Vec<Option<u32>>, number: u32, value: u32) -> Result<(
 }
 
 // Takes so many off the end, the last one first.
-fn take_last(alloc: Global, pushed: &mut Vec<u32>, count: u32) -> Result<Vec<u32>, AllocError>
+fn take_last(pushed: &mut Vec<u32>, count: u32) -> Result<Vec<u32>, AllocError>
     ensures taken { IfOk result (λ args. args.items ≡ take count (reverse pushed.old.items)) }
     ensures left { OnOk result (reverse pushed.new.items ≡ drop count (reverse pushed.old.items)) }
 {
-    let mut arguments = Vec::new(alloc);
-    for _ in 0..count {
-        let Some(value) = pushed.pop() else {
-            return Ok(arguments);
-        };
-        arguments.push(value)?;
-    }
+    let left = pushed.len().saturating_sub(count as usize);
+    let mut arguments = pushed.split_off(left)?;
+    arguments.reverse();
     Ok(arguments)
 }
 
@@ -134,18 +130,22 @@ pub(crate) fn next_root(items: &[TreeItem]) -> Option<(&[Leaf], &[TreeItem])>
     None
 }
 
+// Whether an item is this label.
+fn is_label(item: &TreeItem, label: u32) -> bool
+    ensures { result ≡ is_label label item.now }
+{
+    match item {
+        TreeItem::Label(number) => *number == label,
+        TreeItem::Root(_) => false,
+    }
+}
+
 // The items behind a label's first place.
 fn behind(code: &[TreeItem], label: u32) -> &[TreeItem]
     ensures { result.now ≡ behind code.now label }
 {
-    let mut rest = code;
-    while let Some((item, others)) = rest.split_first() {
-        if let TreeItem::Label(number) = item {
-            if *number == label {
-                return others;
-            }
-        }
-        rest = others;
+    match code.iter().position(|item| is_label(item, label)) {
+        Some(at) => &code[at + 1..],
+        None => &[],
     }
-    rest
 }
