@@ -43,10 +43,7 @@ fn put_label(alloc: Global, label: u32, items: &mut Vec<CodeItem>) -> Result<(),
 fn put_instrs(instrs: Vec<Instr>, items: &mut Vec<CodeItem>) -> Result<(), AllocError>
     ensures { OnOk result (items.new.items ≡ items.old.items ++ code_items instrs.items) }
 {
-    for i in instrs {
-        items.push(CodeItem::Instr(i))?;
-    }
-    Ok(())
+    items.extend(instrs.into_iter().map(CodeItem::Instr))
 }
 
 // Puts the code of an item behind that of others.
