@@ -11,17 +11,11 @@ use std::process::ExitCode;
 
 // The words behind the program's name; none where the system gives none, or one of them is no UTF-8.
 fn command_words(rt: HostRuntime) -> Result<Vec<String>, NoMemory> {
-    let mut words = Vec::new(rt.alloc());
     match env::args(&rt) {
-        Ok(args) => {
-            for word in args.skip(1) {
-                words.push(word)?;
-            }
-        }
-        Err(e) if e.kind() == ErrorKind::OutOfMemory => return Err(NoMemory),
-        Err(_) => {}
+        Ok(args) => Ok(args.skip(1).collect(rt.alloc())?),
+        Err(e) if e.kind() == ErrorKind::OutOfMemory => Err(NoMemory),
+        Err(_) => Ok(Vec::new(rt.alloc())),
     }
-    Ok(words)
 }
 
 fn run(rt: HostRuntime) -> Result<Status, NoMemory> {

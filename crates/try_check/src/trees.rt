@@ -19,12 +19,7 @@ const TOKENS: [Tok; 10] = [
 ];
 
 fn token_named(word: &str) -> Option<Tok> {
-    for token in &TOKENS {
-        if token.name() == word {
-            return Some(*token);
-        }
-    }
-    None
+    TOKENS.iter().copied().find(|token| token.name() == word)
 }
 
 // The node of a line: its number, its token, the numbers of its kids, and a letter for each answer, `y` or `n`.

@@ -18,13 +18,10 @@ const TABLE_LIMIT: u64 = 0x400_0000;
 
 // The words behind the program's name; none where the system gives none.
 fn command_words(rt: HostRuntime) -> Result<Vec<String>, NoMemory> {
-    let mut words = Vec::new(rt.alloc());
-    if let Ok(args) = env::args(&rt) {
-        for word in args.skip(1) {
-            words.push(word)?;
-        }
+    match env::args(&rt) {
+        Ok(args) => Ok(args.skip(1).collect(rt.alloc())?),
+        Err(_) => Ok(Vec::new(rt.alloc())),
     }
-    Ok(words)
 }
 
 // The task that the words behind the table's name ask for.

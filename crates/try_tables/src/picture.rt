@@ -32,14 +32,12 @@ fn name_of<'a>(tables: &'a Tables, symbol: Sym) -> &'a str {
 
 // The class of statements.
 fn statements(tables: &Tables) -> Sym {
-    let mut number: u16 = 0;
-    for class in tables.description().classes() {
-        if class.name.as_slice() == b"stmt".as_slice() {
-            break;
-        }
-        number = number.saturating_add(1);
-    }
-    Sym::Class(number)
+    let classes = tables.description().classes();
+    let number = classes
+        .iter()
+        .position(|class| class.name.as_slice() == b"stmt".as_slice())
+        .unwrap_or(classes.len());
+    Sym::Class(u16::try_from(number).unwrap_or(u16::MAX))
 }
 
 // The right side of an item's rule.
@@ -160,21 +158,14 @@ fn put_kernel(
 
 /// The state to which the symbols lead from the start.
 fn state_of(tables: &Tables, symbols: &[Sym]) -> State {
-    let mut state = State::START;
-    for symbol in symbols {
-        state = tables.over(state, *symbol).unwrap_or(State::START);
-    }
-    state
+    symbols.iter().fold(State::START, |state, symbol| {
+        tables.over(state, *symbol).unwrap_or(State::START)
+    })
 }
 
 // The token of the rules' patterns with this name. Nothing may be taken before any other.
 fn token_of(known: &[Tok], word: &str) -> Option<Tok> {
-    for token in known {
-        if token.name() == word {
-            return Some(*token);
-        }
-    }
-    None
+    known.iter().copied().find(|token| token.name() == word)
 }
 
 // The first choice before a token, done on the stack of symbols.
@@ -267,10 +258,7 @@ fn put_awaited(
 
 /// The item sets on the stack where the parse of the words' tokens stops, from the bottom up, with the symbols between them.
 pub fn stack_picture(alloc: Global, tables: &Tables, words: &str) -> Result<String, AllocError> {
-    let mut all = Vec::new(alloc);
-    for word in words.split(" ") {
-        all.push(word)?;
-    }
+    let all: Vec<&str> = words.split(" ").collect(alloc)?;
     let end = parsed(alloc, tables, &all)?;
     let mut text = String::new(alloc);
     let mut kernel = Vec::from_slice(alloc, &[START])?;

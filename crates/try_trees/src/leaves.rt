@@ -60,21 +60,13 @@ static RELATIONS: [(&str, Rel); 10] = [
 ];
 
 fn token_named(name: &str) -> Option<Tok> {
-    for tok in &TOKENS {
-        if tok.name() == name {
-            return Some(*tok);
-        }
-    }
-    None
+    TOKENS.iter().copied().find(|tok| tok.name() == name)
 }
 
 fn relation_named(name: &str) -> Option<Rel> {
-    for (text, rel) in &RELATIONS {
-        if *text == name {
-            return Some(*rel);
-        }
-    }
-    None
+    RELATIONS
+        .iter()
+        .find_map(|(text, rel)| (*text == name).then_some(*rel))
 }
 
 /// The sort of this name.
