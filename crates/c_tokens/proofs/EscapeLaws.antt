@@ -8,8 +8,8 @@ use Rattle.std.proofs.Math.Seq.{drop-append_seam, take-append_seam}
 use Rattle.std.specs.Option.{option_map}
 use Rattle.std.specs.Prelude.{nat_lt}
 use Rattle.std.proofs.lemmas.List.{length-take-le}
+use Rattle.gg_base.specs.Fronts.{run_len}
 use Rattle.c_tokens.specs.Letters.{is_digit_of}
-use Rattle.std.specs.List.{prefix_len as run_len}
 use Rattle.c_tokens.specs.Numbers.{number_behind}
 use Rattle.c_tokens.specs.Escapes.{named_escape, byte_of, octal_len, octal_escape, hexadecimal_escape, one_longer, numeric_escape, either_escape, escape_of, element_of}
 use Rattle.c_tokens.specs.Grammar.{Pass, Stops, Writes, IsEscape, named, octal, hexadecimal, IsElement, plain, escape}

@@ -7,7 +7,7 @@ use Rattle.std.proofs.lemmas.Bool.{eqb-true, eqb-false, eq-eqb, leb-true}
 use Rattle.std.proofs.lemmas.Bool.Decides.{nat_tests}
 use Rattle.std.proofs.lemmas.Option.{none-some}
 use Rattle.std.proofs.lemmas.List.{drop-drop}
-use Rattle.std.specs.List.{prefix_len as run_len}
+use Rattle.gg_base.specs.Fronts.{run_len}
 use Rattle.c_tokens.specs.declared.pieces.Piece.{Piece}
 use Rattle.c_tokens.specs.declared.marks.Mark.{Mark}
 use Rattle.c_tokens.specs.declared.words.Key.{Key}

@@ -1,8 +1,9 @@
 -- Runs of bytes.
 use Rattle.std.proofs.Common.{◌≡◌, ◌≤◌, ◌+◌, not, ℕ, suc, Bool, true, false, cond, List, [], ◌∷◌, ◌++◌, length, take, drop, refl, ap, arith}
 use Rattle.std.proofs.lemmas.List.Sums.{prefix_len-le-length}
-use Rattle.std.specs.List.{position, position_or_len, prefix_len as run_len}
+use Rattle.std.specs.List.{position, position_or_len}
 use Rattle.std.specs.Option.{unwrap_or}
+use Rattle.gg_base.specs.Fronts.{run_len}
 use Rattle.c_tokens.specs.Grammar.{Pass, Stops, IsRun}
 
 -- what is cut off is the longest run

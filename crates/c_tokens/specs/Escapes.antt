@@ -1,7 +1,7 @@
 -- How an element of a string or of a character constant is read: its value and its length.
 use Rattle.std.specs.Prelude.{ℕ, suc, ◌==◌, nat_lt, List, [], ◌∷◌, take, Option, Some, None, if◌then◌else◌}
 use Rattle.std.specs.Option.{option_map}
-use Rattle.std.specs.List.{prefix_len}
+use Rattle.gg_base.specs.Fronts.{run_len}
 use Rattle.c_tokens.specs.Letters.{is_digit_of}
 use Rattle.c_tokens.specs.Numbers.{number_behind}
 
@@ -17,15 +17,15 @@ byte_of base n ds = option_map (λ (v : ℕ). (v, n)) (number_behind base 255 0 
 
 -- the longest run of up to three octal digits
 abbrev pub octal_len : List ℕ → ℕ
-octal_len ds = prefix_len (is_digit_of 8) (take 3 ds)
+octal_len ds = run_len (is_digit_of 8) (take 3 ds)
 
 abbrev pub octal_escape : List ℕ → Option (ℕ × ℕ)
 octal_escape ds = if octal_len ds == 0 then None else byte_of 8 (octal_len ds) ds
 
 -- the longest run of hexadecimal digits, which is one or two
 abbrev pub hexadecimal_escape : List ℕ → Option (ℕ × ℕ)
-hexadecimal_escape ds = if prefix_len (is_digit_of 16) ds == 0 then None else if nat_lt 2 (prefix_len (is_digit_of 16) ds) then None
-    else byte_of 16 (prefix_len (is_digit_of 16) ds) ds
+hexadecimal_escape ds = if run_len (is_digit_of 16) ds == 0 then None else if nat_lt 2 (run_len (is_digit_of 16) ds) then None
+    else byte_of 16 (run_len (is_digit_of 16) ds) ds
 
 abbrev pub one_longer : Option (ℕ × ℕ) → Option (ℕ × ℕ)
 one_longer None = None

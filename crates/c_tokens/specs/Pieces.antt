@@ -2,7 +2,7 @@
 use Rattle.std.specs.Prelude.{ℕ, zero, suc, ◌+◌, Bool, false, ◌==◌, ◌&&◌, nat_le, nat_lt, List, [], ◌∷◌, length, take}
 use Rattle.std.specs.Prelude.{drop, Option, Some, None, Result, Ok, Err, if◌then◌else◌}
 use Rattle.std.specs.Option.{option_map}
-use Rattle.std.specs.List.{prefix_len}
+use Rattle.gg_base.specs.Fronts.{run_len}
 use Rattle.c_tokens.specs.declared.pieces.Piece.{Piece}
 use Rattle.c_tokens.specs.declared.marks.Mark.{Mark}
 use Rattle.c_tokens.specs.declared.words.Key.{Key}
@@ -42,7 +42,7 @@ abbrev pub word_token : ℕ → List ℕ → Result Token TokenFault
 word_token at word = keyword_or_name at (key_of word) word
 
 abbrev pub word_piece : ℕ → List ℕ → Result Piece TokenFault
-word_piece at text = holds (prefix_len in_word text) (word_token at (take (prefix_len in_word text) text))
+word_piece at text = holds (run_len in_word text) (word_token at (take (run_len in_word text) text))
 
 -- numbers
 abbrev pub number_or_not : ℕ → Option ℕ → Result Token TokenFault
@@ -50,7 +50,7 @@ number_or_not at (Some v) = Ok (token.Number v)
 number_or_not at None = wrong at BadNumber
 
 abbrev pub number_piece : ℕ → List ℕ → Result Piece TokenFault
-number_piece at text = holds (prefix_len in_word text) (number_or_not at (number_of (take (prefix_len in_word text) text)))
+number_piece at text = holds (run_len in_word text) (number_or_not at (number_of (take (run_len in_word text) text)))
 
 -- a byte with its sign copied into 32 bits
 abbrev pub sign_copied : ℕ → ℕ
@@ -122,7 +122,7 @@ mark_piece at text = mark_or_not at (mark_of text)
 abbrev pub slash_piece : ℕ → List ℕ → List ℕ → Result Piece TokenFault
 slash_piece at [] text = mark_piece at text
 slash_piece at (b ∷ bs) text = if b == 42 then comment_or_not at (comment_len bs) else if b ==
-    47 then parts (prefix_len in_line bs + 2) else mark_piece at text
+    47 then parts (run_len in_line bs + 2) else mark_piece at text
 
 -- the piece at the front of a text that begins at the offset
 abbrev pub piece_of : ℕ → List ℕ → Result Piece TokenFault

@@ -1,6 +1,6 @@
 // Classes of bytes, and how long a run of one class is.
 ghost use Rattle.std.specs.Prelude.{◌≡◌, ◌≤◌, length};
-ghost use Rattle.std.specs.List.{prefix_len};
+ghost use Rattle.gg_base.specs.Fronts.{run_len};
 ghost use Rattle.c_tokens.specs.Letters.{is_blank, is_letter, is_digit, in_word, digit_value, is_digit_of, in_line};
 
 /// Whether the byte parts tokens: a space, TAB, LF, CR or FF.
@@ -45,7 +45,7 @@ pub fn digit_value(byte: u8) -> u64
 
 /// How long the word at the front is.
 pub fn word_len(text: &[u8]) -> usize
-    ensures len { result ≡ prefix_len in_word text.now }
+    ensures len { result ≡ run_len in_word text.now }
     ensures bound { result ≤ length text.now }
 {
     text.iter()
@@ -55,7 +55,7 @@ pub fn word_len(text: &[u8]) -> usize
 
 /// How many bytes stand in front of the line's end.
 pub fn line_len(text: &[u8]) -> usize
-    ensures len { result ≡ prefix_len in_line text.now }
+    ensures len { result ≡ run_len in_line text.now }
     ensures bound { result ≤ length text.now }
 {
     text.iter()
@@ -65,7 +65,7 @@ pub fn line_len(text: &[u8]) -> usize
 
 /// How many digits of the base stand at the front.
 pub fn digits_len(base: u64, text: &[u8]) -> usize
-    ensures len { result ≡ prefix_len (is_digit_of base) text.now }
+    ensures len { result ≡ run_len (is_digit_of base) text.now }
     ensures bound { result ≤ length text.now }
 {
     text.iter()

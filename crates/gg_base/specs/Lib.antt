@@ -2,6 +2,7 @@ pub mod Sizes
 pub mod LittleEndian
 pub mod Relations
 pub mod Arithmetic
+pub mod Fronts
 pub mod Runs
 pub mod Turns
 pub mod Lasting

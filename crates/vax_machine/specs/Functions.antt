@@ -15,7 +15,7 @@ use Rattle.vax_machine.specs.declared.function.Test.{Test}
 use Rattle.vax_machine.specs.declared.function.Test.TheVariants as test
 use Rattle.vax_machine.specs.declared.function.Action.{Action}
 use Rattle.vax_machine.specs.declared.function.Action.TheVariants.{Compute, Push, Branch, Call, Return}
-use Rattle.vax_machine.specs.Memory.{low}
+use Rattle.gg_base.specs.Sizes.{low}
 
 -- what a mnemonic does
 abbrev pub action_of : Op → Action

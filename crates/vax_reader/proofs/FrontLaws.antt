@@ -14,8 +14,8 @@ use Rattle.std.proofs.lemmas.List.{take_at, drop_at, take-append-drop}
 use Rattle.std.proofs.lemmas.Option.{none-some, same_Some, some_pair_parts, option_and_then_some, cond_some}
 use Rattle.std.proofs.lemmas.Str.Parse.{IsNumeralModel, numerals_by_value, tells_all_ascii_digits}
 use Rattle.std.proofs.lemmas.Fmt.{digits_decimal, digits_value-decimal, decimal-digits_value, decimal_digit, first_decimal, decimal_nonempty}
-use Rattle.std.specs.List.{prefix_len as run_len}
 use Rattle.gg_base.proofs.Facts.{guarded, unguarded}
+use Rattle.gg_base.specs.Fronts.{run_len}
 use Rattle.vax_core.specs.Text.{signed_text, offset_text}
 use Rattle.vax_reader.specs.Fronts.{strip, is_padded, number_of, number_front, at_most, at_least, up_to, from_one, below_zero, minus_front, signed_front, offset_front}
 use Rattle.vax_reader.proofs.Choices.{either_some, map_some}

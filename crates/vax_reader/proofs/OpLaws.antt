@@ -1,7 +1,7 @@
 -- What holds of each row of the instruction table, and how a mnemonic is looked up.
 use Rattle.std.proofs.Common.{◌≡◌, ℕ, List, ◌∷◌, ◌++◌, length, None, refl}
 use Rattle.std.specs.Prelude.{codes}
-use Rattle.std.specs.List.{prefix_len as run_len}
+use Rattle.gg_base.specs.Fronts.{run_len}
 use Rattle.vax_core.specs.declared.op.Op.{Op}
 use Rattle.vax_core.specs.declared.op.Op.TheVariants.{Movb, Movw, Movl, Clrb, Clrw, Clrl, Mnegl, Mcoml, Pushl, Cvtbl, Cvtwl, Cvtlb, Cvtlw, Movzbl, Movzwl, Movab, Movaw, Moval}
 use Rattle.vax_core.specs.declared.op.Op.TheVariants.{Addl2, Addl3, Subl2, Subl3, Mull2, Mull3, Divl2, Divl3, Incl, Decl, Bisl2, Bisl3, Bicl2, Bicl3, Xorl2, Xorl3, Bitl, Ashl}

@@ -5,7 +5,7 @@ use Rattle.std.specs.Prelude.{Some, None, if◌then◌else◌, codes}
 use Rattle.std.specs.Char.{is_ascii_digit}
 use Rattle.std.specs.Str.Parse.{digits_value}
 use Rattle.std.specs.Option.{option_and_then, option_map}
-use Rattle.std.specs.List.{prefix_len}
+use Rattle.gg_base.specs.Fronts.{run_len}
 use Rattle.vax_core.specs.declared.register.Reg.{Reg}
 use Rattle.vax_core.specs.declared.register.Reg.TheVariants as regs
 use Rattle.vax_core.specs.Valid.{is_name_start, is_name_part}
@@ -36,7 +36,7 @@ number_of (d ∷ ds) rest =
 
 -- the number without sign whose digits are those at the front
 unfoldable pub number_front : List ℕ → Option (ℕ × List ℕ)
-number_front bytes = number_of (take (prefix_len is_ascii_digit bytes) bytes) (drop (prefix_len is_ascii_digit bytes) bytes)
+number_front bytes = number_of (take (run_len is_ascii_digit bytes) bytes) (drop (run_len is_ascii_digit bytes) bytes)
 
 -- a number that is no more than a limit, and one that is also no less than another
 abbrev pub at_most : ℕ → ℕ × List ℕ → Option (ℕ × List ℕ)
@@ -74,7 +74,7 @@ name_of c cs len = if nat_le len 63 then Some (c ∷ take len cs, drop len cs) e
 
 abbrev pub name_front : List ℕ → Option (List ℕ × List ℕ)
 name_front [] = None
-name_front (c ∷ cs) = if is_name_start c then name_of c cs (prefix_len is_name_part cs) else None
+name_front (c ∷ cs) = if is_name_start c then name_of c cs (run_len is_name_part cs) else None
 
 -- the general register of this number
 abbrev pub general : ℕ → Option Reg

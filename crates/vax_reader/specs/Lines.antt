@@ -2,7 +2,7 @@
 use Rattle.std.specs.Prelude.{ℕ, Bool, true, false, not, ◌==◌, ◌||◌, List, [], ◌∷◌, ◌++◌, take, drop, Option}
 use Rattle.std.specs.Prelude.{Some, None, if◌then◌else◌, codes}
 use Rattle.std.specs.Option.{option_and_then, option_map}
-use Rattle.std.specs.List.{prefix_len}
+use Rattle.gg_base.specs.Fronts.{run_len}
 use Rattle.vax_core.specs.declared.operand.Operand.{Operand}
 use Rattle.vax_core.specs.declared.op.Op.{Op}
 use Rattle.vax_core.specs.declared.op.OperandKind.{OperandKind}
@@ -22,10 +22,10 @@ abbrev pub in_word : ℕ → Bool
 in_word c = not ((c == 9) || (c == 10))
 
 abbrev pub word_at : List ℕ → List ℕ
-word_at bytes = take (prefix_len in_word bytes) bytes
+word_at bytes = take (run_len in_word bytes) bytes
 
 abbrev pub behind_word : List ℕ → List ℕ
-behind_word bytes = drop (prefix_len in_word bytes) bytes
+behind_word bytes = drop (run_len in_word bytes) bytes
 
 -- whether more operands or a label follow
 abbrev pub is_last : {A : Type 0} → List A → Bool → Bool

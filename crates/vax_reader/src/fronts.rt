@@ -3,7 +3,7 @@ ghost use Rattle.std.specs.Prelude.{◌≡◌, ◌+◌, ◌≤◌, ◌^◌, leng
 ghost use Rattle.std.specs.Option.{option_copied, option_map};
 ghost use Rattle.std.specs.Char.{is_ascii_digit};
 ghost use Rattle.std.specs.Str.Parse.{digits_value, AllDigits};
-ghost use Rattle.std.specs.List.{prefix_len};
+ghost use Rattle.gg_base.specs.Fronts.{run_len};
 ghost use Rattle.vax_core.specs.Valid.{is_name_part};
 ghost use Rattle.vax_reader.specs.Fronts.{strip, number_front, up_to, from_one, below_zero, signed_front, offset_front};
 ghost use Rattle.vax_reader.specs.Fronts.{name_front, general, reg_front, at_front};
@@ -26,7 +26,7 @@ pub fn strip<'a>(word: &[u8], bytes: &'a [u8]) -> Option<&'a [u8]>
 }
 
 fn digit_len(bytes: &[u8]) -> usize
-    ensures len { result ≡ prefix_len is_ascii_digit bytes.now }
+    ensures len { result ≡ run_len is_ascii_digit bytes.now }
     ensures within { result ≤ length bytes.now }
 {
     bytes
@@ -117,7 +117,7 @@ pub fn offset(bytes: &[u8]) -> Option<(u32, &[u8])>
 }
 
 fn name_part_len(bytes: &[u8]) -> usize
-    ensures len { result ≡ prefix_len is_name_part bytes.now }
+    ensures len { result ≡ run_len is_name_part bytes.now }
     ensures within { result ≤ length bytes.now }
 {
     bytes

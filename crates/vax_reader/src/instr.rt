@@ -1,7 +1,7 @@
 // Instructions at the front of some bytes.
 ghost use Rattle.std.specs.Prelude.{◌≡◌, ◌≤◌, [], length};
 ghost use Rattle.std.specs.Option.{option_copied};
-ghost use Rattle.std.specs.List.{prefix_len};
+ghost use Rattle.gg_base.specs.Fronts.{run_len};
 ghost use Rattle.vax_reader.specs.Lines.{in_word, is_last, comma};
 ghost use Rattle.vax_reader.specs.Lines.{operands_front, target_front, behind_mnemonic, instr_front};
 ghost use Rattle.vax_reader.specs.Answers.{Gives};
@@ -16,7 +16,7 @@ use vax_core::{Instr, Op, OperandKind, Operands};
 
 /// The length of the word at the front, which ends before a TAB, a line feed or the end.
 pub fn word_len(bytes: &[u8]) -> usize
-    ensures len { result ≡ prefix_len in_word bytes.now }
+    ensures len { result ≡ run_len in_word bytes.now }
     ensures within { result ≤ length bytes.now }
 {
     bytes

@@ -15,7 +15,7 @@ use Rattle.vax_machine.specs.declared.function.Function.{Function}
 use Rattle.vax_machine.specs.declared.function.Function.TheVariants as functions
 use Rattle.vax_machine.specs.Functions.{valued, quotient, applied}
 use Rattle.vax_machine.specs.Functions as machine
-use Rattle.vax_machine.specs.Memory.{low}
+use Rattle.gg_base.specs.Sizes.{low}
 use Rattle.vax_templates.specs.Giving.{given, extended, truncated}
 use Rattle.vax_target_operands.specs.Scenes.{Scene, worth}
 use Rattle.vax_target_operands.specs.Conditions.{Compared, Tested, Gets, Quotient, IsGiven, AreNarrow, FunctionsMean}

@@ -1,0 +1,7 @@
+-- What stands at the front of bytes.
+use Rattle.std.specs.Prelude.{Bool, ℕ, suc, List, [], ◌∷◌, if◌then◌else◌}
+
+-- how many bytes at the front pass the test
+abbrev pub run_len : (ℕ → Bool) → List ℕ → ℕ
+run_len test [] = 0
+run_len test (b ∷ bs) = if test b then suc (run_len test bs) else 0
