@@ -38,8 +38,8 @@ fn nexts(alloc: Global, items: &[CodeItem]) -> Result<Vec<usize>, AllocError>
 {
     let mut nexts = vec![in alloc; 0usize; items.len()]?;
     let mut next = items.len();
-    for place in (0..items.len()).rev() {
-        match &items[place] {
+    for (place, item) in items.iter().enumerate().rev() {
+        match item {
             CodeItem::Label(_) | CodeItem::Globl(_) => {}
             CodeItem::Mask(_) | CodeItem::Instr(_) => next = place,
         }
