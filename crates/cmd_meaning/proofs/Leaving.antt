@@ -1,5 +1,5 @@
 -- How a file is read as a source, and how its run is told.
-use Rattle.std.proofs.Common.{◌≡◌, ℕ, List, false, Err, refl, sym, ap, subst, ◌∙◌}
+use Rattle.std.proofs.Common.{◌≡◌, ℕ, List, false, Err, refl, ap, subst, ◌∙◌}
 use Rattle.gg_base.specs.declared.place.Place.{Place}
 use Rattle.gg_base.specs.declared.run.Break.{Break}
 use Rattle.gg_base.specs.declared.run.End.{End}

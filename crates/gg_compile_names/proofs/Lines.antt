@@ -22,7 +22,7 @@ use Rattle.vax_machine.specs.Labels.{is_service, is_call, has_label, first_of, u
 use Rattle.vax_templates.specs.declared.form.Form.{Form}
 use Rattle.vax_templates.specs.Instructions.{Instruction, Relation, Jump, Calls, Ret, Operates, instruction_of}
 use Rattle.vax_templates.specs.Filled.{attr_at, filled}
-use Rattle.vax_templates.specs.FilledLines.{op_in, label_of_att, label_in, label_among, branch_to, callee_among, service_name, function_name, callee_name, call_of, filled_instruction}
+use Rattle.vax_templates.specs.FilledLines.{op_in, label_of_att, label_in, label_among, branch_to, callee_among, function_name, call_of, filled_instruction}
 use Rattle.vax_templates.specs.FilledLines as lines
 use Rattle.vax_target_meaning.specs.Vax.{vax}
 use Rattle.sel_parse_lines.specs.Claims.{IsFilled}

@@ -1,5 +1,5 @@
 -- Stacks that lead to states, and states that stacks lead to.
-use Rattle.std.proofs.Common.{◌≡◌, ◌↔◌, ℕ, zero, suc, ◌+◌, ◌≤◌, ◌<◌, List, [], ◌∷◌, Option, Some, None, length, get_or, map, slice_get, refl, sym, ap, ◌∙◌, subst, inl, inr, arith}
+use Rattle.std.proofs.Common.{◌≡◌, ℕ, zero, suc, ◌+◌, ◌<◌, List, [], ◌∷◌, Option, Some, None, length, get_or, slice_get, refl, sym, ap, ◌∙◌, subst, arith}
 use Rattle.std.specs.Prelude.{position}
 use Rattle.std.specs.Option.{option_map}
 use Rattle.std.proofs.lemmas.List.FromFn.{get_or-map-range_with_len}
@@ -20,7 +20,7 @@ use Rattle.lr_tables.specs.Rows.{target_of, targets_of, row_of}
 use Rattle.lr_tables.specs.View.{RowView, TableView}
 use Rattle.lr_tables.specs.Built.{IsRows}
 use Rattle.lr_tables.specs.Leads.{target_in, target_at, Leads, nowhere, further}
-use Rattle.lr_tables.proofs.Members.{In, In-slice_get, slice_get-In}
+use Rattle.lr_tables.proofs.Members.{In, slice_get-In}
 use Rattle.lr_tables.proofs.Validity.{is_grammar}
 use Rattle.lr_tables.proofs.Closing.{kernel_valid, set_valid, valid_set, moved_there}
 use Rattle.lr_tables.proofs.Order.{kernel_in, kernel_sorted, set_kernel, sorted_same}
@@ -28,7 +28,7 @@ use Rattle.lr_tables.proofs.Found.{Apart, position_there, head_in, in_some, foun
 use Rattle.lr_tables.proofs.Loops.{target_some}
 use Rattle.lr_tables.proofs.Law.{leads_kernel}
 use Rattle.lr_tables.specs.Over.{SameItems}
-use Rattle.lr_tables_states.specs.States.{HasStack, StatesAreItemSets}
+use Rattle.lr_tables_states.specs.States.{StatesAreItemSets}
 
 -- what stands twice nowhere stands at one place
 one_place : (ks : List (List Item)) → Apart ks → (q p : ℕ) (k : List Item) → slice_get ks q ≡ Some k → slice_get ks p ≡ Some k → q ≡ p

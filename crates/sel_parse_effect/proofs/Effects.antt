@@ -20,7 +20,6 @@ use Rattle.md_reader.specs.declared.types.Sym.{Sym}
 use Rattle.md_reader.specs.State.{Content}
 use Rattle.md_reader.specs.Restrictions.{same_size}
 use Rattle.term_core.specs.Shape.{Shape, Constant, Symbol, LastResult, Memory, Unary, Binary}
-use Rattle.term_core.specs.Value.{Respects}
 use Rattle.term_core.specs.Value as term
 use Rattle.term_core.specs.Facts.{same_as}
 use Rattle.sel_terms.specs.Effects.{ActShape, EffectShape, Value, Number, Address, PlaceHome, PlaceAt, StoreHome, StoreAt, Branch, Push, Call, Save, Return, Jump, norm_effect}

@@ -56,7 +56,7 @@ use Rattle.sel_parse_effect.specs.Standing.{Standing}
 use Rattle.sel_parse_effect.proofs.Giving as giving
 use Rattle.sel_parse_effect.proofs.Giving.{no_save_kind}
 use Rattle.sel_parse_effect.proofs.Reducing as red
-use Rattle.sel_parse_effect.proofs.Reducing.{reg_is, nothing_is, bound, Start, tops, Ready, Brought, brought, Taken, taken}
+use Rattle.sel_parse_effect.proofs.Reducing.{reg_is, nothing_is, bound, tops, Ready, Brought, brought, Taken, taken}
 use Rattle.sel_parse_effect.proofs.Shapes as shapes
 
 -- a rule that begins with Save is that token alone

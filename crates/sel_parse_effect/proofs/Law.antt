@@ -19,7 +19,7 @@ use Rattle.tree_core.specs.declared.program.Object.{Object}
 use Rattle.tree_core.specs.declared.program.TreeProgram.{TreeProgram}
 use Rattle.tree_core.specs.Grammar.{kids, sort_of}
 use Rattle.tree_core.specs.Attributes.{attribute_of, is_of_kind, leaf_fits, end_leaf}
-use Rattle.tree_core.specs.Trees.{Forest, none, tree, leaves_onto, Typed, IsTyped, grown, before}
+use Rattle.tree_core.specs.Trees.{Forest, none, tree, leaves_onto, Typed, IsTyped, grown}
 use Rattle.tree_core.specs.Trees as grammar
 use Rattle.tree_core.proofs.Law.{grows_back}
 use Rattle.tree_meaning.specs.State.{State, sight}

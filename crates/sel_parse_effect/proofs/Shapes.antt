@@ -39,12 +39,12 @@ use Rattle.sel_terms.specs.Wanted.{whole, first_part}
 use Rattle.sel_terms.specs.RuleFacts.{facts_of}
 use Rattle.sel_terms.proofs.Facts.{same_Value}
 use Rattle.sel_terms_meaning.specs.Alike.{ActsAlike}
-use Rattle.sel_terms_trees.specs.Senses.{Sense, OfLeaf, OfNumber, OfPlace, IsPlace, unknown, means_at, StandsFor}
+use Rattle.sel_terms_trees.specs.Senses.{Sense, OfNumber, OfPlace, IsPlace, unknown, means_at}
 use Rattle.sel_terms_trees.specs.Effects.{Gives, GivesBy}
 use Rattle.sel_target.specs.declared.attr.Attr.{Attr}
 use Rattle.sel_target.specs.declared.attr.Attr.TheVariants as attr
 use Rattle.sel_target.specs.Meaning.{Meaning, Extent}
-use Rattle.sel_target.specs.Values.{term_state, value, worth, PlaceIs}
+use Rattle.sel_target.specs.Values.{term_state, value, worth}
 use Rattle.sel_target.specs.Laws.{IsLawful}
 use Rattle.sel_target.specs.Instances.{hole}
 use Rattle.sel_target.specs.Symbols.{first_hole}

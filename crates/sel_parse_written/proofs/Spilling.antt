@@ -26,7 +26,7 @@ use Rattle.sel_parse_stands.specs.Lines.{LinesSave}
 use Rattle.sel_parse_stands.proofs.Saving.{lowest_found}
 use Rattle.sel_parse_lines.proofs.Each.{Each, each_bind}
 use Rattle.sel_parse_slots.proofs.Fine as fine
-use Rattle.sel_parse_slots.proofs.Fine.{words, charge, bits_none, IsFine, fine_spilled}
+use Rattle.sel_parse_slots.proofs.Fine.{charge, bits_none, IsFine, fine_spilled}
 use Rattle.sel_parse_slots.proofs.Counting as counting
 use Rattle.sel_parse_slots.proofs.Counting.{Good, fine_at, slot_kind, Counted, Goes, goes_of, IsDue, due_good, one_good}
 use Rattle.sel_parse_written.specs.Claims.{LinesPass}

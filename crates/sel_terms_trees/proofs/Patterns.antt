@@ -8,7 +8,7 @@ use Rattle.tree_core.specs.declared.token.Sort.{Sort}
 use Rattle.tree_core.specs.declared.token.Sort.TheVariants as sort
 use Rattle.tree_core.specs.declared.program.Object.{Object}
 use Rattle.tree_core.specs.Grammar.{kids, sort_of, fits}
-use Rattle.tree_core.specs.Trees.{Forest, none, tree, sort_fits}
+use Rattle.tree_core.specs.Trees.{Forest, tree, sort_fits}
 use Rattle.tree_meaning.specs.declared.value.Meaning.{Meaning}
 use Rattle.tree_meaning.specs.declared.value.Meaning.TheVariants.{Of, Local, Argument, Memory}
 use Rattle.tree_meaning.specs.Values.{Sight, read, meanings}
@@ -22,7 +22,7 @@ use Rattle.term_core.specs.Shape.{Symbol}
 use Rattle.term_core.specs.Value.{State}
 use Rattle.sel_terms.specs.Parts.{SubtreeShape, Worth, Home, role_of_kind, leaf_part}
 use Rattle.sel_terms.specs.Reading.{below, stack_from}
-use Rattle.sel_terms_trees.specs.Senses.{Sense, OfLeaf, OfNumber, OfPlace, IsPlace, IsNumber, IsSense, sense_at, means, Sensed, StandsFor}
+use Rattle.sel_terms_trees.specs.Senses.{Sense, OfLeaf, OfPlace, IsPlace, IsNumber, IsSense, sense_at, means, Sensed, StandsFor}
 use Rattle.tree_meaning_tame.specs.Tame.{tree_means}
 use Rattle.sel_terms_trees.specs.Senses as sense
 use Rattle.tree_meaning_tame.specs.Tame.{IsTame, Tame}

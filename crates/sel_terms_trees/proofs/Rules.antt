@@ -30,7 +30,7 @@ use Rattle.sel_terms.specs.Effects.{EffectShape}
 use Rattle.sel_terms.specs.Parts.{PartShape, SubtreeShape, Worth, Home, At, Does}
 use Rattle.sel_terms.specs.Wanted.{first_part, whole}
 use Rattle.sel_terms.specs.Reading.{stack_from}
-use Rattle.sel_terms_trees.specs.Senses.{Sense, OfNumber, OfPlace, IsPlace, IsNumber, IsSense, Sensed, StandsFor}
+use Rattle.sel_terms_trees.specs.Senses.{Sense, OfNumber, OfPlace, IsPlace, IsSense, Sensed, StandsFor}
 use Rattle.tree_meaning_tame.specs.Tame.{tree_means}
 use Rattle.sel_terms_trees.specs.Senses as sense
 use Rattle.tree_meaning_tame.specs.Tame.{IsTame, Tame, IsUndivided}

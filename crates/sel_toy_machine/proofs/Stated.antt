@@ -53,7 +53,7 @@ use Rattle.sel_toy_machine.specs.Machine.{Machine, in_register, in_word, long, n
 use Rattle.sel_toy_machine.specs.Forms.{shape_of, is_sized}
 use Rattle.sel_toy_machine.specs.Templates.{undivided, sum, quotient, gives_nothing, found_form, found_shape, is_home, holds_register, symbol}
 use Rattle.sel_toy_machine.specs.Filling.{source_at, operand_at, some_operand, based, branched, jumped, called, saved, filled}
-use Rattle.sel_toy_machine.specs.Running.{taken, read_then, put_area, put_place, taken_in, run, step}
+use Rattle.sel_toy_machine.specs.Running.{taken, read_then, put_area, put_place, taken_in, run}
 use Rattle.sel_toy_machine.specs.Running as running
 use Rattle.sel_toy_machine.specs.Toy.{toy}
 use Rattle.sel_toy_machine.proofs.Spelled.{own_is}

@@ -1,5 +1,5 @@
 -- A frame with words and one without.
-use Rattle.std.proofs.Common.{◌≡◌, ℕ, zero, suc, ◌*◌, ◌^◌, ◌<◌, List, [], ◌∷◌, ◌++◌, refl, sym, ap, ◌∙◌, append_assoc}
+use Rattle.std.proofs.Common.{◌≡◌, ℕ, zero, suc, ◌*◌, ◌^◌, ◌<◌, List, [], ◌∷◌, ◌++◌, refl, ap}
 use Rattle.std.specs.Prelude.{◌≢◌}
 use Rattle.tree_core.specs.Names.{function_label}
 use Rattle.vax_core.specs.declared.register.Reg.TheVariants.{Sp}
@@ -7,7 +7,7 @@ use Rattle.vax_core.specs.declared.op.Op.TheVariants.{Subl2}
 use Rattle.vax_core.specs.declared.code.CodeItem.{CodeItem}
 use Rattle.vax_core.specs.declared.code.CodeItem.TheVariants as item_kind
 use Rattle.vax_core.specs.First.{imm, in_reg}
-use Rattle.vax_frames.specs.Frames.{instr, room_code, end_code, code_items, frame_head, frame_items, IsMaskOf, IsFrameCode}
+use Rattle.vax_frames.specs.Frames.{instr, room_code, end_code, code_items, frame_head, IsMaskOf, IsFrameCode}
 
 pub no_room : (words : ℕ) → words ≡ 0 → code_items (room_code words) ≡ []
 no_room words e = ap (λ (w : ℕ). code_items (room_code w)) e

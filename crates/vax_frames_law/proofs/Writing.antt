@@ -1,11 +1,11 @@
 -- The code of a function can be written, where its body can.
-use Rattle.std.proofs.Common.{◌≡◌, ℕ, zero, suc, ◌*◌, ◌^◌, ◌<◌, ◌≤◌, true, leb, ltb, List, [], ◌∷◌, ◌++◌, refl, sym, ap, ◌∙◌, arith}
+use Rattle.std.proofs.Common.{◌≡◌, ℕ, zero, suc, ◌*◌, ◌^◌, ◌≤◌, true, leb, ltb, List, [], ◌∷◌, ◌++◌, refl, ap, ◌∙◌, arith}
 use Rattle.std.specs.List.{list_all}
 use Rattle.std.proofs.lemmas.Bool.{le-leb, lt-ltb, and_from, and_parts}
 use Rattle.tree_core.specs.Names.{function_label}
 use Rattle.vax_core.specs.declared.code.CodeItem.{CodeItem}
 use Rattle.vax_core.specs.Valid.{is_name, is_code_item}
-use Rattle.vax_frames.specs.Frames.{room_code, end_code, code_items, IsFrameCode}
+use Rattle.vax_frames.specs.Frames.{room_code, end_code, code_items}
 use Rattle.vax_frames_law.specs.Writing.{FrameCodesAreValid}
 
 all_append : (xs ys : List CodeItem) → list_all is_code_item xs ≡ true → list_all is_code_item ys ≡ true → list_all is_code_item (xs ++ ys) ≡ true

@@ -1,6 +1,6 @@
 -- A code that can be written and has no fault begins with a sound machine.
-use Rattle.std.proofs.Common.{◌≡◌, ℕ, zero, suc, ◌+◌, ◌^◌, ◌<◌, ◌≤◌, Bool, true, false, cond, List, [], ◌∷◌, ◌++◌, length, replicate, Option, Some, None, Result, Ok, Err, refl}
-use Rattle.std.proofs.Common.{sym, ap, ◌∙◌, arith, length-append}
+use Rattle.std.proofs.Common.{◌≡◌, ℕ, zero, suc, ◌+◌, ◌^◌, ◌≤◌, Bool, true, false, cond, List, [], ◌∷◌, length, replicate, Option, Some, None, Result, Ok, Err, refl}
+use Rattle.std.proofs.Common.{arith, length-append}
 use Rattle.std.specs.Prelude.{nat_lt}
 use Rattle.std.specs.List.{list_all}
 use Rattle.std.proofs.lemmas.Bool.{ltb-true, ltb-false, and_parts}
@@ -16,7 +16,7 @@ use Rattle.vax_machine.specs.State.{State}
 use Rattle.vax_machine.specs.Area.{zeros, padding, size_at, end_from, area_size, item_bytes, bytes_from, area_bytes}
 use Rattle.vax_machine.specs.Labels.{has_label, label_place}
 use Rattle.vax_machine.specs.Calls.{called}
-use Rattle.vax_machine.specs.Loading.{too_large, no_main, or_undefined, or_double, undefined_name_of, double_label_of, Loads, blank, begun, start}
+use Rattle.vax_machine.specs.Loading.{too_large, no_main, or_undefined, or_double, undefined_name_of, double_label_of, Loads, blank, begun}
 use Rattle.vax_machine.proofs.LayoutLaws.{length-item_bytes}
 use Rattle.vax_machine_lists.specs.Sound.{AllBelow, IsRunning, RunsBeginSound}
 use Rattle.vax_machine_lists.proofs.Longwords.{below_append, four_below, two_below}

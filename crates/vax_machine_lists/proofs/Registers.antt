@@ -1,6 +1,6 @@
 -- An instruction that is no call and no return changes no register but those that its operands name, r0 and sp.
 use Rattle.std.proofs.Common.{◌≡◌, ℕ, ◌^◌, ◌<◌, ◌≤◌, Bool, true, false, cond, List, [], ◌∷◌, Option, Some, None, Result, Ok, Err, refl, sym, ap, ◌∙◌, arith, get_or-set_other}
-use Rattle.std.specs.Prelude.{slice_index, ◌-◌, nat_lt, ◌==◌, ◌&&◌, ◌%◌}
+use Rattle.std.specs.Prelude.{◌-◌, nat_lt, ◌==◌, ◌&&◌, ◌%◌}
 use Rattle.std.specs.Str.{bytes_eq}
 use Rattle.std.proofs.lemmas.Bool.{or_parts, or_from, and_right, eq-eqb, lt-ltb, true≢false}
 use Rattle.gg_base.specs.declared.size.Size.{Size}

@@ -1,12 +1,11 @@
 -- What an instruction takes of an operand on the machine is what the operand's term says.
-use Rattle.std.proofs.Common.{◌≡◌, ℕ, suc, zero, ◌+◌, ◌-◌, ◌*◌, ◌%◌, ◌^◌, ◌<◌, ◌≤◌, ◌==◌, ◌++◌, Bool, true, false, cond, List, [], ◌∷◌, length, map, take, Option, Some, None}
+use Rattle.std.proofs.Common.{◌≡◌, ℕ, suc, zero, ◌+◌, ◌-◌, ◌^◌, ◌<◌, ◌≤◌, ◌==◌, ◌++◌, Bool, true, false, cond, List, [], ◌∷◌, length, map, take, Option, Some, None}
 use Rattle.std.proofs.Common.{Result, Ok, Err, refl, sym, ap, subst, ◌∙◌, arith}
 use Rattle.std.specs.Prelude.{◌||◌}
 use Rattle.std.specs.List.{AllByRecursion}
 use Rattle.std.proofs.lemmas.Bool.{not-false}
 use Rattle.gg_base.specs.declared.size.Size.{Size}
 use Rattle.gg_base.specs.declared.size.Size.TheVariants.{Byte, Word, Long}
-use Rattle.gg_base.specs.LittleEndian.{number_in}
 use Rattle.gg_base.proofs.Facts.{first_false, second_false, err_ok}
 use Rattle.gg_base.specs.Sizes.{low}
 use Rattle.term_core.specs.Shape.{Shape, Constant, Symbol, LastResult, Memory}
@@ -34,7 +33,7 @@ use Rattle.vax_machine.specs.State.{State, reg}
 use Rattle.vax_machine.specs.State as state
 use Rattle.vax_machine.specs.Memory.{read, touched, number_at}
 use Rattle.vax_machine.specs.Operands as machine
-use Rattle.vax_machine_lists.specs.Sound.{IsSound, AllBelow}
+use Rattle.vax_machine_lists.specs.Sound.{IsSound}
 use Rattle.vax_machine_lists.proofs.Longwords.{all_bytes}
 use Rattle.vax_states.proofs.Keeping.{reg_small}
 use Rattle.vax_templates.specs.declared.form.Number.{Number}
@@ -52,20 +51,20 @@ use Rattle.vax_templates.specs.Standing.{SavedPlace, Saved, At, where_own, where
 use Rattle.vax_templates.specs.Standing.{through, at, sum, displaced, pointed, negated, itself, where_base, scaled}
 use Rattle.vax_templates.specs.Standing.{moved, where_indexed, form_where, ◌>>=◌}
 use Rattle.vax_templates.specs.HoleTerms.{constant_of, absolute_term, number_term, own_value, register_term}
-use Rattle.vax_templates.specs.Targets.{Target, ToOwn, ToSlot, ToHome, ToMemory, ToZero, ToSaved, is_long, own_target}
-use Rattle.vax_templates.specs.Targets.{memory_target, zero_target, statement_target, targeted}
+use Rattle.vax_templates.specs.Targets.{Target, ToMemory, ToZero, is_long, own_target}
+use Rattle.vax_templates.specs.Targets.{memory_target, zero_target, targeted}
 use Rattle.vax_templates.specs.Taking.{Taken, taken_term, taken_read, taken_missized, sized, last_result}
 use Rattle.vax_templates.specs.Taking.{cut_term, fetched, pointer_read, addressed, written, both, taken, evaluated}
 use Rattle.vax_templates.specs.Taking.{Arguments, no_arguments, last_of, in_front, all_evaluated}
 use Rattle.vax_templates.specs.Filled.{register_in, operand_in, filled}
 use Rattle.vax_templates.specs.Giving.{truncated}
-use Rattle.vax_target_operands.specs.Scenes.{Scene, worth, role_at, filling_at, OwnIs, IsOwnRegister, Sees}
-use Rattle.vax_target_operands.specs.Places.{StandsAt, InRegister, IsHome, IsWhere, IsReadIfAny, CanStand, Stands}
+use Rattle.vax_target_operands.specs.Scenes.{Scene, worth, role_at, OwnIs, IsOwnRegister, Sees}
+use Rattle.vax_target_operands.specs.Places.{StandsAt, IsWhere, IsReadIfAny, CanStand, Stands}
 use Rattle.vax_target_operands.specs.Conditions.{IsNarrow}
-use Rattle.vax_target_operands.proofs.Binds.{ok_same, Chained, chained}
+use Rattle.vax_target_operands.proofs.Binds.{ok_same, chained}
 use Rattle.vax_target_operands.proofs.Holes.{stands_same, register_stands, own_held, memory_read}
 use Rattle.vax_target_operands.proofs.Forms.{operands_stand}
-use Rattle.vax_target_lines.specs.Takings.{IsTarget, IsDestination, AreRead, CanAim, IsOfSize, AreOfSize, AtSize, last_size, AreArguments, aims, LastIsWritten, MayStand, Takes, OperandsAreTaken}
+use Rattle.vax_target_lines.specs.Takings.{IsTarget, IsDestination, AreRead, CanAim, IsOfSize, AreOfSize, AtSize, last_size, aims, LastIsWritten, MayStand, Takes, OperandsAreTaken}
 
 -- ---- sizes
 

@@ -53,7 +53,7 @@ use Rattle.vax_templates.specs.Instructions.{Instruction, Relation, Jump as Jump
 use Rattle.vax_templates.specs.Standing as where_
 use Rattle.vax_templates.specs.Standing.{Where, where_own, where_hole, where_zero, where_deferred, at, displaced}
 use Rattle.vax_templates.specs.Standing.{pointed, negated, itself, where_base, moved, where_indexed, form_where}
-use Rattle.vax_templates.specs.Standing.{through, ◌>>=◌}
+use Rattle.vax_templates.specs.Standing.{◌>>=◌}
 use Rattle.vax_templates.specs.HoleTerms.{constant_of, address_of, absolute_term, number_term, own_value, register_of}
 use Rattle.vax_templates.specs.HoleTerms.{register_term}
 use Rattle.vax_templates.specs.Targets.{Target, ToOwn, ToSlot, ToHome, ToMemory, ToZero, ToSaved, own_target}
@@ -67,11 +67,11 @@ use Rattle.vax_templates.specs.Deeds.{computed, acted}
 use Rattle.vax_templates.specs.Judging.{is_disordered, in_order, with_reads, checked, operated, instruction_did}
 use Rattle.vax_templates.specs.Judging.{returned, did_behind, read, line_did}
 use Rattle.vax_templates.specs.Found as found_
-use Rattle.vax_templates.specs.Progress.{Progress, start, kept_or_put, progressed, at_line, kept, judged}
+use Rattle.vax_templates.specs.Progress.{Progress, start, kept_or_put, at_line, kept, judged}
 use Rattle.vax_templates.specs.Progress.{lines_judged}
 use Rattle.vax_templates.specs.GiveLines.{left_value, last_deed, register_given, number_given, base_number}
-use Rattle.vax_templates.specs.GiveLines.{address_given, value_given, home_given, place_given, without_index}
-use Rattle.vax_templates.specs.GiveLines.{shape_given, shape_read, given_shape, given_by, given_line}
+use Rattle.vax_templates.specs.GiveLines.{address_given, value_given, home_given, place_given}
+use Rattle.vax_templates.specs.GiveLines.{shape_given, shape_read, given_by, given_line}
 use Rattle.vax_templates.specs.Dropped.{first_dropped, none_dropped}
 use Rattle.vax_templates.specs.Found.{with_divisors, ended, template_found, found, saved_found, saved_give}
 use Rattle.vax_target_narrow.specs.Laws.{EffectsAreNarrow}

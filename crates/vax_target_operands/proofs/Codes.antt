@@ -1,18 +1,17 @@
 -- What the condition codes say of numbers that were compared.
-use Rattle.std.proofs.Common.{◌≡◌, ℕ, ◌+◌, ◌-◌, ◌*◌, ◌%◌, ◌^◌, ◌<◌, ◌≤◌, ◌==◌, ◌⊎◌, inl, inr, Bool, true, false, cond, refl, sym, ap, ◌∙◌, arith, eq-eqb}
+use Rattle.std.proofs.Common.{◌≡◌, ℕ, ◌+◌, ◌-◌, ◌^◌, ◌<◌, ◌≤◌, ◌==◌, ◌⊎◌, inl, inr, Bool, true, false, cond, refl, sym, ap, ◌∙◌, arith, eq-eqb}
 use Rattle.std.specs.Prelude.{nat_lt, nat_le, not, ◌||◌}
 use Rattle.std.proofs.lemmas.Bool.{leb-true, le-leb, lt-leb, lt-ltb, le-ltb}
 use Rattle.std.proofs.lemmas.Bool.Decides.{nat_tests}
 use Rattle.gg_base.specs.declared.size.Size.{Size}
 use Rattle.gg_base.specs.declared.size.Size.TheVariants.{Byte, Word, Long}
-use Rattle.gg_base.specs.declared.relation.Rel.{Rel}
 use Rattle.gg_base.specs.declared.relation.Rel.TheVariants.{Eq, Ne, Lt, Le, Gt, Ge, Ltu, Leu, Gtu, Geu}
 use Rattle.gg_base.specs.Relations.{holds, signed_rank}
 use Rattle.gg_base.specs.Arithmetic.{sext8, sext16, zext8, zext16}
 use Rattle.gg_base.proofs.Facts.{same_bool}
 use Rattle.vax_machine.specs.declared.function.Conditions.{Conditions}
-use Rattle.vax_machine.specs.Functions.{extended, is_negative_at, passes}
-use Rattle.vax_target_operands.specs.Conditions.{test_of, Compared, Tested, IsNarrow}
+use Rattle.vax_machine.specs.Functions.{extended, is_negative_at}
+use Rattle.vax_target_operands.specs.Conditions.{Compared, Tested, IsNarrow}
 
 -- ---- tests of numbers
 

@@ -1,24 +1,22 @@
 -- Each function of the machine computes what its row says of terms.
-use Rattle.std.proofs.Common.{◌≡◌, ℕ, ◌<◌, ◌^◌, false, Option, Some, refl, sym, ap, ◌∙◌}
+use Rattle.std.proofs.Common.{◌≡◌, ℕ, false, Some, refl, sym, ap}
 use Rattle.std.specs.Prelude.{unwrap_or}
 use Rattle.gg_base.specs.declared.size.Size.{Size}
 use Rattle.gg_base.specs.declared.size.Size.TheVariants.{Byte, Word, Long}
 use Rattle.gg_base.specs.Arithmetic.{div32, and32}
 use Rattle.gg_base.proofs.Words.{some_quotient}
-use Rattle.term_core.specs.declared.operator.UnaryOp.TheVariants.{Com}
-use Rattle.term_core.specs.declared.operator.BinaryOp.TheVariants.{Div, And}
-use Rattle.term_core.specs.Shape.{Shape, Constant, Unary, Binary}
+use Rattle.term_core.specs.declared.operator.BinaryOp.TheVariants.{And}
+use Rattle.term_core.specs.Shape.{Shape, Binary}
 use Rattle.term_core.proofs.Values.{small}
 use Rattle.sel_target.specs.Values.{term_state}
 use Rattle.vax_machine.specs.declared.function.Computed.{Computed}
-use Rattle.vax_machine.specs.declared.function.Function.{Function}
 use Rattle.vax_machine.specs.declared.function.Function.TheVariants as functions
 use Rattle.vax_machine.specs.Functions.{valued, quotient, applied}
 use Rattle.vax_machine.specs.Functions as machine
 use Rattle.gg_base.specs.Sizes.{low}
 use Rattle.vax_templates.specs.Giving.{given, extended, truncated}
 use Rattle.vax_target_operands.specs.Scenes.{Scene, worth}
-use Rattle.vax_target_operands.specs.Conditions.{Compared, Tested, Gets, Quotient, IsGiven, AreNarrow, FunctionsMean}
+use Rattle.vax_target_operands.specs.Conditions.{Gets, Quotient, IsGiven, AreNarrow, FunctionsMean}
 use Rattle.vax_target_operands.proofs.Codes.{compare_says, compare_zero_says, test_says}
 
 got : (r : Computed) (P : Computed → Type 0) → P r → Gets (Some r) P

@@ -1,5 +1,5 @@
 -- What an instruction computes, and what the branches behind it find.
-use Rattle.std.specs.Prelude.{◌≡◌, ℕ, ◌*◌, ◌^◌, ◌<◌, Bool, true, false, Option, Some, None}
+use Rattle.std.specs.Prelude.{◌≡◌, ℕ, ◌*◌, ◌^◌, ◌<◌, Bool, true, Option, Some, None}
 use Rattle.gg_base.specs.declared.size.Size.{Size}
 use Rattle.gg_base.specs.Sizes.{bytes_of}
 use Rattle.gg_base.specs.declared.relation.Rel.{Rel}

@@ -1,6 +1,6 @@
 -- What a change of registers and condition codes leaves as it was.
-use Rattle.std.proofs.Common.{◌≡◌, ℕ, ◌+◌, ◌*◌, ◌^◌, ◌<◌, ◌≤◌, ◌==◌, Bool, true, false, cond, List, [], ◌∷◌, Option, Some, None, Result, Ok, Err, refl, sym, ap, subst, ◌∙◌, arith, eq-eqb}
-use Rattle.std.specs.Prelude.{slice_index, nat_lt, ◌||◌, ◌&&◌, length}
+use Rattle.std.proofs.Common.{◌≡◌, ℕ, ◌+◌, ◌<◌, ◌≤◌, ◌==◌, Bool, true, false, List, [], ◌∷◌, Option, Some, None, refl, sym, ap, subst, ◌∙◌, arith, eq-eqb}
+use Rattle.std.specs.Prelude.{nat_lt, ◌||◌, ◌&&◌, length}
 use Rattle.std.specs.Int.{bit_at}
 use Rattle.std.specs.Option.{option_map, option_and_then}
 use Rattle.std.proofs.lemmas.Bool.{lt-ltb, or_right}
@@ -10,7 +10,7 @@ use Rattle.gg_base.specs.Sizes.{bytes_of, low}
 use Rattle.gg_base.specs.Arithmetic.{add32, mul32}
 use Rattle.tree_core.specs.declared.program.TreeProgram.{TreeProgram}
 use Rattle.tree_meaning.specs.State.{State as Trees}
-use Rattle.sel_target.specs.Meaning.{Extent, Spot, RegAt, touches, IsFree}
+use Rattle.sel_target.specs.Meaning.{Extent, Spot, RegAt}
 use Rattle.sel_target.specs.Outcomes.{Untouched, Keeps}
 use Rattle.vax_core.specs.declared.register.Reg.{Reg}
 use Rattle.vax_core.specs.declared.register.Reg.TheVariants.{Fp, Ap, Sp}
@@ -24,9 +24,9 @@ use Rattle.vax_machine.specs.State.{State, reg}
 use Rattle.vax_machine.specs.Area.{resolved}
 use Rattle.vax_machine.specs.Memory.{read, touched}
 use Rattle.vax_states.specs.Stack.{long_at}
-use Rattle.vax_states.specs.Agreeing.{Agrees, HasRoom}
+use Rattle.vax_states.specs.Agreeing.{HasRoom}
 use Rattle.vax_states.proofs.Standing.{kept}
-use Rattle.vax_target_meaning.specs.Reading.{is_own, is_own_place, number_of, number_at, longword, displaced, named, moved, names, at_place, in_memory, reads_by, reads}
+use Rattle.vax_target_meaning.specs.Reading.{is_own, is_own_place, number_of, number_at, displaced, named, moved, names, at_place, in_memory, reads_by, reads}
 use Rattle.vax_target_meaning.specs.Vax.{vax, stands}
 use Rattle.vax_target_runs.specs.Kept.{Differs, RegistersAreKept, CodesAreKept}
 

@@ -10,7 +10,6 @@ use Rattle.term_core.specs.declared.operator.UnaryOp.TheVariants as unary_op
 use Rattle.term_core.specs.Shape.{Shape, Symbol, LastResult, Memory, Unary}
 use Rattle.term_core.proofs.Values.{small}
 use Rattle.sel_terms.specs.Effects as effects
-use Rattle.sel_terms.specs.Effects.{ActShape}
 use Rattle.sel_terms.specs.Same.{same_size}
 use Rattle.sel_terms.proofs.Alike.{equal_sizes}
 use Rattle.sel_target.specs.declared.fault.TemplateKind.{TemplateKind}

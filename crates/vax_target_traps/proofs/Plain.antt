@@ -1,6 +1,6 @@
 -- The terms of a template's first line: no address in them divides.
-use Rattle.std.proofs.Common.{◌≡◌, ℕ, ◌==◌, ◌++◌, Bool, true, false, cond, List, [], ◌∷◌, Option, Some, None, Result, Ok, Err, refl, sym, ap, subst, ◌∙◌}
-use Rattle.std.specs.Prelude.{not, ◌||◌, ◌&&◌}
+use Rattle.std.proofs.Common.{◌≡◌, ℕ, ◌==◌, ◌++◌, Bool, true, false, cond, List, [], ◌∷◌, Option, Some, None, Result, Ok, Err, refl, ap, subst, ◌∙◌}
+use Rattle.std.specs.Prelude.{not, ◌&&◌}
 use Rattle.std.specs.List.{AllByRecursion}
 use Rattle.gg_base.specs.declared.size.Size.{Size}
 use Rattle.gg_base.specs.declared.size.Size.TheVariants.{Byte, Word, Long}
@@ -47,19 +47,19 @@ use Rattle.vax_templates.specs.Standing.{scaled, moved, where_indexed, form_wher
 use Rattle.vax_templates.specs.HoleTerms.{constant_of, address_of, absolute_term, number_term, own_value, register_of}
 use Rattle.vax_templates.specs.HoleTerms.{register_term}
 use Rattle.vax_templates.specs.Targets.{Target, ToOwn, ToSlot, ToHome, ToMemory, ToZero, ToSaved, own_target}
-use Rattle.vax_templates.specs.Targets.{memory_target, zero_target, statement_target, targeted}
-use Rattle.vax_templates.specs.Taking.{Taken, taken_term, taken_read, taken_missized, sized, last_result}
+use Rattle.vax_templates.specs.Targets.{memory_target, zero_target, targeted}
+use Rattle.vax_templates.specs.Taking.{Taken, taken_term, taken_read, taken_missized, last_result}
 use Rattle.vax_templates.specs.Taking.{cut_term, fetched, pointer_read, addressed, written, both, taken, evaluated}
 use Rattle.vax_templates.specs.Taking.{Arguments, no_arguments, last_of, in_front, all_evaluated}
 use Rattle.vax_templates.specs.Giving.{Given, Computes, Divides, Compares, Tests, given, extended, truncated}
-use Rattle.vax_templates.specs.Deeds.{Last, Plain, Compared, Tested, Returning, Ended, Deed, leaves, ends_statement}
-use Rattle.vax_templates.specs.Deeds.{is_relation, branches, is_movl, is_last_result, puts, put, divided, computed}
+use Rattle.vax_templates.specs.Deeds.{Plain, Compared, Tested, Returning, Ended, Deed, leaves}
+use Rattle.vax_templates.specs.Deeds.{is_relation, is_movl, is_last_result, puts, put, divided, computed}
 use Rattle.vax_templates.specs.Deeds.{acted}
 use Rattle.vax_templates.specs.Judging.{in_order, is_disordered, with_reads, checked, operated, instruction_did}
 use Rattle.vax_templates.specs.Judging.{did_behind, line_did}
 use Rattle.vax_templates.specs.Deeds as deeds
 use Rattle.vax_templates.specs.Judging as judging
-use Rattle.vax_target_operands.proofs.Binds.{ok_same, Chained, chained, cond_ok}
+use Rattle.vax_target_operands.proofs.Binds.{ok_same, chained, cond_ok}
 use Rattle.vax_target_lines.specs.Lines.{terms_of_last}
 
 -- a term with no division in it

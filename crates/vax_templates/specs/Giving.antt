@@ -1,5 +1,4 @@
 -- The table of what instructions compute, on terms: one row for each function of the machine.
-use Rattle.std.specs.Prelude.{ℕ}
 use Rattle.gg_base.specs.declared.size.Size.{Size}
 use Rattle.gg_base.specs.declared.size.Size.TheVariants.{Byte, Word, Long}
 use Rattle.term_core.specs.declared.operator.UnaryOp.TheVariants.{Neg, Com, Zx8, Zx16, Sx8, Sx16}
