@@ -4,7 +4,7 @@ use Rattle.std.specs.List.{AllByRecursion}
 use Rattle.vax_target_spelling.proofs.Shapes.{nth_is}
 use Rattle.gg_base.specs.declared.size.Size.{Size}
 use Rattle.gg_base.specs.declared.size.Size.TheVariants.{Long}
-use Rattle.gg_base.proofs.Facts.{err_ok}
+use Rattle.gg_base.proofs.Facts.{err_ok, ok_same}
 use Rattle.tree_core.specs.declared.token.Tok.{Tok}
 use Rattle.tree_core.specs.declared.token.Tok.TheVariants as tok
 use Rattle.tree_core.specs.declared.token.AttKind.TheVariants as att_kind
@@ -54,7 +54,7 @@ use Rattle.vax_templates.specs.Filled.{attr_or, attr_at, addr_in, filled_or_spar
 use Rattle.vax_target_meaning.specs.Running.{course_of}
 use Rattle.vax_target_meaning.specs.Vax.{vax}
 use Rattle.vax_target_operands.specs.Scenes.{Scene, Sees}
-use Rattle.vax_target_operands.proofs.Binds.{ok_same, chained}
+use Rattle.vax_target_operands.proofs.Binds.{chained}
 use Rattle.vax_target_operands.proofs.Holes.{constant_known}
 use Rattle.vax_target_lines.proofs.Short.{shape_short}
 use Rattle.vax_target_runs.specs.Runs.{line_of}

@@ -6,7 +6,7 @@ use Rattle.std.specs.List.{AllByRecursion, list_any}
 use Rattle.std.proofs.lemmas.Bool.{eqb-true}
 use Rattle.gg_base.specs.declared.size.Size.{Size}
 use Rattle.gg_base.specs.declared.size.Size.TheVariants.{Byte, Word, Long}
-use Rattle.gg_base.proofs.Facts.{err_ok}
+use Rattle.gg_base.proofs.Facts.{err_ok, ok_same}
 use Rattle.md_reader_pieces.specs.declared.piece.Piece.{Piece}
 use Rattle.term_core.specs.Shape.{Shape, Constant, Symbol, LastResult, Memory, Unary, Binary}
 use Rattle.sel_terms.specs.Effects.{ActShape}
@@ -63,7 +63,7 @@ use Rattle.vax_target_operands.specs.Scenes.{Scene, worth, filling_at, is_lost, 
 use Rattle.vax_target_operands.specs.Places.{StandsAt, IsHome, MayBeRead, BaseIsShort}
 use Rattle.vax_target_operands.specs.Conditions.{Gets, Quotient, IsGiven, IsNarrow, AreNarrow}
 use Rattle.vax_target_operands.specs.Conditions as codes
-use Rattle.vax_target_operands.proofs.Binds.{ok_same, Chained, chained, cond_ok}
+use Rattle.vax_target_operands.proofs.Binds.{Chained, chained, cond_ok}
 use Rattle.vax_target_operands.proofs.Tables.{functions_mean}
 use Rattle.vax_target_lines.specs.Takings.{IsTarget, IsDestination, AreRead, CanAim, AreOfSize, AtSize, last_size, AreArguments, aims, LastIsWritten, MayStand, Takes}
 use Rattle.vax_target_lines.specs.Lines.{CodesMean, ZeroHolds, IsStored, putting, Puts, IsMet, DoesDeed, with_own, with_last, MayEnd, GoesOn, DoesLine, EndIsRead, NoneIsZero, LinesDo, LinesTrap}

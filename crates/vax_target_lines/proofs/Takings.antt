@@ -6,7 +6,7 @@ use Rattle.std.specs.List.{AllByRecursion}
 use Rattle.std.proofs.lemmas.Bool.{not-false}
 use Rattle.gg_base.specs.declared.size.Size.{Size}
 use Rattle.gg_base.specs.declared.size.Size.TheVariants.{Byte, Word, Long}
-use Rattle.gg_base.proofs.Facts.{first_false, second_false, err_ok}
+use Rattle.gg_base.proofs.Facts.{first_false, second_false, err_ok, ok_same}
 use Rattle.gg_base.specs.Sizes.{low}
 use Rattle.term_core.specs.Shape.{Shape, Constant, Symbol, LastResult, Memory}
 use Rattle.sel_terms.specs.Same.{same_size}
@@ -61,7 +61,7 @@ use Rattle.vax_templates.specs.Giving.{truncated}
 use Rattle.vax_target_operands.specs.Scenes.{Scene, worth, role_at, OwnIs, IsOwnRegister, Sees}
 use Rattle.vax_target_operands.specs.Places.{StandsAt, IsWhere, IsReadIfAny, CanStand, Stands}
 use Rattle.vax_target_operands.specs.Conditions.{IsNarrow}
-use Rattle.vax_target_operands.proofs.Binds.{ok_same, chained}
+use Rattle.vax_target_operands.proofs.Binds.{chained}
 use Rattle.vax_target_operands.proofs.Holes.{stands_same, register_stands, own_held, memory_read}
 use Rattle.vax_target_operands.proofs.Forms.{operands_stand}
 use Rattle.vax_target_lines.specs.Takings.{IsTarget, IsDestination, AreRead, CanAim, IsOfSize, AreOfSize, AtSize, last_size, aims, LastIsWritten, MayStand, Takes, OperandsAreTaken}

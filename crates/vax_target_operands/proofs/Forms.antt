@@ -5,7 +5,7 @@ use Rattle.gg_base.specs.declared.size.Size.{Size}
 use Rattle.gg_base.specs.declared.size.Size.TheVariants.{Byte, Word, Long}
 use Rattle.gg_base.specs.Sizes.{bytes_of}
 use Rattle.gg_base.specs.Arithmetic.{add32, mul32, neg32}
-use Rattle.gg_base.proofs.Facts.{first_false, second_false, err_ok}
+use Rattle.gg_base.proofs.Facts.{first_false, second_false, err_ok, ok_same}
 use Rattle.term_core.specs.Shape.{Shape, Symbol, Memory}
 use Rattle.sel_target.specs.declared.fault.TemplateKind.{TemplateKind}
 use Rattle.sel_target.specs.Values.{IsRead}
@@ -38,7 +38,7 @@ use Rattle.vax_templates.specs.HoleTerms.{constant_of, absolute_term, number_ter
 use Rattle.vax_templates.specs.Filled.{alone, addr_number, register_in, addr_in, number_addr, operand_in, deferred_in, filled_base, with_index, filled}
 use Rattle.vax_target_operands.specs.Scenes.{Scene, worth, role_at, filling_at, is_lost, Means, Sees}
 use Rattle.vax_target_operands.specs.Places.{StandsAt, IsWhere, IsReadIfAny, CanStand, Stands, BaseIsShort, MayBeRead, OperandsStand}
-use Rattle.vax_target_operands.proofs.Binds.{ok_same, Chained, chained}
+use Rattle.vax_target_operands.proofs.Binds.{Chained, chained}
 use Rattle.vax_target_operands.proofs.Machine.{named_located, reg_found, imm_found}
 use Rattle.vax_target_operands.proofs.Holes.{BaseStands, plain_stands, rel_found, rel_deferred, constant_known, number_means, constant_address, number_is, absolute_is, register_is}
 use Rattle.vax_target_operands.proofs.Holes.{alone_stands, pointer_read}

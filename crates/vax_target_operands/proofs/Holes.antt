@@ -4,7 +4,7 @@ use Rattle.std.specs.Prelude.{slice_get}
 use Rattle.std.specs.List.{AllByRecursion}
 use Rattle.gg_base.specs.declared.size.Size.{Size}
 use Rattle.gg_base.specs.declared.size.Size.TheVariants.{Long}
-use Rattle.gg_base.proofs.Facts.{err_ok}
+use Rattle.gg_base.proofs.Facts.{err_ok, ok_same}
 use Rattle.tree_core.specs.Area as trees
 use Rattle.term_core.specs.Shape.{Shape, Constant, Symbol, Memory}
 use Rattle.sel_target.specs.declared.fault.TemplateKind.TheVariants.{NotInstr}
@@ -42,7 +42,6 @@ use Rattle.vax_core.specs.Homes.{home, word_addr}
 use Rattle.vax_target_meaning.specs.Reading.{named, names, reads, displaced}
 use Rattle.vax_target_operands.specs.Scenes.{Scene, worth, role_at, filling_at, is_lost, Means, IsRegister, IsPlace, IsLocal, Names, IsNumber, IsObject, OwnIs, IsOwnRegister, IsOwnSlot, Holds, Sees}
 use Rattle.vax_target_operands.specs.Places.{StandsAt, InRegister, IsHome, IsWhere, CanStand, Stands, IsShort}
-use Rattle.vax_target_operands.proofs.Binds.{ok_same}
 use Rattle.vax_target_operands.proofs.Machine.{area_is_read, named_located, names_stand, ReadsAt, reads_stand, reg_found}
 
 -- an operand is found at one place

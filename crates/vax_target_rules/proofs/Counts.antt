@@ -1,7 +1,7 @@
 -- A template divides in its first line alone.
 use Rattle.std.proofs.Common.{◌≡◌, ℕ, ◌≤◌, ◌++◌, Bool, true, false, cond, List, [], ◌∷◌, length, Option, Some, None, Result, Ok, Err, refl, sym, ap, subst, ◌∙◌, arith}
 use Rattle.std.specs.Prelude.{not, ◌&&◌}
-use Rattle.gg_base.proofs.Facts.{first_false, err_ok}
+use Rattle.gg_base.proofs.Facts.{first_false, err_ok, ok_same}
 use Rattle.md_reader_pieces.specs.declared.piece.Line.{Line}
 use Rattle.md_reader_pieces.specs.declared.piece.Piece.{Piece}
 use Rattle.term_core.specs.Shape.{Shape, Constant}
@@ -31,7 +31,7 @@ use Rattle.vax_templates.specs.Judging.{instruction_did, returned, did_behind, l
 use Rattle.vax_templates.specs.Deeds as deeds
 use Rattle.vax_templates.specs.Judging as judging
 use Rattle.vax_templates.specs.Progress.{Progress, judged, lines_judged}
-use Rattle.vax_target_operands.proofs.Binds.{ok_same, Chained, chained, cond_ok}
+use Rattle.vax_target_operands.proofs.Binds.{Chained, chained, cond_ok}
 use Rattle.vax_target_runs.proofs.Law.{IsJudged, judged_is}
 
 abbrev IsFew : List Shape → Type 0

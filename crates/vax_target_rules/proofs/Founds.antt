@@ -3,7 +3,7 @@ use Rattle.std.proofs.Common.{◌≡◌, ℕ, ◌≤◌, ◌++◌, Bool, true, f
 use Rattle.std.specs.Prelude.{◌||◌, ◌&&◌}
 use Rattle.std.specs.List.{AllByRecursion, list_any, list_all}
 use Rattle.gg_base.specs.declared.size.Size.{Size}
-use Rattle.gg_base.proofs.Facts.{err_ok}
+use Rattle.gg_base.proofs.Facts.{err_ok, ok_same}
 use Rattle.md_reader_pieces.specs.declared.piece.Line.{Line}
 use Rattle.md_reader.specs.declared.types.Kind.{Kind}
 use Rattle.md_reader.specs.declared.types.Class.{Class}
@@ -29,7 +29,7 @@ use Rattle.vax_templates.specs.Progress.{Progress, start, at_line, lines_judged}
 use Rattle.vax_templates.specs.GiveLines.{given_by, given_line}
 use Rattle.vax_templates.specs.Dropped.{contains, act_contains, effect_contains, first_dropped, none_dropped}
 use Rattle.vax_templates.specs.Found.{with_divisors, checked, ended, template_found, found}
-use Rattle.vax_target_operands.proofs.Binds.{ok_same, Chained, chained}
+use Rattle.vax_target_operands.proofs.Binds.{Chained, chained}
 use Rattle.vax_target_runs.proofs.Law.{at_line_is}
 
 -- how a template was judged

@@ -6,7 +6,7 @@ use Rattle.std.specs.Option.{option_map}
 use Rattle.std.specs.List.{AllByRecursion}
 use Rattle.gg_base.specs.declared.size.Size.{Size}
 use Rattle.gg_base.specs.declared.size.Size.TheVariants.{Long}
-use Rattle.gg_base.proofs.Facts.{err_ok}
+use Rattle.gg_base.proofs.Facts.{err_ok, ok_same}
 use Rattle.tree_core.specs.declared.program.TreeProgram.{TreeProgram}
 use Rattle.md_reader_pieces.specs.declared.piece.Line.{Line}
 use Rattle.md_reader.specs.declared.types.Kind.{Kind}
@@ -48,7 +48,6 @@ use Rattle.vax_templates.specs.Filled.{attr_or, numbered, register_in}
 use Rattle.vax_target_meaning.specs.Running.{course_of}
 use Rattle.vax_target_meaning.specs.Vax.{vax}
 use Rattle.vax_target_operands.specs.Scenes.{Scene, worth, role_at, filling_at, Sees}
-use Rattle.vax_target_operands.proofs.Binds.{ok_same}
 use Rattle.vax_target_lines.specs.Lines.{NoneIsZero, EndIsRead, MayEnd}
 use Rattle.vax_target_lines.proofs.Performing.{number_is}
 use Rattle.vax_target_runs.specs.Kept.{Differs}

@@ -3,7 +3,7 @@ use Rattle.std.proofs.Common.{◌≡◌, ℕ, zero, suc, ◌+◌, ◌-◌, ◌^�
 use Rattle.std.proofs.Common.{Result, Ok, Err, refl, sym, ap, subst, ◌∙◌, arith, append-nil, get_or-set_same, get_or-set_other}
 use Rattle.std.specs.Prelude.{slice_index, slice_set, slice_get, not}
 use Rattle.std.specs.List.{AllByRecursion}
-use Rattle.gg_base.proofs.Facts.{err_ok}
+use Rattle.gg_base.proofs.Facts.{err_ok, ok_same}
 use Rattle.md_reader_pieces.specs.declared.piece.Line.{Line}
 use Rattle.md_reader_pieces.specs.declared.piece.Piece.{Piece}
 use Rattle.term_core.specs.Shape.{Shape}
@@ -44,7 +44,7 @@ use Rattle.vax_templates.specs.Filled.{register_in, operand_in, deferred_in}
 use Rattle.vax_templates.specs.FilledLines.{filled_instruction, filled_line, plain_return}
 use Rattle.vax_target_meaning.specs.Vax.{vax}
 use Rattle.vax_target_operands.specs.Scenes.{Scene, worth, role_at, filling_at, is_lost, Means, OwnIs, Holds, Sees}
-use Rattle.vax_target_operands.proofs.Binds.{ok_same, Chained, chained}
+use Rattle.vax_target_operands.proofs.Binds.{Chained, chained}
 use Rattle.vax_target_lines.specs.Takings.{AreRead}
 use Rattle.vax_target_lines.specs.Lines.{CodesMean, ZeroHolds, DoesDeed, with_own, with_last, MayHold, GoesOn, DoesLine, EndIsRead, NoneIsZero}
 use Rattle.vax_target_lines.proofs.Performing.{lines_do}

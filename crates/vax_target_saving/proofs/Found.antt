@@ -1,8 +1,7 @@
 -- What is found of a template of one line: what the line did, and that the effect has what it read.
 use Rattle.std.proofs.Common.{◌≡◌, ℕ, Bool, true, false, cond, Option, Some, None, Result, Ok, Err, List, [], ◌∷◌, refl, subst}
 use Rattle.std.specs.List.{list_all}
-use Rattle.gg_base.proofs.Facts.{err_ok}
-use Rattle.vax_target_operands.proofs.Binds.{ok_same}
+use Rattle.gg_base.proofs.Facts.{err_ok, ok_same}
 use Rattle.md_reader_pieces.specs.declared.piece.Line.{Line}
 use Rattle.md_reader.specs.declared.types.Give.TheVariants as give
 use Rattle.term_core.specs.Shape.{Shape}

@@ -3,6 +3,7 @@ use Rattle.std.proofs.Common.{◌≡◌, inl, inr, ℕ, true, false, cond, Some,
 use Rattle.std.specs.List.{AllByRecursion}
 use Rattle.std.proofs.lemmas.Option.{same_Some}
 use Rattle.gg_base.specs.declared.size.Size.{Size}
+use Rattle.gg_base.proofs.Facts.{ok_same}
 use Rattle.tree_core.specs.declared.program.TreeProgram.{TreeProgram}
 use Rattle.md_reader_pieces.specs.declared.piece.Line.{Line}
 use Rattle.md_reader.specs.declared.types.Kind.{Kind}
@@ -33,7 +34,6 @@ use Rattle.vax_target_meaning.specs.Running as running
 use Rattle.vax_target_meaning.specs.Vax.{vax}
 use Rattle.vax_target_operands.specs.Scenes.{Scene, worth, Sees}
 use Rattle.vax_target_operands.specs.Places.{StandsAt}
-use Rattle.vax_target_operands.proofs.Binds.{ok_same}
 use Rattle.vax_target_lines.specs.Lines.{IsStored, putting, DoesDeed, DoesLine, terms_of_last}
 use Rattle.vax_target_lines.proofs.Performing.{lines_do}
 use Rattle.vax_target_saving.specs.Laws.{with_word}

@@ -2,7 +2,7 @@
 use Rattle.std.proofs.Common.{◌≡◌, ℕ, Bool, true, false, cond, Option, Some, None, Ok, Err, sym, ap, subst, ◌∙◌}
 use Rattle.gg_base.specs.declared.size.Size.{Size}
 use Rattle.gg_base.specs.declared.size.Size.TheVariants.{Byte, Long}
-use Rattle.gg_base.proofs.Facts.{err_ok}
+use Rattle.gg_base.proofs.Facts.{err_ok, ok_same}
 use Rattle.md_reader.specs.declared.types.Kind.TheVariants as kind
 use Rattle.term_core.specs.Shape.{Shape}
 use Rattle.sel_terms.specs.Effects as effects
@@ -24,7 +24,7 @@ use Rattle.vax_templates.specs.Filled.{filled}
 use Rattle.vax_target_meaning.specs.Reading.{names, reads}
 use Rattle.vax_target_operands.specs.Scenes.{Scene, worth, Sees}
 use Rattle.vax_target_operands.specs.Places.{BaseIsShort}
-use Rattle.vax_target_operands.proofs.Binds.{ok_same, chained}
+use Rattle.vax_target_operands.proofs.Binds.{chained}
 use Rattle.vax_target_shapes.specs.Laws.{ShapesStand}
 use Rattle.vax_target_shapes.proofs.Naming.{NamesAt, form_names, plain_names}
 use Rattle.vax_target_shapes.proofs.Valued.{value_reads}

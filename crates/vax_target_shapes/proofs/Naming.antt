@@ -6,7 +6,7 @@ use Rattle.gg_base.specs.declared.size.Size.{Size}
 use Rattle.gg_base.specs.declared.size.Size.TheVariants.{Byte, Word, Long}
 use Rattle.gg_base.specs.Arithmetic.{add32, mul32}
 use Rattle.gg_base.specs.Sizes.{bytes_of}
-use Rattle.gg_base.proofs.Facts.{err_ok}
+use Rattle.gg_base.proofs.Facts.{err_ok, ok_same}
 use Rattle.tree_core.specs.Area as trees
 use Rattle.term_core.specs.Shape.{Shape, Symbol, Memory}
 use Rattle.term_core.proofs.Values.{small}
@@ -39,7 +39,7 @@ use Rattle.vax_target_meaning.specs.Reading as reading
 use Rattle.vax_target_meaning.specs.Reading.{longword, displaced as displaced_by, is_own, named, names, reads}
 use Rattle.vax_target_operands.specs.Scenes.{Scene, worth, role_at, filling_at, Means, Sees}
 use Rattle.vax_target_operands.specs.Places.{BaseIsShort}
-use Rattle.vax_target_operands.proofs.Binds.{ok_same, chained}
+use Rattle.vax_target_operands.proofs.Binds.{chained}
 use Rattle.vax_target_operands.proofs.Holes.{area_bytes, memory_read, number_is, absolute_is, register_is}
 use Rattle.vax_target_operands.proofs.Forms.{displaced_is}
 

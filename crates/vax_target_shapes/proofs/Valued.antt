@@ -4,7 +4,7 @@ use Rattle.std.specs.Prelude.{IsSome}
 use Rattle.gg_base.specs.declared.size.Size.{Size}
 use Rattle.gg_base.specs.declared.size.Size.TheVariants.{Byte, Word, Long}
 use Rattle.gg_base.specs.Arithmetic.{neg32}
-use Rattle.gg_base.proofs.Facts.{err_ok}
+use Rattle.gg_base.proofs.Facts.{err_ok, ok_same}
 use Rattle.gg_base.specs.Sizes.{low}
 use Rattle.term_core.specs.declared.operator.UnaryOp.TheVariants as unary_op
 use Rattle.term_core.specs.Shape.{Shape, Symbol, LastResult, Memory, Unary}
@@ -44,7 +44,7 @@ use Rattle.vax_target_meaning.specs.Reading as reading
 use Rattle.vax_target_meaning.specs.Reading.{longword, is_own_place, number_at, names, reads}
 use Rattle.vax_target_operands.specs.Scenes.{Scene, worth, role_at, filling_at, Means, Sees}
 use Rattle.vax_target_operands.specs.Places.{BaseIsShort}
-use Rattle.vax_target_operands.proofs.Binds.{ok_same, chained}
+use Rattle.vax_target_operands.proofs.Binds.{chained}
 use Rattle.vax_target_operands.proofs.Holes.{memory_read, number_is, constant_known, number_means, constant_address}
 use Rattle.vax_target_reading.proofs.Places.{by_names}
 use Rattle.vax_target_shapes.proofs.Naming.{is_longword, in_area, all_mean, NamesAt, form_names}

@@ -3,7 +3,7 @@ use Rattle.std.proofs.Common.{◌≡◌, ℕ, ◌≤◌, inl, inr, Bool, true, f
 use Rattle.std.specs.Prelude.{is_none}
 use Rattle.gg_base.specs.declared.size.Size.{Size}
 use Rattle.gg_base.specs.declared.size.Size.TheVariants.{Long, Byte}
-use Rattle.gg_base.proofs.Facts.{err_ok}
+use Rattle.gg_base.proofs.Facts.{err_ok, ok_same}
 use Rattle.tree_core.specs.declared.program.TreeProgram.{TreeProgram}
 use Rattle.tree_meaning.specs.State.{State as Trees}
 use Rattle.md_reader.specs.declared.types.Kind.{Kind}
@@ -43,7 +43,7 @@ use Rattle.vax_templates.specs.GiveLines.{left_value, last_deed, register_given,
 use Rattle.vax_templates.specs.GiveLines.{address_given, value_given, place_given, shape_given, shape_read, given_by}
 use Rattle.vax_target_meaning.specs.Vax.{vax, stands}
 use Rattle.vax_target_operands.specs.Scenes.{Scene}
-use Rattle.vax_target_operands.proofs.Binds.{ok_same, chained}
+use Rattle.vax_target_operands.proofs.Binds.{chained}
 use Rattle.vax_target_runs.specs.Runs.{OwnChanged, ZeroChanged, Changed, EndsIn, line_of}
 use Rattle.vax_target_runs.proofs.Kept.{agrees_same, room_same}
 use Rattle.vax_target_rules.proofs.Founds.{IsFound}

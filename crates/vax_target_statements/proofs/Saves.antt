@@ -5,7 +5,7 @@ use Rattle.std.specs.Option.{option_map}
 use Rattle.std.proofs.lemmas.Bool.{lt-ltb}
 use Rattle.gg_base.specs.declared.size.Size.TheVariants.{Long}
 use Rattle.gg_base.specs.Arithmetic.{neg32}
-use Rattle.gg_base.proofs.Facts.{err_ok}
+use Rattle.gg_base.proofs.Facts.{err_ok, ok_same}
 use Rattle.tree_core.specs.declared.program.TreeProgram.{TreeProgram}
 use Rattle.tree_core.specs.declared.token.Tok.{Tok}
 use Rattle.tree_core.specs.declared.token.Tok.TheVariants as tok
@@ -50,7 +50,6 @@ use Rattle.vax_templates.specs.Settings.{hole_of_token, hole_of, holes_of, hole_
 use Rattle.vax_templates.specs.Deeds.{Last, Plain, Compared, Tested, Returning, Ended}
 use Rattle.vax_templates.specs.GiveLines.{last_deed, given_by}
 use Rattle.vax_templates.specs.Progress.{start}
-use Rattle.vax_target_operands.proofs.Binds.{ok_same}
 use Rattle.vax_target_rules.proofs.Founds.{IsFound}
 use Rattle.vax_target_rules.proofs.Instances.{mapped_at, role_is}
 use Rattle.vax_target_rules.proofs.Results.{found_so}

@@ -3,7 +3,7 @@ use Rattle.std.proofs.Common.{◌≡◌, ℕ, ◌==◌, Bool, true, false, cond,
 use Rattle.std.specs.Prelude.{◌&&◌}
 use Rattle.gg_base.specs.declared.size.Size.{Size}
 use Rattle.gg_base.specs.declared.size.Size.TheVariants.{Byte, Word, Long}
-use Rattle.gg_base.proofs.Facts.{err_ok}
+use Rattle.gg_base.proofs.Facts.{err_ok, ok_same}
 use Rattle.md_reader_pieces.specs.declared.piece.Line.{Line}
 use Rattle.md_reader_pieces.specs.declared.piece.Piece.{Piece}
 use Rattle.term_core.specs.Shape.{Shape, Constant}
@@ -50,7 +50,7 @@ use Rattle.vax_templates.specs.Judging.{returned, did_behind, line_did}
 use Rattle.vax_templates.specs.Deeds as deeds
 use Rattle.vax_templates.specs.Judging as judging
 use Rattle.vax_templates.specs.Progress.{Progress, judged, lines_judged}
-use Rattle.vax_target_operands.proofs.Binds.{ok_same, chained, cond_ok}
+use Rattle.vax_target_operands.proofs.Binds.{chained, cond_ok}
 use Rattle.vax_target_runs.proofs.Law.{judged_is}
 
 module _ (s : Setting) (roles : List Hole) (held : Option Shape) where

@@ -1,6 +1,7 @@
 -- Where a divisor is zero, the first line of a rule traps.
 use Rattle.std.proofs.Common.{◌≡◌, ℕ, ◌++◌, Bool, true, false, cond, List, [], ◌∷◌, map, Option, Some, None, Result, Ok, Err, refl, sym, ap, subst, ◌∙◌}
 use Rattle.std.specs.List.{AllByRecursion}
+use Rattle.gg_base.proofs.Facts.{ok_same}
 use Rattle.tree_core.specs.declared.program.TreeProgram.{TreeProgram}
 use Rattle.md_reader_pieces.specs.declared.piece.Line.{Line}
 use Rattle.md_reader.specs.declared.types.Kind.{Kind}
@@ -36,7 +37,7 @@ use Rattle.vax_templates.specs.GiveLines.{last_deed, given_by}
 use Rattle.vax_target_meaning.specs.Running.{course_of, run}
 use Rattle.vax_target_meaning.specs.Vax.{vax}
 use Rattle.vax_target_operands.specs.Scenes.{Scene, Sees}
-use Rattle.vax_target_operands.proofs.Binds.{ok_same, Chained, chained}
+use Rattle.vax_target_operands.proofs.Binds.{Chained, chained}
 use Rattle.vax_target_lines.specs.Lines.{terms_of_last}
 use Rattle.vax_target_lines.proofs.Performing.{lines_trap}
 use Rattle.vax_target_runs.specs.Runs.{line_of}

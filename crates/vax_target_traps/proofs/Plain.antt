@@ -4,7 +4,7 @@ use Rattle.std.specs.Prelude.{not, ◌&&◌}
 use Rattle.std.specs.List.{AllByRecursion}
 use Rattle.gg_base.specs.declared.size.Size.{Size}
 use Rattle.gg_base.specs.declared.size.Size.TheVariants.{Byte, Word, Long}
-use Rattle.gg_base.proofs.Facts.{err_ok}
+use Rattle.gg_base.proofs.Facts.{err_ok, ok_same}
 use Rattle.md_reader_pieces.specs.declared.piece.Piece.{Piece}
 use Rattle.term_core.specs.declared.operator.BinaryOp.{BinaryOp}
 use Rattle.term_core.specs.Shape.{Shape, Constant, Symbol, LastResult, Memory, Unary, Binary}
@@ -59,7 +59,7 @@ use Rattle.vax_templates.specs.Judging.{in_order, is_disordered, with_reads, che
 use Rattle.vax_templates.specs.Judging.{did_behind, line_did}
 use Rattle.vax_templates.specs.Deeds as deeds
 use Rattle.vax_templates.specs.Judging as judging
-use Rattle.vax_target_operands.proofs.Binds.{ok_same, chained, cond_ok}
+use Rattle.vax_target_operands.proofs.Binds.{chained, cond_ok}
 use Rattle.vax_target_lines.specs.Lines.{terms_of_last}
 
 -- a term with no division in it
