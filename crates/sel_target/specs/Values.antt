@@ -3,7 +3,6 @@
 -- the memory and the last result of a tree state.
 use Rattle.std.specs.Prelude.{◌≡◌, ℕ, ◌+◌, ◌-◌, ◌<◌, Bool, true, Option, Some, None, IsSome, unwrap_or, slice_get}
 use Rattle.std.specs.Prelude.{slice_index, length}
-use Rattle.std.specs.Prelude.{slice_index, length}
 use Rattle.gg_base.specs.declared.size.Size.{Size}
 use Rattle.gg_base.specs.declared.size.Size.TheVariants.{Long}
 use Rattle.gg_base.specs.Arithmetic.{add32}

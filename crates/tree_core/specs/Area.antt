@@ -1,6 +1,6 @@
 -- The data area: bytes from the address 65536 on, little-endian, unaligned accesses allowed.
-use Rattle.std.specs.Prelude.{◌≡◌, ℕ, ◌+◌, ◌-◌, Bool, ◌&&◌, nat_le, List, [], ◌∷◌, ◌++◌, length, replicate, take, drop, slice_get, Option, Some, None}
-use Rattle.std.specs.Prelude.{cond}
+use Rattle.std.specs.Prelude.{◌≡◌, ℕ, ◌+◌, ◌-◌, Bool, ◌&&◌, nat_le, List, [], ◌∷◌, ◌++◌, length, replicate, take, drop, slice_get}
+use Rattle.std.specs.Prelude.{Option, Some, None, cond}
 use Rattle.std.specs.Int.{w32, to_le_bytes}
 use Rattle.gg_base.specs.declared.size.Size.{Size}
 use Rattle.gg_base.specs.Sizes.{bytes_of}
