@@ -1,4 +1,5 @@
 -- The stack with its code, a reduction at work on it, and which registers and frame words are free.
+-- This is how the code computes it; what is selected is defined in sel_parse_selected, and sel_parse_joined proves the two alike.
 use Rattle.std.specs.Prelude.{ℕ, ◌-◌, ◌==◌, ◌&&◌, ◌||◌, List, [], take, drop, reverse, Option}
 use Rattle.std.specs.Prelude.{Bool, not}
 use Rattle.std.specs.List.{list_any}

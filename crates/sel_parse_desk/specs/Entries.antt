@@ -1,4 +1,5 @@
 -- What stands beside a symbol of the parse stack, and what the restrictions of a rule ask of it.
+-- This is how the code computes it; what is selected is defined in sel_parse_selected, and sel_parse_joined proves the two alike.
 use Rattle.std.specs.Prelude.{ℕ, ◌==◌, ◌&&◌, List, [], ◌∷◌, map, Option, Some, None, Bool, false}
 use Rattle.std.specs.Int.{bit_at}
 use Rattle.tree_core.specs.declared.token.Tok.{Tok}

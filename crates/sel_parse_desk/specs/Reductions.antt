@@ -1,4 +1,5 @@
 -- What happens at a reduction, in order.
+-- This is how the code computes it; what is selected is defined in sel_parse_selected, and sel_parse_joined proves the two alike.
 use Rattle.std.specs.Prelude.{ℕ, zero, suc, ◌+◌, List, [], ◌∷◌, ◌++◌, length, reverse, Option, Some, None, true, false}
 use Rattle.std.specs.Prelude.{slice_get, slice_set}
 use Rattle.tree_core.specs.declared.program.TreeProgram.{TreeProgram}

@@ -1,4 +1,5 @@
 -- The code that the parse of a tree selects, each question answered by the attributes.
+-- This is how the code computes it; what is selected is defined in sel_parse_selected, and sel_parse_joined proves the two alike.
 use Rattle.std.specs.Prelude.{◌≡◌, ℕ, ◌-◌, List, [], ◌∷◌, Option, Some, None, option_and_then, length, take, slice_get}
 use Rattle.tree_core.specs.declared.tree.Leaf.{Leaf}
 use Rattle.tree_core.specs.declared.program.TreeProgram.{TreeProgram}

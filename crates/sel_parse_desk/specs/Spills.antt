@@ -1,4 +1,5 @@
 -- A register that is due: the lowest free one, or one that an entry gives up.
+-- This is how the code computes it; what is selected is defined in sel_parse_selected, and sel_parse_joined proves the two alike.
 use Rattle.std.specs.Prelude.{ℕ, ◌+◌, ◌&&◌, List, [], ◌∷◌, ◌++◌, Option, Some, None, is_some, slice_get, slice_set}
 use Rattle.std.specs.Prelude.{Bool, not, if◌then◌else◌}
 use Rattle.tree_core.specs.declared.program.TreeProgram.{TreeProgram}
