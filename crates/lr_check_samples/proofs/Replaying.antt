@@ -63,8 +63,10 @@ module _ (rules : List Rule) (stmt : ℕ) where
   turned (accepts n e f) b (more_turns m r) c = let k = rule_of m refl in absurd (not_shifted rules stmt k.reduction e f)
   turned (shifts n e sb x) b (one_turn m) c = let k = rule_of m refl in absurd (k.reduction.no_shift sb)
   turned (shifts n e sb x) b (more_turns m r) c = let k = rule_of m refl in absurd (k.reduction.no_shift sb)
-  turned (blocks {ws = ws} {s = s} {s' = u} n d) b (one_turn m) c = let k = rule_of m refl in absurd (some_none k.number (reduction_same rules stmt ws s k.behind u (Some k.number) None k.reduction d).0)
-  turned (blocks {ws = ws} {s = s} {s' = u} n d) b (more_turns m r) c = let k = rule_of m refl in absurd (some_none k.number (reduction_same rules stmt ws s k.behind u (Some k.number) None k.reduction d).0)
+  turned (blocks {ws = ws} {s = s} {s' = u} n d) b (one_turn m) c =
+      let k = rule_of m refl in absurd (some_none k.number (reduction_same rules stmt ws s k.behind u (Some k.number) None k.reduction d).0)
+  turned (blocks {ws = ws} {s = s} {s' = u} n d) b (more_turns m r) c =
+      let k = rule_of m refl in absurd (some_none k.number (reduction_same rules stmt ws s k.behind u (Some k.number) None k.reduction d).0)
   turned (reduces {at = at} {n = i} {before = before} {ws = ws} {s = s} {s' = u} {o = o} r n d e x) b (one_turn {a = a} m) c =
       let k = rule_of m refl in
       let stack : a ≡ reduced u r = k.same ∙ stacks_same ws s u k.behind i k.number r k.rule d k.reduction e k.there in
