@@ -1,5 +1,5 @@
 // Taking one line after the other.
-ghost use Rattle.std.specs.Prelude.{◌≡◌, ◌≤◌, length, OnOk, IfOk, Some, None};
+ghost use Rattle.std.specs.Prelude.{◌≡◌, ◌≤◌, length, Some, None};
 ghost use Rattle.std.specs.Option.{option_map};
 ghost use Rattle.md_reader_text.specs.Lines.{lines};
 ghost use Rattle.md_reader_text.specs.Words.{words};
@@ -22,7 +22,7 @@ use crate::patterns::{is_sorted, is_tree, kind_at, sort_of_symbol};
 use crate::rows::{is_bare, line_fits, pieces_fit, plain_fits, restriction_fits, shape_fits};
 use crate::symbols::{class_of, is_short, symbols_of};
 use crate::types::{Class, Give, Kind, Restriction, Rule, Sym};
-use gg_base::{Name, NoMemory};
+use gg_base::Name;
 use md_reader_pieces::{Line, Piece, Pieces, line_text, pieces};
 use md_reader_text::is_word;
 use std::alloc::Global;
@@ -72,14 +72,6 @@ pub fn has_stmt(classes: &[Class]) -> bool
     classes.iter().any(|class| is_stmt(class))
 }
 
-fn copied(alloc: Global, bytes: &[u8]) -> Result<Name, NoMemory>
-    ensures { IfOk result (λ n. n ≡ bytes.now) }
-{
-    let mut copy = Vec::new(alloc);
-    copy.extend_from_slice(bytes)?;
-    Ok(Name::from_vec(copy))
-}
-
 impl Reading {
     ghost use Rattle.md_reader.specs.View.{state, Stepped};
 
@@ -92,7 +84,7 @@ impl Reading {
         if class_of(&self.classes, name).is_some() {
             return Err(LineFault::Wrong(DescKind::Twice));
         }
-        let name = copied(alloc, name)?;
+        let name = Name::copy_of(alloc, name)?;
         self.classes.push(Class { name, kind })?;
         Ok(())
     }
