@@ -20,6 +20,14 @@ pub struct Layout {
     pub end: u32,
 }
 
+/// The names of a text whose data area is laid out.
+#[derive(Clone, Copy)]
+pub struct Laid<'b, 'a> {
+    pub names: &'b Names<'a>,
+    pub layout: &'b Layout,
+    ghost laid: { IsLaidOut names.now.layout.now layout.now },
+}
+
 /// So many bytes 0.
 #[tactic(auto, unfolding(crate::specs::Area::zeros))]
 pub(crate) fn zeros(alloc: Global, n: usize) -> Result<Vec<u8>, AllocError>
@@ -76,39 +84,30 @@ pub(crate) fn lay_out(alloc: Global, items: &[AreaItem]) -> Result<Option<Layout
     Ok(Some(Layout { addresses, end: at }))
 }
 
-impl<'a> Names<'a> {
-    fn label_address(&self, layout: &Layout, name: &Name) -> u32
-        requires { IsLaidOut self.now.layout.now layout.now }
-        ensures { result ≡ label_address self.now.layout.now name.now }
+impl<'b, 'a> Laid<'b, 'a> {
+    fn label_address(&self, name: &Name) -> u32
+        ensures { result ≡ label_address self.now.names.now.layout.now name.now }
     {
-        match self.area.get(name.as_slice()) {
-            Some(place) => layout.addresses[place],
-            None => layout.end,
+        match self.names.area.get(name.as_slice()) {
+            Some(place) => self.layout.addresses[place],
+            None => self.layout.end,
         }
     }
 
     /// The number that an address in an operand stands for.
-    pub(crate) fn resolve(&self, layout: &Layout, a: &Addr) -> u32
-        requires { IsLaidOut self.now.layout.now layout.now }
-        ensures { result ≡ resolved self.now.layout.now a.now }
+    pub(crate) fn resolve(&self, a: &Addr) -> u32
+        ensures { result ≡ resolved self.now.names.now.layout.now a.now }
     {
         match &a.name {
             None => a.offset,
-            Some(name) => w32::add(self.label_address(layout, name), a.offset),
+            Some(name) => w32::add(self.label_address(name), a.offset),
         }
     }
 
     // Appends the bytes of an item at an address.
-    fn put_item(
-        &self,
-        layout: &Layout,
-        bytes: &mut Vec<u8>,
-        item: &AreaItem,
-        at: u32,
-    ) -> Result<(), AllocError>
-        requires laid { IsLaidOut self.now.layout.now layout.now }
-        requires valid { is_area_item item.now ≡ true }
-        ensures { OnOk result (bytes.new.items ≡ bytes.old.items ++ item_bytes self.now.layout.now item.now at) }
+    fn put_item(&self, bytes: &mut Vec<u8>, item: &AreaItem, at: u32) -> Result<(), AllocError>
+        requires { is_area_item item.now ≡ true }
+        ensures { OnOk result (bytes.new.items ≡ bytes.old.items ++ item_bytes self.now.names.now.layout.now item.now at) }
     {
         match item {
             AreaItem::Label(_) | AreaItem::Globl(_) => {}
@@ -116,7 +115,7 @@ impl<'a> Names<'a> {
             AreaItem::Byte(n) => bytes.push(*n)?,
             AreaItem::Word(n) => bytes.extend_from_slice(&n.to_le_bytes())?,
             AreaItem::Long(a) => {
-                bytes.extend_from_slice(&self.resolve(layout, a).to_le_bytes())?;
+                bytes.extend_from_slice(&self.resolve(a).to_le_bytes())?;
             }
             AreaItem::Space(n) => put_zeros(bytes, *n)?,
         }
@@ -124,17 +123,16 @@ impl<'a> Names<'a> {
     }
 
     /// The bytes of the data area as a run begins.
-    pub(crate) fn area_bytes(&self, alloc: Global, layout: &Layout) -> Result<Vec<u8>, AllocError>
-        requires laid { IsLaidOut self.now.layout.now layout.now }
-        requires valid { list_all is_area_item self.now.layout.now ≡ true }
-        ensures bytes { IfOk result (λ v. v.items ≡ area_bytes self.now.layout.now) }
+    pub(crate) fn area_bytes(&self, alloc: Global) -> Result<Vec<u8>, AllocError>
+        requires { list_all is_area_item self.now.names.now.layout.now ≡ true }
+        ensures bytes { IfOk result (λ v. v.items ≡ area_bytes self.now.names.now.layout.now) }
         ensures bound { IfOk result (λ v. vec_len v ≤ 1048576) }
     {
         let mut bytes = Vec::new(alloc);
         let mut at = AREA_START;
-        let items = self.layout;
+        let items = self.names.layout;
         for item in items {
-            self.put_item(layout, &mut bytes, item, at)?;
+            self.put_item(&mut bytes, item, at)?;
             at += size_at(item, at);
         }
         Ok(bytes)

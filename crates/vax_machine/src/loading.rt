@@ -1,7 +1,7 @@
 // Making a machine of a code.
 ghost use Rattle.std.specs.Prelude.{◌≡◌, ◌⊎◌, true, None, IfOk, IfErr};
 
-use crate::area::{Layout, lay_out, zeros};
+use crate::area::{Laid, Layout, lay_out, zeros};
 use crate::function::Conditions;
 use crate::label::{Names, area_labels, code_labels};
 use crate::machine::Machine;
@@ -133,12 +133,16 @@ impl<'a> Names<'a> {
         requires valid { list_all is_area_item self.now.layout.now ≡ true }
         ensures { IfOk result (λ m. state m ≡ blank (code_of self.now) input.now) }
     {
+        let laid = Laid {
+            names: self,
+            layout,
+        };
         Ok(Machine {
-            program: self.link(alloc, layout)?,
+            program: laid.link(alloc)?,
             place: 0,
             registers: [0, 0, 0, 0, 0, 0, 0, 0, 0, 0, 0, 0, 0, 0, STACK_TOP],
             conditions: Conditions::CLEARED,
-            area: self.area_bytes(alloc, layout)?,
+            area: laid.area_bytes(alloc)?,
             stack: zeros(alloc, STACK_SIZE as usize)?,
             frames: Frames::new(alloc)?,
             input,

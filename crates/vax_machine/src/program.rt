@@ -2,11 +2,10 @@
 ghost use Rattle.std.specs.Prelude.{◌≡◌, ◌≤◌, ◌<◌, length, map, slice_get, vec_len, IfOk};
 ghost use Rattle.std.specs.Option.{option_copied};
 ghost use Rattle.vax_machine.specs.Labels.{next_item};
-ghost use Rattle.vax_machine.specs.LaidOut.{IsLaidOut};
 ghost use Rattle.vax_machine.specs.Tables.{base_number, operand_number, target_of, links_of};
 ghost use Rattle.vax_machine.specs.Nexts.{HasNexts};
 
-use crate::area::Layout;
+use crate::area::Laid;
 use crate::label::Names;
 use gg_base::Name;
 use std::alloc::{AllocError, Global};
@@ -49,16 +48,26 @@ fn nexts(alloc: Global, items: &[CodeItem]) -> Result<Vec<usize>, AllocError>
 }
 
 impl<'a> Names<'a> {
-    fn base_number(&self, layout: &Layout, base: &Base) -> u32
-        requires { IsLaidOut self.now.layout.now layout.now }
-        ensures { result ≡ base_number self.now.layout.now base.now }
+    fn target(&self, target: &Option<Name>) -> usize
+        ensures { result ≡ target_of self.now.items.now target.now }
+    {
+        match target {
+            None => 0,
+            Some(name) => self.label_place(name.as_slice()),
+        }
+    }
+}
+
+impl<'b, 'a> Laid<'b, 'a> {
+    fn base_number(&self, base: &Base) -> u32
+        ensures { result ≡ base_number self.now.names.now.layout.now base.now }
     {
         match base {
             Base::Imm(a)
             | Base::Disp(a, _)
             | Base::DispDef(a, _)
             | Base::Rel(a)
-            | Base::RelDef(a) => self.resolve(layout, a),
+            | Base::RelDef(a) => self.resolve(a),
             Base::Reg(_)
             | Base::Def(_)
             | Base::Inc(_)
@@ -68,28 +77,17 @@ impl<'a> Names<'a> {
         }
     }
 
-    fn operand_number(&self, layout: &Layout, operand: Option<&Operand>) -> u32
-        requires { IsLaidOut self.now.layout.now layout.now }
-        ensures { result ≡ operand_number self.now.layout.now (option_copied operand.entry) }
+    fn operand_number(&self, operand: Option<&Operand>) -> u32
+        ensures { result ≡ operand_number self.now.names.now.layout.now (option_copied operand.entry) }
     {
         match operand {
             None => 0,
-            Some(operand) => self.base_number(layout, &operand.base),
+            Some(operand) => self.base_number(&operand.base),
         }
     }
 
-    fn target(&self, target: &Option<Name>) -> usize
-        ensures { result ≡ target_of self.now.items.now target.now }
-    {
-        match target {
-            None => 0,
-            Some(name) => self.label_place(name.as_slice()),
-        }
-    }
-
-    fn links(&self, layout: &Layout, item: &CodeItem) -> Links
-        requires { IsLaidOut self.now.layout.now layout.now }
-        ensures { result ≡ links_of self.now.layout.now self.now.items.now item.now }
+    fn links(&self, item: &CodeItem) -> Links
+        ensures { result ≡ links_of self.now.names.now.layout.now self.now.names.now.items.now item.now }
     {
         match item {
             CodeItem::Label(_) | CodeItem::Globl(_) | CodeItem::Mask(_) => Links {
@@ -105,42 +103,38 @@ impl<'a> Names<'a> {
             ) => {
                 let operands = operands.as_slice();
                 Links {
-                    target: self.target(target),
+                    target: self.names.target(target),
                     numbers: [
-                        self.operand_number(layout, operands.get(0)),
-                        self.operand_number(layout, operands.get(1)),
-                        self.operand_number(layout, operands.get(2)),
+                        self.operand_number(operands.get(0)),
+                        self.operand_number(operands.get(1)),
+                        self.operand_number(operands.get(2)),
                     ],
                 }
             }
         }
     }
 
-    fn all_links(&self, alloc: Global, layout: &Layout) -> Result<Vec<Links>, AllocError>
-        requires { IsLaidOut self.now.layout.now layout.now }
-        ensures { IfOk result (λ v. v.items ≡ map (links_of self.now.layout.now self.now.items.now) self.now.items.now) }
+    fn all_links(&self, alloc: Global) -> Result<Vec<Links>, AllocError>
+        ensures { IfOk result (λ v. v.items ≡
+            map (links_of self.now.names.now.layout.now self.now.names.now.items.now) self.now.names.now.items.now) }
     {
-        self.items
+        self.names
+            .items
             .iter()
-            .map(
-                |item|
-                    requires { IsLaidOut self.now.layout.now layout.now }
-                { self.links(layout, item) },
-            )
+            .map(|item| self.links(item))
             .collect(alloc)
     }
 
     /// The code with what its names stand for.
-    pub(crate) fn link(&self, alloc: Global, layout: &Layout) -> Result<Program<'a>, AllocError>
-        requires { IsLaidOut self.now.layout.now layout.now }
-        ensures layout { IfOk result (λ p. p.layout.now ≡ self.now.layout.now) }
-        ensures items { IfOk result (λ p. p.items.now ≡ self.now.items.now) }
+    pub(crate) fn link(&self, alloc: Global) -> Result<Program<'a>, AllocError>
+        ensures layout { IfOk result (λ p. p.layout.now ≡ self.now.names.now.layout.now) }
+        ensures items { IfOk result (λ p. p.items.now ≡ self.now.names.now.items.now) }
     {
         Ok(Program {
-            layout: self.layout,
-            items: self.items,
-            nexts: nexts(alloc, self.items)?,
-            links: self.all_links(alloc, layout)?,
+            layout: self.names.layout,
+            items: self.names.items,
+            nexts: nexts(alloc, self.names.items)?,
+            links: self.all_links(alloc)?,
         })
     }
 }

@@ -1,16 +1,16 @@
 use Rattle.std.proofs.Common.{arith}
 use Rattle.vax_machine.proofs.LayoutLaws.{ends_inside, front_is, bytes_more, end_more, valid_more, long_more}
 use Rattle.vax_machine.specs.Area.{bytes_from, end_from}
-use Rattle.vax_machine.proofs.label.Names.area_bytes.Goals as goal
+use Rattle.vax_machine.proofs.area.Laid.area_bytes.Goals as goal
 
 pub overflow_add-at : goal.overflow_add-at
 overflow_add-at c =
-    let inside = ends_inside c.args.self.now.layout.now c.loop-item.item-index c.loop-item.at c.item-item.result c.loop-item-test.true c.item-item.is c.loop-item.invariant.end in
-    omega (arith, inside, c.requires.laid.end, c.requires.laid.small, c.size_at-at.ensures.size)
+    let inside = ends_inside c.args.self.now.names.now.layout.now c.loop-item.item-index c.loop-item.at c.item-item.result c.loop-item-test.true c.item-item.is c.loop-item.invariant.end in
+    omega (arith, inside, c.args.self.now.laid.end, c.args.self.now.laid.small, c.size_at-at.ensures.size)
 
 pub loop-item-preserved : goal.loop-item-preserved
 loop-item-preserved c =
-    let layout = c.args.self.now.layout.now in
+    let layout = c.args.self.now.names.now.layout.now in
     let i = c.loop-item.item-index in
     let item = c.item-item.result in
     let front = front_is layout i item c.loop-item-test.true c.item-item.is in
