@@ -68,7 +68,7 @@ second_begun A f n i x y kid = Begun.second kid.there kid.two kid.sum kid.first 
 
 pub two_in : (f : FoundView) (n i h : ℕ) (k : Tok) → ((u l : List Sym) → IsList f.lists (list_number f h) u → IsList f.lists (list_number f i) l
     → Settles f n (u ++ (l ++ (grammar_symbol.Tok k ∷ [])))) → TwoIn f n k i h
-two_in f n i h k g = record { settles = λ y z s u j l a b. g u s (list_is f h l z u b) (list_is f i j y s a) }
+two_in f n i h k g = record { settles = λ y z s u j l a b. g u s (list_is f h z u l b) (list_is f i y s j a) }
 
 pub second_found : (A : Automaton) (f : FoundView) (n m i : ℕ) (k : Tok) (y : Place) (sums : List ℕ) → IsFound A f → IsPlaceAt f m y → sums ≡ slice_index_or f.sums m [] →
     ((h : ℕ) → Contains sums h → TwoIn f n k i h) → SecondFound f n k i y

@@ -68,11 +68,11 @@ first_begun A f n x y k = Begun.first y.behind k.there k.two k.fits k.may
 
 -- the list of a sum is also another's
 list_of_both : (f : FoundView) (i n j : ℕ) (y : Place) (s : List Sym) → list_number f n ≡ list_number f i → SumAt f i y s j → IsList f.lists (list_number f n) s
-list_of_both f i n j y s same sum = subst (λ l. IsList f.lists l s) (sym same) (list_is f i j y s sum)
+list_of_both f i n j y s same sum = subst (λ l. IsList f.lists l s) (sym same) (list_is f i y s j sum)
 
 same_list : (f : FoundView) (p n : ℕ) (z : Place) (h : SumOf f z n) (s : List Sym) → z.state ≡ p → IsList f.lists (list_number f n) s → HasListAt f p n s
 same_list f p n z h s state at =
-    let own : IsList f.lists (list_number f n) h.list = list_is f n h.behind z h.list h.sum in
+    let own : IsList f.lists (list_number f n) h.list = list_is f n z h.list h.behind h.sum in
     let e : h.list ≡ s = some_same h.list s (sym own ∙ at) in
     record { place = z; behind = h.behind; sum = subst (λ l. SumAt f n z l h.behind) e h.sum; state = state }
   where

@@ -58,7 +58,7 @@ only_begun A f n x y kid = Begun.only kid.there kid.one kid.fits
 
 pub one_in : (A : Automaton) (f : FoundView) (n i : ℕ) (k : Tok) → IsFound A f →
     ((u l : List Sym) → IsList f.lists (list_number f i) u → IsList f.lists 0 l → Settles f n (u ++ (l ++ (grammar_symbol.Tok k ∷ [])))) → OneIn f n k i
-one_in A f n i k found h = record { settles = λ y s j sum. h s [] (list_is f i j y s sum) found.lists.first }
+one_in A f n i k found h = record { settles = λ y s j sum. h s [] (list_is f i y s j sum) found.lists.first }
 
 pub only_at : (A : Automaton) (f : FoundView) (n m : ℕ) (k : Tok) (y : Place) → IsFound A f → IsPlaceAt f m y → ((i : ℕ) → Contains (slice_index_or f.sums m []) i → OneIn f n k i) → OnlyAt f n k y
 only_at A f n m k y found at each = record {
