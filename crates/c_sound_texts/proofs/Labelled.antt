@@ -1,5 +1,5 @@
 -- The labels of a typed program's objects, as `AreLabelled` has them, and the addresses at their links.
-use Rattle.std.proofs.Common.{◌≡◌, ◌≢◌, ℕ, zero, suc, ◌+◌, ◌%◌, ◌/◌, ◌^◌, ◌<◌, ◌≤◌, ◌==◌, ◌&&◌, true, List, [], ◌∷◌, ◌++◌, length, map, Some, refl}
+use Rattle.std.proofs.Common.{◌≡◌, ◌≢◌, ℕ, zero, suc, ◌+◌, ◌%◌, ◌^◌, ◌<◌, ◌≤◌, ◌==◌, ◌&&◌, true, List, [], ◌∷◌, ◌++◌, length, map, Some, refl}
 use Rattle.std.proofs.Common.{sym, ap, subst, ◌∙◌, arith}
 use Rattle.std.proofs.lemmas.Bool.{and_from, and_parts, le-leb, leb-true, eqb-true}
 use Rattle.std.proofs.lemmas.Bool.Decides.{nat_tests}
@@ -21,7 +21,7 @@ use Rattle.c_tokens.specs.Grammar.{Pass}
 use Rattle.c_typed_scope.specs.declared.entry.Entry.{Entry}
 use Rattle.c_typed_scope.specs.declared.entry.Entry.TheVariants as entries
 use Rattle.c_typed_scope.specs.Scopes.{Scope, find}
-use Rattle.c_typed_scope.specs.Contents.{low_bytes}
+use Rattle.c_typed_scope.proofs.Written.{low_is}
 use Rattle.c_program.specs.Programs.{ARoutine}
 use Rattle.c_sound.specs.Labels.{is_label_start, is_label_part, is_label, entry_label, HoldsAddresses, AreLabelled}
 use Rattle.c_typed_definition.specs.State.{State}
@@ -108,14 +108,6 @@ function_at : (s : Scope) (bodies : List ARoutine) → ((i : ℕ) (g : ARoutine)
 function_at s [] all f name here = absurd (cc)
 function_at s (g ∷ bodies) all zero name here = let same : name ≡ g.name = cc in rw same (all 0 g refl)
 function_at s (g ∷ bodies) all (suc f) name here = function_at s bodies (λ i h at. all (suc i) h at) f name here
-
--- the four bytes of an address
-low_is : (v : ℕ) → low_bytes 4 v ≡ to_le_bytes w32 v
-low_is v =
-    let a : v / 2 ^ 8 / 2 ^ 8 ≡ v / 256 ^ 2 = omega arith in
-    let b : v / 2 ^ 8 / 2 ^ 8 / 2 ^ 8 ≡ v / 256 ^ 3 = omega arith in
-    ap (λ (z : ℕ). (v % 2 ^ 8) ∷ (v / 2 ^ 8 % 2 ^ 8) ∷ (z % 2 ^ 8) ∷ (v / 2 ^ 8 / 2 ^ 8 / 2 ^ 8 % 2 ^ 8) ∷ []) a
-    ∙ ap (λ (z : ℕ). (v % 2 ^ 8) ∷ (v / 2 ^ 8 % 2 ^ 8) ∷ (v / 256 ^ 2 % 2 ^ 8) ∷ (z % 2 ^ 8) ∷ []) b
 
 place_is : (os : List Object) (n : ℕ) (o : Object) (a : ℕ) → slice_get os n ≡ Some o → slice_get (places_of os) n ≡ Some a → a ≡ o.address
 place_is [] n o a here there = absurd (cc)

@@ -1,19 +1,17 @@
 -- Bytes that are written one after another, and the object that holds them.
-use Rattle.std.proofs.Common.{◌≡◌, ℕ, zero, suc, ◌+◌, ◌-◌, ◌*◌, ◌<◌, ◌≤◌, ◌/◌, ◌%◌, ◌^◌, List, [], ◌∷◌, ◌++◌, length, get_or, append_assoc, refl, ap, sym, ◌∙◌, add-one, arith}
+use Rattle.std.proofs.Common.{◌≡◌, ℕ, zero, suc, ◌+◌, ◌-◌, ◌*◌, ◌<◌, ◌≤◌, ◌/◌, ◌%◌, ◌^◌, List, [], ◌∷◌, ◌++◌, length, take, get_or, refl, ap, sym, ◌∙◌, arith}
 use Rattle.std.proofs.Math.ListN.{set}
 use Rattle.std.proofs.Math.Nat.{div-mul-le_self}
 use Rattle.tree_core.specs.declared.program.Object.{Object}
 use Rattle.tree_core.specs.declared.program.Link.{Link}
 use Rattle.std.proofs.Common.{Bool, true, false, cond, Result, Ok, Err}
 use Rattle.std.specs.Fmt.{decimal}
+use Rattle.std.specs.Int.{w32, to_le_bytes}
 use Rattle.c_types.specs.declared.fault.TypeKind.TheVariants.{DataFull}
 use Rattle.c_types.specs.Answers.{Fault, bad}
 use Rattle.c_types.specs.Typed.{LiteralAt}
 use Rattle.c_typed_scope.specs.Layout.{Area, placed, literal, with_object}
 use Rattle.c_typed_scope.specs.Contents.{low_bytes, Filled, holding, with_contents}
-
-pub low_bytes_more : (n v : ℕ) → low_bytes (n + 1) v ≡ (v % 2 ^ 8) ∷ low_bytes n (v / 2 ^ 8)
-low_bytes_more n v = rw (add-one n) refl
 
 pub contents_beyond : (n : ℕ) (f : Filled) (os : List Object) → length os ≤ n → with_contents n f os ≡ os
 contents_beyond n f [] le = refl
@@ -25,13 +23,22 @@ contents_set n f [] d lt = absurd (omega arith)
 contents_set zero f (o ∷ os) d lt = refl
 contents_set (suc n) f (o ∷ os) d lt = ap (λ l. o ∷ l) (contents_set n f os d (omega arith))
 
-pub low_bytes_step : (size i v : ℕ) → i < size → low_bytes (size - i) v ≡ (v % 2 ^ 8) ∷ low_bytes (size - (i + 1)) (v / 2 ^ 8)
-low_bytes_step size i v lt = let e : size - i ≡ (size - (i + 1)) + 1 = omega arith in rw e (low_bytes_more (size - (i + 1)) v)
+-- the four bytes of a number
+pub low_is : (v : ℕ) → low_bytes 4 v ≡ to_le_bytes w32 v
+low_is v =
+    let a : v / 2 ^ 8 / 2 ^ 8 ≡ v / 256 ^ 2 = omega arith in
+    let b : v / 2 ^ 8 / 2 ^ 8 / 2 ^ 8 ≡ v / 256 ^ 3 = omega arith in
+    ap (λ (z : ℕ). (v % 2 ^ 8) ∷ (v / 2 ^ 8 % 2 ^ 8) ∷ (z % 2 ^ 8) ∷ (v / 2 ^ 8 / 2 ^ 8 / 2 ^ 8 % 2 ^ 8) ∷ []) a
+    ∙ ap (λ (z : ℕ). (v % 2 ^ 8) ∷ (v / 2 ^ 8 % 2 ^ 8) ∷ (v / 256 ^ 2 % 2 ^ 8) ∷ (z % 2 ^ 8) ∷ []) b
 
--- one byte more is written
-pub written_more : (old now : List ℕ) (size i v rest : ℕ) → i < size → now ++ low_bytes (size - i) rest ≡ old ++ low_bytes size v → (now ++ (rest % 256) ∷ [])
-    ++ low_bytes (size - (i + 1)) (rest / 256) ≡ old ++ low_bytes size v
-written_more old now size i v rest lt far = append_assoc now ((rest % 256) ∷ []) (low_bytes (size - (i + 1)) (rest / 256)) ∙ ap (λ l. now ++ l) (sym (low_bytes_step size i rest lt)) ∙ far
+low_taken : (n m v : ℕ) → n ≤ m → take n (low_bytes m v) ≡ low_bytes n v
+low_taken zero m v le = refl
+low_taken (suc n) zero v le = absurd (omega arith)
+low_taken (suc n) (suc m) v le = ap (λ l. (v % 2 ^ 8) ∷ l) (low_taken n m (v / 2 ^ 8) (omega arith))
+
+-- the low bytes are the first of the four
+pub low_first : (size v : ℕ) → size ≤ 4 → take size (to_le_bytes w32 v) ≡ low_bytes size v
+low_first size v le = ap (take size) (sym (low_is v)) ∙ low_taken size 4 v le
 
 pub near : (end n a b c d : ℕ) → a ≡ end → b ≡ n → c ≡ n → d ≡ n → 1 ≤ n → n ≤ 4 → (a + (b - 1)) / c * d ≤ end + 3
 near end n a b c d p q r s one four = rw (p, q, r, s) (omega (arith, div-mul-le_self (end + (n - 1)) n))

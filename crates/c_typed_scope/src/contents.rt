@@ -104,13 +104,11 @@ impl Contents {
 
     // The low bytes of a number, the lowest first.
     fn put_number(&mut self, size: u32, value: u32) -> Result<(), AllocError>
+        requires { size ≤ 4 }
         ensures { OnOk result (filled_so_far self.new ≡ with_value size value (filled_so_far self.old)) }
     {
-        let mut rest = value;
-        for turn in 0..size {
-            self.bytes.push((rest % 256) as u8)?;
-            rest /= 256;
-        }
+        self.bytes
+            .extend_from_slice(&value.to_le_bytes()[..size as usize])?;
         Ok(())
     }
 

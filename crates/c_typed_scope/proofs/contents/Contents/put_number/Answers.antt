@@ -1,10 +1,6 @@
-use Rattle.std.proofs.Common.{rules}
-use Rattle.c_typed_scope.proofs.Written.{written_more}
+use Rattle.std.proofs.Common.{refl}
+use Rattle.c_typed_scope.proofs.Written.{low_first}
 use Rattle.c_typed_scope.proofs.contents.Contents.put_number.Goals as goal
 
-pub loop-turn-preserved : goal.loop-turn-preserved
-loop-turn-preserved c = (
-  rw c.in_ok-push.ensures.items (written_more c.args.self.now.bytes.items c.loop-turn.self.bytes.items c.args.size c.loop-turn.turn c.args.value c.loop-turn.rest
-      (search rules) c.loop-turn.invariant.0),
-  c.loop-turn.invariant.1,
-)
+pub returns : goal.returns
+returns c = rw (c.in_ok-extend_from_slice.ensures.items, c.to_le_bytes.ensures, low_first c.args.size c.args.value c.requires) refl
