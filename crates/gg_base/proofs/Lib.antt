@@ -4,3 +4,4 @@ pub mod Composing
 pub mod Facts
 pub mod Words
 pub mod Mapping
+pub mod FrontLaws

@@ -1,8 +1,9 @@
-// What every layer shares: sizes, relations, 32-bit arithmetic, places, limits, and how runs are spoken of.
+// What every layer shares: sizes, relations, 32-bit arithmetic, places, limits, fronts of bytes, and how runs are spoken of.
 #![tactic(auto)]
 
 pub mod arithmetic;
 pub mod bytes;
+pub mod fronts;
 pub mod laws;
 pub mod limits;
 pub mod little_endian;

@@ -1,5 +1,4 @@
 pub mod Choices
-pub mod RunLaws
 pub mod FrontLaws
 pub mod NameLaws
 pub mod OperandLaws

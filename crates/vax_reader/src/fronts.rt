@@ -1,13 +1,13 @@
 // Words, numbers, names and registers at the front of some bytes.
 ghost use Rattle.std.specs.Prelude.{◌≡◌, ◌+◌, ◌≤◌, ◌^◌, length, min, IfSome};
 ghost use Rattle.std.specs.Option.{option_copied, option_map};
-ghost use Rattle.std.specs.Char.{is_ascii_digit};
 ghost use Rattle.std.specs.Str.Parse.{digits_value, AllDigits};
 ghost use Rattle.gg_base.specs.Fronts.{run_len};
 ghost use Rattle.vax_core.specs.Valid.{is_name_part};
 ghost use Rattle.vax_reader.specs.Fronts.{strip, number_front, up_to, from_one, below_zero, signed_front, offset_front};
 ghost use Rattle.vax_reader.specs.Fronts.{name_front, general, reg_front, at_front};
 
+use gg_base::fronts::digits_len;
 use gg_base::limits::TEXT_NAME_LIMIT;
 use vax_core::Reg;
 use vax_core::valid::{is_name_part, is_name_start};
@@ -23,16 +23,6 @@ pub fn strip<'a>(word: &[u8], bytes: &'a [u8]) -> Option<&'a [u8]>
     ensures { strip word.now bytes.now ≡ option_copied result }
 {
     bytes.strip_prefix(word)
-}
-
-fn digit_len(bytes: &[u8]) -> usize
-    ensures len { result ≡ run_len is_ascii_digit bytes.now }
-    ensures within { result ≤ length bytes.now }
-{
-    bytes
-        .iter()
-        .position(|b| !b.is_ascii_digit())
-        .unwrap_or(bytes.len())
 }
 
 fn value(digits: &[u8]) -> u32
@@ -51,7 +41,7 @@ fn value(digits: &[u8]) -> u32
 pub fn number(bytes: &[u8]) -> Option<(u32, &[u8])>
     ensures { number_front bytes.now ≡ option_map (λ x. (x.0, x.1.now)) result }
 {
-    let len = digit_len(bytes);
+    let len = digits_len(bytes);
     let (digits, rest) = bytes.split_at(len);
     match digits {
         [] => return None,

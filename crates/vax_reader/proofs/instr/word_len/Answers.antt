@@ -4,7 +4,7 @@ use Rattle.std.proofs.lemmas.Iterator.{YieldsList-from_slice}
 use Rattle.std.proofs.lemmas.Iterator.Search.{position_from_yields_List}
 use borrow.Author.Tests.{tests}
 use Rattle.vax_reader.specs.Lines.{in_word}
-use Rattle.vax_reader.proofs.RunLaws.{run_found}
+use Rattle.gg_base.proofs.FrontLaws.{run_found}
 use Rattle.vax_reader.proofs.instr.word_len.Goals as goal
 
 pub returns-clause-len : goal.returns-clause-len

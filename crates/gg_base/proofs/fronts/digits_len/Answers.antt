@@ -4,8 +4,8 @@ use Rattle.std.proofs.lemmas.Iterator.{YieldsList-from_slice}
 use Rattle.std.proofs.lemmas.Iterator.Search.{position_from_yields_List}
 use borrow.Author.Tests.{tests}
 use Rattle.std.specs.Char.{is_ascii_digit}
-use Rattle.vax_reader.proofs.RunLaws.{run_found}
-use Rattle.vax_reader.proofs.fronts.digit_len.Goals as goal
+use Rattle.gg_base.proofs.FrontLaws.{run_found}
+use Rattle.gg_base.proofs.fronts.digits_len.Goals as goal
 
 pub returns-clause-len : goal.returns-clause-len
 returns-clause-len c =

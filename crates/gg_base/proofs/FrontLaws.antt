@@ -1,4 +1,4 @@
--- How long a run is, as `position` tells it.
+-- How many bytes at the front pass a test, as `position` tells it.
 use Rattle.std.proofs.Common.{◌≡◌, ◌+◌, not, ℕ, suc, Bool, true, false, cond, List, [], ◌∷◌, length, refl, arith}
 use Rattle.std.proofs.lemmas.List.Sums.{prefix_len-le-length}
 use Rattle.std.specs.List.{position, position_or_len}
