@@ -1,10 +1,11 @@
 -- The forms of the lines in front of the rules, over their words: the head, the classes and what is saved.
 use Rattle.std.specs.Prelude.{ℕ, ◌+◌, ◌^◌, Bool, true, false, ◌==◌, ◌||◌, ◌&&◌, nat_le, bit_and, bit_or, List, []}
 use Rattle.std.specs.Prelude.{◌∷◌, length, Option, Some, None, codes, if◌then◌else◌}
+use Rattle.std.specs.Char.{is_ascii_digit}
 use Rattle.std.specs.Option.{option_map, option_and_then}
 use Rattle.std.specs.List.{list_all}
 use Rattle.md_reader_text.specs.Words.{same}
-use Rattle.md_reader_text.specs.Numbers.{is_digit, number}
+use Rattle.md_reader_text.specs.Numbers.{number}
 use Rattle.gg_base.specs.declared.size.Size.{Size}
 use Rattle.gg_base.specs.declared.size.Size.TheVariants as sizes
 use Rattle.md_reader.specs.declared.types.Kind.{Kind}
@@ -52,7 +53,7 @@ is_lower b = nat_le 97 b && nat_le b 122
 
 -- 1 to 31 lower-case letters and digits, the first a letter
 abbrev pub in_name : ℕ → Bool
-in_name b = is_lower b || is_digit b
+in_name b = is_lower b || is_ascii_digit b
 
 abbrev pub is_name : List ℕ → Bool
 is_name [] = false

@@ -135,7 +135,7 @@ fn is_lower(byte: u8) -> bool
 fn in_name(byte: u8) -> bool
     ensures { result ≡ in_name byte }
 {
-    is_lower(byte) || (b'0' <= byte && byte <= b'9')
+    is_lower(byte) || byte.is_ascii_digit()
 }
 
 fn are_in_name(bytes: &[u8]) -> bool

@@ -1,9 +1,11 @@
 -- The text of an instruction, and the pieces of a text.
 use Rattle.std.specs.Prelude.{◌≡◌, ℕ, suc, ◌==◌, List, [], ◌∷◌, ◌++◌, take, drop, Option, Some, None, Result, Ok, Err, if◌then◌else◌}
+use Rattle.std.specs.Char.{is_ascii_digit}
 use Rattle.std.specs.Option.{option_map}
 use Rattle.std.specs.Global.{Vec}
+use Rattle.gg_base.specs.Fronts.{run_len}
 use Rattle.md_reader_text.specs.Lists.{put_front}
-use Rattle.md_reader_text.specs.Numbers.{digits_len, number}
+use Rattle.md_reader_text.specs.Numbers.{number}
 use Rattle.md_reader_pieces.specs.declared.piece.Piece.{Piece}
 use Rattle.md_reader_pieces.specs.declared.piece.Piece.TheVariants as piece
 use Rattle.md_reader_pieces.specs.declared.piece.PieceFault.{PieceFault}
@@ -37,7 +39,7 @@ hole_at (b ∷ bs) =
     if b == 76 then Some (piece.Label, 1)
     else if b == 70 then Some (piece.Callee, 1)
     else if b == 78 then Some (piece.Count, 1)
-    else symbol_hole (digits_len (b ∷ bs)) (b ∷ bs)
+    else symbol_hole (run_len is_ascii_digit (b ∷ bs)) (b ∷ bs)
 
 abbrev pub hole_with : List ℕ → Option (Piece × ℕ) → Option (List Piece)
 hole_with part None = None

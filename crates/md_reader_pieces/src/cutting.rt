@@ -5,8 +5,9 @@ ghost use Rattle.md_reader_text.specs.Words.{words};
 ghost use Rattle.md_reader_pieces.specs.Pieces.{part_len, plain, hole_at, hole_pieces, pieces, text_of, Adds, ArePieces};
 
 use crate::piece::{Piece, PieceFault};
+use gg_base::fronts::digits_len;
 use gg_base::{Bytes, NoMemory};
-use md_reader_text::{digits_len, next_word, number};
+use md_reader_text::{next_word, number};
 use std::alloc::Global;
 
 /// How many bytes stand before the first `%`.

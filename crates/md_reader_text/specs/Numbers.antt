@@ -1,20 +1,13 @@
 -- Decimal numbers.
-use Rattle.std.specs.Prelude.{ℕ, suc, ◌+◌, ◌-◌, ◌*◌, min, nat_le, Bool, ◌==◌, ◌&&◌, List, [], ◌∷◌, Option, Some, None}
+use Rattle.std.specs.Prelude.{ℕ, ◌+◌, ◌-◌, ◌*◌, min, nat_le, ◌==◌, List, [], ◌∷◌, Option, Some, None}
 use Rattle.std.specs.Prelude.{ℤ, pos, negsuc, if◌then◌else◌}
+use Rattle.std.specs.Char.{is_ascii_digit}
 use Rattle.std.specs.Option.{option_and_then}
-
-abbrev pub is_digit : ℕ → Bool
-is_digit b = nat_le 48 b && nat_le b 57
-
--- how many digits stand at the front
-abbrev pub digits_len : List ℕ → ℕ
-digits_len [] = 0
-digits_len (b ∷ bs) = if is_digit b then suc (digits_len bs) else 0
 
 -- the number that digits go on to; what is greater than the most counts as the most
 abbrev pub number_from : ℕ → ℕ → List ℕ → Option ℕ
 number_from most n [] = Some n
-number_from most n (d ∷ ds) = if is_digit d then number_from most (min (n * 10 + (d - 48)) most) ds else None
+number_from most n (d ∷ ds) = if is_ascii_digit d then number_from most (min (n * 10 + (d - 48)) most) ds else None
 
 -- the number that a word is: it has digits alone, at least one, and no leading zero
 abbrev pub number : ℕ → List ℕ → Option ℕ

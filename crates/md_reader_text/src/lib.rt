@@ -8,5 +8,5 @@ mod tests;
 mod words;
 
 pub use lines::next_line;
-pub use numbers::{digits_len, integer, number};
+pub use numbers::{integer, number};
 pub use words::{is_word, next_word};

@@ -1,22 +1,6 @@
 // Decimal numbers.
-ghost use Rattle.std.specs.Prelude.{◌≡◌, ◌≤◌, length, IfSome};
-ghost use Rattle.md_reader_text.specs.Numbers.{is_digit, digits_len, number_from, number, positive, negative, integer};
-
-fn is_digit(byte: u8) -> bool
-    ensures { result ≡ is_digit byte }
-{
-    b'0' <= byte && byte <= b'9'
-}
-
-/// How many digits stand at the front.
-pub fn digits_len(text: &[u8]) -> usize
-    ensures len { result ≡ digits_len text.now }
-    ensures bound { result ≤ length text.now }
-{
-    text.iter()
-        .position(|byte| !is_digit(*byte))
-        .unwrap_or(text.len())
-}
+ghost use Rattle.std.specs.Prelude.{◌≡◌, ◌≤◌, IfSome};
+ghost use Rattle.md_reader_text.specs.Numbers.{number_from, number, positive, negative, integer};
 
 fn number_from(most: u32, digits: &[u8]) -> Option<u32>
     ensures is { result ≡ number_from most 0 digits.now }
@@ -24,7 +8,7 @@ fn number_from(most: u32, digits: &[u8]) -> Option<u32>
 {
     let mut value: u32 = 0;
     for byte in digits {
-        if !is_digit(*byte) {
+        if !byte.is_ascii_digit() {
             return None;
         }
         let longer = u64::from(value) * 10 + u64::from(*byte - b'0');

@@ -91,7 +91,7 @@ fn is_digit(mark: Mark) -> bool
     ensures { result ≡ is_digit_mark mark }
 {
     match mark {
-        Mark::Byte(b) => b'0' <= b && b <= b'9',
+        Mark::Byte(b) => b.is_ascii_digit(),
         _ => false,
     }
 }

@@ -1,7 +1,7 @@
 -- What an operand may stand for, and which instructions and programs can be written.
 use Rattle.std.specs.Prelude.{◌≡◌, ℕ, ◌==◌, ◌&&◌, ◌||◌, not, Bool, true, false, List, [], ◌∷◌, Option, Some, None, is_none}
+use Rattle.std.specs.Char.{is_ascii_digit}
 use Rattle.std.specs.List.{AllByRecursion, list_all}
-use Rattle.md_reader_text.specs.Numbers.{is_digit}
 use Rattle.tree_core.specs.declared.program.Object.{Object}
 use Rattle.tree_core.specs.declared.program.TreeFn.{TreeFn}
 use Rattle.tree_core.specs.declared.program.TreeProgram.{TreeProgram}
@@ -39,7 +39,7 @@ fits k o = true
 -- `L` and digits, however many
 abbrev pub is_tree_label : List ℕ → Bool
 is_tree_label [] = false
-is_tree_label (c ∷ cs) = (c == 76) && list_all is_digit cs
+is_tree_label (c ∷ cs) = (c == 76) && list_all is_ascii_digit cs
 
 abbrev pub goes_to_label : Option (List ℕ) → Bool
 goes_to_label None = false

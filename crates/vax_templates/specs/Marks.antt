@@ -1,9 +1,9 @@
 -- The marks of a template's line, and what stands at their front.
-use Rattle.std.specs.Prelude.{ℕ, ◌+◌, ◌-◌, ◌*◌, ◌^◌, min, nat_le, Bool, true, false, not, ◌==◌, ◌&&◌, List, [], ◌∷◌}
+use Rattle.std.specs.Prelude.{ℕ, ◌+◌, ◌-◌, ◌*◌, ◌^◌, min, nat_le, Bool, false, not, ◌==◌, ◌&&◌, List, [], ◌∷◌}
 use Rattle.std.specs.Prelude.{◌++◌, map, Option, Some, None}
 use Rattle.std.specs.Prelude.{if◌then◌else◌}
+use Rattle.std.specs.Char.{is_ascii_digit}
 use Rattle.std.specs.Option.{option_and_then, option_map}
-use Rattle.md_reader_text.specs.Numbers.{is_digit}
 use Rattle.md_reader_pieces.specs.declared.piece.Piece.{Piece}
 use Rattle.md_reader_pieces.specs.declared.piece.Piece.TheVariants as piece
 use Rattle.vax_templates.specs.declared.form.Mark.{Mark}
@@ -41,7 +41,7 @@ hole_front (mark.Hole i ∷ ms) = Some (i, ms)
 hole_front (m ∷ ms) = None
 
 abbrev pub is_digit_mark : Mark → Bool
-is_digit_mark (mark.Byte b) = is_digit b
+is_digit_mark (mark.Byte b) = is_ascii_digit b
 is_digit_mark m = false
 
 abbrev pub digit : Mark → ℕ
