@@ -3,7 +3,7 @@ use Rattle.std.specs.Prelude.{unwrap_or}
 use Rattle.std.proofs.lemmas.Iterator.{YieldsList-from_slice}
 use Rattle.std.proofs.lemmas.Iterator.Search.{position_from_yields_List}
 use borrow.Author.Tests.{tests}
-use Rattle.md_reader_text.proofs.Positions.{len_found}
+use Rattle.gg_base.proofs.FrontLaws.{len_found}
 use Rattle.md_reader_pieces.specs.Pieces.{part_len}
 use Rattle.md_reader_pieces.proofs.cutting.part_len.Goals as goal
 

@@ -4,7 +4,7 @@ use Rattle.std.proofs.lemmas.Iterator.{YieldsList-from_slice}
 use Rattle.std.proofs.lemmas.Iterator.Search.{position_from_yields_List}
 use borrow.Author.Tests.{tests}
 use Rattle.md_reader_text.specs.Words.{is_blank, word_len}
-use Rattle.md_reader_text.proofs.Positions.{len_found}
+use Rattle.gg_base.proofs.FrontLaws.{len_found}
 use Rattle.md_reader_text.proofs.words.word_len.Goals as goal
 
 pub returns-clause-len : goal.returns-clause-len
