@@ -5,30 +5,22 @@ ghost use Rattle.std.specs.Fmt.{decimal};
 ghost use Rattle.std.specs.Prelude.{◌≡◌, ◌++◌, ◌<◌, ◌≤◌, IfOk, OnOk};
 ghost use Rattle.gg_load.specs.Source.{up_to, function_line, call_line, source_text};
 
-use gg_base::NoMemory;
-use itoa::Buffer;
+use gg_base::{NoMemory, put_decimal};
 use std::alloc::{AllocError, Global};
 
 /// The most functions of a generated source.
 pub const MOST_FUNCTIONS: u32 = 1000;
-
-fn put_number(into: &mut Vec<u8>, number: u32) -> Result<(), AllocError>
-    ensures { OnOk result (into.new.items ≡ into.old.items ++ decimal number) }
-{
-    let mut buffer = Buffer::new();
-    into.extend_from_slice(buffer.format(number).as_bytes())
-}
 
 fn put_function(into: &mut Vec<u8>, number: u32) -> Result<(), AllocError>
     requires { number < 1000 }
     ensures { OnOk result (into.new.items ≡ into.old.items ++ function_line number) }
 {
     into.extend_from_slice(b"int f")?;
-    put_number(into, number)?;
+    put_decimal(into, u64::from(number))?;
     into.extend_from_slice(b"(int x){int y;y=x*")?;
-    put_number(into, 2 * number + 1)?;
+    put_decimal(into, u64::from(2 * number + 1))?;
     into.extend_from_slice(b"+")?;
-    put_number(into, number)?;
+    put_decimal(into, u64::from(number))?;
     into.extend_from_slice(b";t[x&63]=t[y&63]+y;return y^(y>>3);}\n")
 }
 
@@ -36,9 +28,9 @@ fn put_call(into: &mut Vec<u8>, number: u32) -> Result<(), AllocError>
     ensures { OnOk result (into.new.items ≡ into.old.items ++ call_line number) }
 {
     into.extend_from_slice(b"s=f")?;
-    put_number(into, number)?;
+    put_decimal(into, u64::from(number))?;
     into.extend_from_slice(b"(s+")?;
-    put_number(into, number)?;
+    put_decimal(into, u64::from(number))?;
     into.extend_from_slice(b");\n")
 }
 

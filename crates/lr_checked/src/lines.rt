@@ -4,24 +4,15 @@ ghost use Rattle.std.specs.List.{flat_map};
 ghost use Rattle.std.specs.Fmt.{decimal};
 ghost use Rattle.lr_checked.specs.Lines.{kid_word, answer_letter, answer_word, node_line, lines_from, sample_lines};
 
-use gg_base::{NoMemory, Text};
-use itoa::Buffer;
+use gg_base::{NoMemory, Text, put_decimal};
 use lr_check::{Sample, SampleNode};
 use std::alloc::{AllocError, Global};
-
-fn put_number(into: &mut Vec<u8>, number: u64) -> Result<(), AllocError>
-    ensures { OnOk result (into.new.items ≡ into.old.items ++ decimal number) }
-{
-    let mut buffer = Buffer::new();
-    into.extend_from_slice(buffer.format(number).as_bytes())?;
-    Ok(())
-}
 
 fn put_kid(into: &mut Vec<u8>, kid: u32) -> Result<(), AllocError>
     ensures { OnOk result (into.new.items ≡ into.old.items ++ kid_word kid) }
 {
     into.push(b' ')?;
-    put_number(into, u64::from(kid))
+    put_decimal(into, u64::from(kid))
 }
 
 fn put_kids(into: &mut Vec<u8>, kids: &[u32]) -> Result<(), AllocError>
@@ -67,7 +58,7 @@ fn put_node(into: &mut Vec<u8>, number: usize, node: &SampleNode) -> Result<(), 
     ensures { OnOk result (into.new.items ≡ into.old.items ++ node_line number node.now) }
 {
     into.extend_from_slice(b"  ")?;
-    put_number(into, number as u64)?;
+    put_decimal(into, number as u64)?;
     into.push(b' ')?;
     into.extend_from_slice(node.tok().name().as_bytes())?;
     put_kids(into, node.kids())?;

@@ -25,4 +25,4 @@ pub use operator::{BinaryOp, UnaryOp};
 pub use order::compare;
 pub use same::same_term;
 pub use term::{Form, Term, form_of};
-pub use text::{put_number, put_term, put_text, size_name};
+pub use text::{put_term, put_text, size_name};

@@ -7,8 +7,8 @@ ghost use Rattle.term_core.specs.Form.{shape_of_form};
 ghost use Rattle.term_core.specs.Text.{size_name, signed_text, term_text};
 
 use crate::term::{Form, Term, form_of};
-use gg_base::{Size, w32};
-use std::alloc::{AllocError, Global};
+use gg_base::{Size, put_decimal, w32};
+use std::alloc::AllocError;
 
 /// The letter of a size.
 pub fn size_name(size: Size) -> &'static str
@@ -29,67 +29,58 @@ pub fn put_text(into: &mut Vec<u8>, text: &str) -> Result<(), AllocError>
     Ok(())
 }
 
-/// Appends a number.
-pub fn put_number(alloc: Global, into: &mut Vec<u8>, n: u32) -> Result<(), AllocError>
-    ensures { OnOk result (into.new.items ≡ into.old.items ++ decimal n) }
-{
-    let text = n.to_string(alloc)?;
-    into.extend_from_slice(text.as_bytes())?;
-    Ok(())
-}
-
-fn put_signed(alloc: Global, into: &mut Vec<u8>, n: u32) -> Result<(), AllocError>
+fn put_signed(into: &mut Vec<u8>, n: u32) -> Result<(), AllocError>
     ensures { OnOk result (into.new.items ≡ into.old.items ++ signed_text n) }
 {
     if n < 0x8000_0000 {
-        put_number(alloc, into, n)
+        put_decimal(into, u64::from(n))
     } else {
         put_text(into, "-")?;
-        put_number(alloc, into, w32::neg(n))
+        put_decimal(into, u64::from(w32::neg(n)))
     }
 }
 
 /// Appends the text of a term.
 #[cycle(put)]
-pub fn put_term(alloc: Global, into: &mut Vec<u8>, t: &Term) -> Result<(), AllocError>
+pub fn put_term(into: &mut Vec<u8>, t: &Term) -> Result<(), AllocError>
     ensures { OnOk result (into.new.items ≡ into.old.items ++ term_text (shape_of t.now)) }
 {
-    put_form(alloc, into, form_of(t))
+    put_form(into, form_of(t))
 }
 
 #[cycle(put)]
-fn put_form(alloc: Global, into: &mut Vec<u8>, t: Form<'_>) -> Result<(), AllocError>
+fn put_form(into: &mut Vec<u8>, t: Form<'_>) -> Result<(), AllocError>
     ensures { OnOk result (into.new.items ≡ into.old.items ++ term_text (shape_of_form t.entry)) }
 {
     match t {
         Form::Constant(n) => {
             put_text(into, "K")?;
-            put_signed(alloc, into, n)
+            put_signed(into, n)
         }
         Form::Symbol(i) => {
             put_text(into, "V")?;
-            put_number(alloc, into, i as u32)
+            put_decimal(into, i as u64)
         }
         Form::LastResult => put_text(into, "Res"),
         Form::Memory(size, a) => {
             put_text(into, "Mem(")?;
             put_text(into, size_name(size))?;
             put_text(into, ",")?;
-            put_term(alloc, into, a)?;
+            put_term(into, a)?;
             put_text(into, ")")
         }
         Form::Unary(op, t) => {
             put_text(into, op.name())?;
             put_text(into, "(")?;
-            put_term(alloc, into, t)?;
+            put_term(into, t)?;
             put_text(into, ")")
         }
         Form::Binary(op, a, b) => {
             put_text(into, op.name())?;
             put_text(into, "(")?;
-            put_term(alloc, into, a)?;
+            put_term(into, a)?;
             put_text(into, ",")?;
-            put_term(alloc, into, b)?;
+            put_term(into, b)?;
             put_text(into, ")")
         }
     }

@@ -86,6 +86,6 @@ pub fn read(alloc: Global, text: &str) -> Result<Term, NoMemory> {
 /// The term's text.
 pub fn text_of(alloc: Global, t: &Term) -> Result<String, NoMemory> {
     let mut text = Vec::new(alloc);
-    put_term(alloc, &mut text, t)?;
+    put_term(&mut text, t)?;
     Ok(String::from_utf8_lossy(alloc, text.as_slice())?)
 }

@@ -12,11 +12,10 @@ ghost use Rattle.vax_target.specs.Stages.{filled_view};
 use crate::filling::{Filling, addr_number, alone};
 use crate::instruction::{LineInstruction, instruction_of};
 use crate::refusal::Refusal;
-use gg_base::{Name, NoMemory, Rel};
+use gg_base::{Name, NoMemory, Rel, put_decimal};
 use md_reader::Piece;
 use sel_target::Attr;
 use std::alloc::Global;
-use term_core::put_number;
 use tree_core::Att;
 use vax_core::{Base, Instr, Op, Operand, Operands};
 use vax_templates::Form;
@@ -95,7 +94,7 @@ fn label_name(alloc: Global, n: u32) -> Result<Name, NoMemory>
 {
     let mut name = Vec::new(alloc);
     name.push(b'L')?;
-    put_number(alloc, &mut name, n)?;
+    put_decimal(&mut name, u64::from(n))?;
     Ok(Name::from_vec(name))
 }
 

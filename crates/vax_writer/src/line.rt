@@ -4,8 +4,8 @@ ghost use Rattle.std.specs.Fmt.{decimal};
 ghost use Rattle.vax_core.specs.Ops.{shape};
 ghost use Rattle.vax_core.specs.Text.{instr_text, area_text, item_text, area_line, item_line};
 
-use crate::operand::{put_addr, put_number, put_operands};
-use gg_base::Name;
+use crate::operand::{put_addr, put_operands};
+use gg_base::{Name, put_decimal};
 use std::alloc::AllocError;
 use vax_core::{AreaItem, CodeItem, Instr};
 
@@ -34,7 +34,7 @@ fn put_counted(into: &mut Vec<u8>, directive: &[u8], n: u32) -> Result<(), Alloc
     ensures { OnOk result (into.new.items ≡ into.old.items ++ (directive.now ++ decimal n)) }
 {
     into.extend_from_slice(directive)?;
-    put_number(into, n)
+    put_decimal(into, u64::from(n))
 }
 
 fn put_label(into: &mut Vec<u8>, name: &Name) -> Result<(), AllocError>

@@ -4,31 +4,21 @@ ghost use Rattle.std.specs.Fmt.{decimal};
 ghost use Rattle.vax_core.specs.Registers.{reg_text};
 ghost use Rattle.vax_core.specs.Text.{signed_text, offset_text, addr_text, at_text, base_text, index_text, operand_text, operands_text};
 
-use gg_base::Name;
-use itoa::Buffer;
+use gg_base::{Name, put_decimal};
 use std::alloc::AllocError;
 use vax_core::{Addr, Base, Operand, Reg};
 
 /// The least number whose sign bit is set.
 const SIGN: u32 = 0x8000_0000;
 
-/// Appends a number in decimal.
-pub fn put_number(into: &mut Vec<u8>, n: u32) -> Result<(), AllocError>
-    ensures { OnOk result (into.new.items ≡ into.old.items ++ decimal n) }
-{
-    let mut buffer = Buffer::new();
-    into.extend_from_slice(buffer.format(n).as_bytes())?;
-    Ok(())
-}
-
 fn put_signed(into: &mut Vec<u8>, n: u32) -> Result<(), AllocError>
     ensures { OnOk result (into.new.items ≡ into.old.items ++ signed_text n) }
 {
     if n < SIGN {
-        put_number(into, n)
+        put_decimal(into, u64::from(n))
     } else {
         into.push(b'-')?;
-        put_number(into, n.wrapping_neg())
+        put_decimal(into, u64::from(n.wrapping_neg()))
     }
 }
 
@@ -40,10 +30,10 @@ fn put_offset(into: &mut Vec<u8>, n: u32) -> Result<(), AllocError>
     }
     if n < SIGN {
         into.push(b'+')?;
-        put_number(into, n)
+        put_decimal(into, u64::from(n))
     } else {
         into.push(b'-')?;
-        put_number(into, n.wrapping_neg())
+        put_decimal(into, u64::from(n.wrapping_neg()))
     }
 }
 
