@@ -1,5 +1,5 @@
 // Want of memory.
-ghost use Rattle.std.specs.Prelude.{◌≡◌, IfOk};
+ghost use Rattle.std.specs.Prelude.{◌≡◌, ◌≤◌, IfOk, OnErr};
 
 use std::alloc::{AllocError, AllocFailed};
 
@@ -21,7 +21,8 @@ impl<T: Drop> From<AllocFailed<T>> for NoMemory {
 
 /// The number on 32 bits: memory for more things than 32 bits number is not there.
 pub fn number_of(number: usize) -> Result<u32, NoMemory>
-    ensures { IfOk result (λ n. n ≡ number) }
+    ensures number { IfOk result (λ n. n ≡ number) }
+    ensures refused { OnErr result (4294967296 ≤ number) }
 {
     match u32::try_from(number) {
         Ok(number) => Ok(number),
