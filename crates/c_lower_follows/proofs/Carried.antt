@@ -16,7 +16,7 @@ use Rattle.tree_meaning.specs.Deeds.{Deed, assigned as assigned_deed, branched a
 use Rattle.tree_meaning.specs.Steps.{Step, with_call, with_label, deed_step, tree_step, GoesTo, Goes}
 use Rattle.tree_meaning.specs.Steps as steps
 use Rattle.tree_meaning.specs.Meaning.{To, carried, run, ended}
-use Rattle.tree_meaning.specs.declared.machine.Finish.TheVariants as finish
+use Rattle.gg_base.specs.declared.run.Finish.TheVariants as finish
 
 -- a value goes on, or the run ends
 abbrev pub given : Value → (ℕ → Outcome) → Outcome

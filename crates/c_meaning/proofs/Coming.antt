@@ -3,13 +3,13 @@ use Rattle.std.proofs.Common.{◌≡◌, ℕ, zero, suc, ◌+◌, ◌-◌, List,
 use Rattle.gg_base.specs.declared.run.SourceTurn.{SourceTurn}
 use Rattle.gg_base.specs.declared.run.SourceTurn.TheVariants as turns
 use Rattle.gg_base.specs.Runs.{Runs, stop, emit, counted}
-use Rattle.gg_base.specs.Turns.{Answers, Turns}
-use Rattle.c_meaning.specs.declared.flow.Finish.{Finish}
-use Rattle.c_meaning.specs.declared.flow.Finish.TheVariants as finish
+use Rattle.gg_base.specs.Turns.{Answers, Turns, end_of, turn_of}
+use Rattle.gg_base.specs.declared.run.Finish.{Finish}
+use Rattle.gg_base.specs.declared.run.Finish.TheVariants as finish
 use Rattle.c_meaning.specs.declared.machine.Machine.{Machine}
 use Rattle.c_meaning.specs.Turns.{answers}
-use Rattle.c_meaning.specs.Pending.{to_come, end_of}
-use Rattle.c_meaning.specs.Runner.{turn_of, turns_of}
+use Rattle.c_meaning.specs.Pending.{to_come}
+use Rattle.c_meaning.specs.Runner.{turns_of}
 
 answers_emit : (b : ℕ) (r : Runs) (n : ℕ) → answers (emit b r) n ≡ turns.Wrote b ∷ answers r n
 answers_emit b r zero = refl

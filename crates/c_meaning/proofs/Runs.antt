@@ -4,12 +4,12 @@ use Rattle.gg_base.specs.declared.run.End.{End}
 use Rattle.gg_base.specs.declared.run.End.TheVariants.{Spent}
 use Rattle.gg_base.specs.declared.run.SourceTurn.TheVariants as turns
 use Rattle.gg_base.specs.Runs.{Outcome, Runs, Remaining, stop, emit, counted, Closed, Advances}
-use Rattle.gg_base.specs.Turns.{counted_from}
-use Rattle.c_meaning.specs.declared.flow.Finish.{Finish}
-use Rattle.c_meaning.specs.declared.flow.Finish.TheVariants as finish
+use Rattle.gg_base.specs.Turns.{counted_from, end_of, turn_of}
+use Rattle.gg_base.specs.declared.run.Finish.{Finish}
+use Rattle.gg_base.specs.declared.run.Finish.TheVariants as finish
 use Rattle.c_meaning.specs.declared.machine.Machine.{Machine}
-use Rattle.c_meaning.specs.Pending.{to_come, end_of}
-use Rattle.c_meaning.specs.Runner.{to_go, remaining, turn_of}
+use Rattle.c_meaning.specs.Pending.{to_come}
+use Rattle.c_meaning.specs.Runner.{to_go, remaining}
 
 pub wrote : (old : Remaining) (m n : Machine) (left taken : ℕ) (spent failed : Bool) (b : ℕ) → remaining m left taken spent failed ≡ old → spent ≡ false → to_come m ≡ emit b (to_come n)
     → Advances old (turns.Wrote b) (remaining n left taken spent failed)

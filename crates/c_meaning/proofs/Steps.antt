@@ -19,7 +19,7 @@ use Rattle.c_program.specs.declared.program.Routine.{Routine}
 use Rattle.c_program.specs.Programs.{AProgram, program, routine}
 use Rattle.c_meaning.specs.declared.flow.Flow.{Flow}
 use Rattle.c_meaning.specs.declared.flow.Flow.TheVariants.{Onward}
-use Rattle.c_meaning.specs.declared.flow.Finish.TheVariants as finish
+use Rattle.gg_base.specs.declared.run.Finish.TheVariants as finish
 use Rattle.c_meaning.specs.declared.store.Activation.{Activation}
 use Rattle.c_meaning.specs.declared.store.Store.{Store}
 use Rattle.c_meaning.specs.declared.flow.Event.{Event}
@@ -40,7 +40,8 @@ use Rattle.c_meaning.specs.Meaning.{dropped, look_at, turn_at, arguments, expr, 
 use Rattle.c_meaning.specs.Programs.{means}
 use Rattle.c_meaning.specs.Calls.{passed, call, called, back, begun}
 use Rattle.c_meaning.proofs.Law.{means_is}
-use Rattle.c_meaning.specs.Pending.{with_value, with_flow, end_of, Signal, Valued, Leaves, Then, waits, to_come}
+use Rattle.gg_base.specs.Turns.{end_of}
+use Rattle.c_meaning.specs.Pending.{with_value, with_flow, Signal, Valued, Leaves, Then, waits, to_come}
 use Rattle.c_meaning.specs.Pending.{stack, bottom, before, going}
 use Rattle.c_meaning.specs.Parts.{loop_of, maybe_bor, state}
 use Rattle.c_meaning.specs.Work.{arguments_work, term_work}

@@ -1,8 +1,8 @@
 -- What the work that waits means, in the words of the program's meaning.
 use Rattle.std.specs.Prelude.{ℕ, List, [], ◌∷◌, ◌++◌, map}
-use Rattle.gg_base.specs.declared.run.End.{End}
 use Rattle.gg_base.specs.declared.run.End.TheVariants as ends
 use Rattle.gg_base.specs.Runs.{Runs, stop}
+use Rattle.gg_base.specs.Turns.{end_of}
 use Rattle.c_types.specs.declared.types.CType.{CType}
 use Rattle.c_types.specs.Constants.{converted, apply_unary}
 use Rattle.c_types.specs.Typed.{term, terms}
@@ -10,8 +10,6 @@ use Rattle.c_program.specs.Statements.{act, acts, declaration}
 use Rattle.c_program.specs.Programs.{AProgram, program}
 use Rattle.c_meaning.specs.declared.flow.Flow.{Flow}
 use Rattle.c_meaning.specs.declared.flow.Flow.TheVariants.{Onward, Returned}
-use Rattle.c_meaning.specs.declared.flow.Finish.{Finish}
-use Rattle.c_meaning.specs.declared.flow.Finish.TheVariants as finish
 use Rattle.c_meaning.specs.declared.operator.Operator.TheVariants as operators
 use Rattle.c_meaning.specs.declared.store.Spot.{Spot}
 use Rattle.c_meaning.specs.declared.store.Spot.TheVariants.{Memory}
@@ -48,12 +46,6 @@ with_value κ v = κ (Valued v)
 
 abbrev pub with_flow : Then → Behind
 with_flow κ w = κ (Leaves w)
-
-abbrev pub end_of : Finish → End
-end_of (finish.Ended v) = ends.Ended v
-end_of finish.Trapped = ends.Trapped
-end_of finish.Wild = ends.Wild
-end_of finish.Deep = ends.Deep
 
 module _ (p : AProgram) where
   -- what is done with a place once it is found

@@ -4,12 +4,10 @@ use Rattle.gg_base.specs.declared.run.End.TheVariants as ends
 use Rattle.gg_base.specs.declared.run.SourceTurn.{SourceTurn}
 use Rattle.gg_base.specs.declared.run.SourceTurn.TheVariants as turns
 use Rattle.gg_base.specs.Runs.{Outcome, Runs, Remaining, stop, emit, counted}
-use Rattle.gg_base.specs.Turns.{Turns, counted_from}
+use Rattle.gg_base.specs.Turns.{Turns, counted_from, end_of}
 use Rattle.c_program.specs.Programs.{program}
 use Rattle.c_program.specs.Statements.{AnAction, SomeActions}
 use Rattle.c_meaning.specs.declared.flow.Flow.{Flow}
-use Rattle.c_meaning.specs.declared.flow.Finish.{Finish}
-use Rattle.c_meaning.specs.declared.flow.Finish.TheVariants as finish
 use Rattle.c_meaning.specs.declared.flow.Event.{Event}
 use Rattle.c_meaning.specs.declared.flow.Event.TheVariants.{Quiet, Wrote, Counted, Stopped}
 use Rattle.c_meaning.specs.declared.frame.ValueFrame.{ValueFrame}
@@ -23,7 +21,7 @@ use Rattle.c_meaning.specs.Meaning.{stmt, stmts}
 use Rattle.c_meaning.specs.Programs.{means}
 use Rattle.c_meaning.specs.Work.{act_work, acts_work}
 use Rattle.c_meaning.specs.Parts.{state}
-use Rattle.c_meaning.specs.Pending.{Then, with_flow, end_of, resume, leave, before, going, waits, to_come}
+use Rattle.c_meaning.specs.Pending.{Then, with_flow, resume, leave, before, going, waits, to_come}
 use Rattle.c_meaning.specs.FrameWork.{value_work, flow_work, frame_work, frames_work, control_work, work}
 
 -- What is left of a run behind an event. A quiet one leaves less than `bound` to do.
@@ -80,13 +78,6 @@ Reaches old Quiet new = ⊥
 Reaches old (Wrote b) new = to_come old ≡ emit b (to_come new)
 Reaches old Counted new = to_come old ≡ counted (to_come new)
 Reaches old (Stopped e) new = (to_come old ≡ stop (end_of e)) × (to_come new ≡ stop (end_of e))
-
--- the answer at an end
-abbrev pub turn_of : Finish → SourceTurn
-turn_of (finish.Ended v) = turns.Ended v
-turn_of finish.Trapped = turns.Trapped
-turn_of finish.Wild = turns.Wild
-turn_of finish.Deep = turns.Deep
 
 -- where a run stands; its number counts from its begin
 abbrev pub to_go : Bool → Machine → ℕ → Outcome

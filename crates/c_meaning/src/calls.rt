@@ -11,15 +11,15 @@ ghost use Rattle.c_meaning.specs.Runner.{Makes};
 ghost use Rattle.c_meaning.specs.Pending.{with_value};
 ghost use Rattle.c_meaning.specs.Work.{arguments_work};
 
-use crate::flow::{Event, Finish};
+use crate::flow::Event;
 use crate::frame::{Control, Frame};
 use crate::machine::Machine;
 use crate::store::{Activation, zeros};
 use c_program::Routine;
 use c_types::constant::convert;
 use c_types::{CType, Callee, Expression};
-use gg_base::NoMemory;
 use gg_base::limits::ACTIVE_CALL_LIMIT;
+use gg_base::{Finish, NoMemory};
 use std::alloc::Global;
 
 impl<'a> Machine<'a> {

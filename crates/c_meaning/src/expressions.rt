@@ -14,14 +14,14 @@ ghost use Rattle.c_meaning.specs.Work.{term_work};
 ghost use Rattle.c_meaning.specs.declared.frame.Frame.TheVariants as frames;
 ghost use Rattle.c_meaning.specs.declared.frame.ValueFrame.TheVariants as waiting;
 
-use crate::flow::{Event, Finish, Flow};
+use crate::flow::{Event, Flow};
 use crate::frame::{Control, Use, ValueFrame};
 use crate::machine::Machine;
 use crate::operator::{Operator, logical};
 use crate::store::{Spot, address, spot_of};
 use c_types::constant::{apply_unary, convert};
 use c_types::{Expression, Variable};
-use gg_base::NoMemory;
+use gg_base::{Finish, NoMemory};
 use std::alloc::Global;
 
 impl<'a> Machine<'a> {

@@ -1,10 +1,9 @@
-// How statements are left, how runs end, and what a step shows.
+// How statements are left, and what a step shows.
 
 ghost use Rattle.std.specs.Prelude.{◌≡◌};
 ghost use Rattle.c_meaning.specs.Calls.{answer};
-ghost use Rattle.c_meaning.specs.Runner.{turn_of};
 
-use gg_base::SourceTurn;
+use gg_base::Finish;
 
 /// How a statement is left.
 #[derive(Clone, Copy, Debug, PartialEq, Eq)]
@@ -29,29 +28,6 @@ impl Flow {
             Flow::Broke => 0,
             Flow::Continued => 0,
             Flow::Returned(value) => value,
-        }
-    }
-}
-
-/// How a run comes to its end, unless its number is used up.
-#[derive(Clone, Copy)]
-pub(crate) enum Finish {
-    Ended(u32),
-    Trapped,
-    Wild,
-    Deep,
-}
-
-impl Finish {
-    /// The answer at this end.
-    pub(crate) fn turn(self) -> SourceTurn
-        ensures { result ≡ turn_of self }
-    {
-        match self {
-            Finish::Ended(value) => SourceTurn::Ended(value),
-            Finish::Trapped => SourceTurn::Trapped,
-            Finish::Wild => SourceTurn::Wild,
-            Finish::Deep => SourceTurn::Deep,
         }
     }
 }

@@ -1,10 +1,11 @@
 // The work that a run still has to do. A phrase that waits is named by the box that it is in.
 
-use crate::flow::{Finish, Flow};
+use crate::flow::Flow;
 use crate::operator::Operator;
 use crate::store::{Activation, Spot};
 use c_program::{Action, Declaration};
 use c_types::{ArithmeticOperator, CType, Callee, Direction, Expression, Moment, UnaryOperator};
+use gg_base::Finish;
 
 /// A loop: its condition, what is done behind each turn, and what a turn does.
 #[derive(Clone, Copy)]

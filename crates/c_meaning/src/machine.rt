@@ -6,16 +6,17 @@ ghost use Rattle.c_program.specs.Programs.{program as plain};
 ghost use Rattle.c_meaning.specs.Programs.{source};
 ghost use Rattle.c_meaning.specs.declared.frame.Control.TheVariants as controls;
 ghost use Rattle.c_meaning.specs.declared.frame.Frame.TheVariants as frames;
-ghost use Rattle.c_meaning.specs.Pending.{to_come, end_of, with_value};
+ghost use Rattle.gg_base.specs.Turns.{end_of};
+ghost use Rattle.c_meaning.specs.Pending.{to_come, with_value};
 ghost use Rattle.c_meaning.specs.Runner.{Makes, Steps, Does, Goes, Waiting, Counts, Reaches};
 
 use crate::current::Current;
-use crate::flow::{Event, Finish, Flow};
+use crate::flow::{Event, Flow};
 use crate::frame::{Control, Frame, ValueFrame};
 use crate::store::{Store, zeros};
 use c_program::Program;
 use c_types::Expression;
-use gg_base::NoMemory;
+use gg_base::{Finish, NoMemory};
 use std::alloc::Global;
 use tree_core::area::opening;
 

@@ -12,14 +12,14 @@ ghost use Rattle.c_meaning.specs.Parts.{changed, combined};
 ghost use Rattle.c_meaning.specs.FrameWork.{use_work};
 ghost use Rattle.c_meaning.specs.Work.{place_work, term_work};
 
-use crate::flow::{Event, Finish};
+use crate::flow::Event;
 use crate::frame::{Control, Use, ValueFrame};
 use crate::machine::Machine;
 use crate::operator::{Operator, of_moment, stepped};
 use crate::store::{Spot, spot_of};
 use c_types::constant::convert;
 use c_types::{CType, Direction, Expression, Moment, Place};
-use gg_base::NoMemory;
+use gg_base::{Finish, NoMemory};
 
 impl<'a> Machine<'a> {
     /// Finds a place, with which something is done then.

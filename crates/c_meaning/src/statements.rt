@@ -13,12 +13,12 @@ ghost use Rattle.c_meaning.specs.Parts.{maybe_bor, loop_of};
 ghost use Rattle.c_meaning.specs.Work.{loop_work, again_to_do, maybe_work};
 ghost use Rattle.c_meaning.specs.FrameWork.{control_work};
 
-use crate::flow::{Event, Finish, Flow};
+use crate::flow::{Event, Flow};
 use crate::frame::{Control, FlowFrame, Frame, Loop, ValueFrame};
 use crate::machine::Machine;
 use c_program::{Action, Declaration};
 use c_types::Expression;
-use gg_base::NoMemory;
+use gg_base::{Finish, NoMemory};
 
 impl<'a> Machine<'a> {
     /// The first step of a statement.

@@ -1,8 +1,26 @@
 -- The answers of a run that is done turn by turn, one after another, and where it stands between two of them.
 use Rattle.std.specs.Prelude.{◌≡◌, ℕ, ◌+◌, List, [], ◌∷◌}
+use Rattle.gg_base.specs.declared.run.End.{End}
+use Rattle.gg_base.specs.declared.run.End.TheVariants as ends
+use Rattle.gg_base.specs.declared.run.Finish.{Finish}
+use Rattle.gg_base.specs.declared.run.Finish.TheVariants as finish
 use Rattle.gg_base.specs.declared.run.SourceTurn.{SourceTurn}
 use Rattle.gg_base.specs.declared.run.SourceTurn.TheVariants as turns
 use Rattle.gg_base.specs.Runs.{Outcome, Remaining}
+
+-- the end of a run that finishes so
+abbrev pub end_of : Finish → End
+end_of (finish.Ended v) = ends.Ended v
+end_of finish.Trapped = ends.Trapped
+end_of finish.Wild = ends.Wild
+end_of finish.Deep = ends.Deep
+
+-- the answer at that end
+abbrev pub turn_of : Finish → SourceTurn
+turn_of (finish.Ended v) = turns.Ended v
+turn_of finish.Trapped = turns.Trapped
+turn_of finish.Wild = turns.Wild
+turn_of finish.Deep = turns.Deep
 
 -- An answer is the first of those that were still to come; that of the end is answered again and again.
 abbrev pub Answers : SourceTurn → List SourceTurn → List SourceTurn → Type 0

@@ -18,7 +18,7 @@ pub use bytes::{Bytes, Name, Text, put_decimal};
 pub use memory::{NoMemory, number_of};
 pub use place::Place;
 pub use relation::Rel;
-pub use run::{Break, End, SourceTurn};
+pub use run::{Break, End, Finish, SourceTurn};
 pub use size::Size;
 
 #[cfg(test)]

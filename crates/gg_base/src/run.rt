@@ -1,5 +1,8 @@
 // How runs end and what they answer, for source, trees and code alike.
 
+ghost use Rattle.std.specs.Prelude.{◌≡◌};
+ghost use Rattle.gg_base.specs.Turns.{turn_of};
+
 /// In which way a run of VAX code breaks.
 #[derive(Clone, Copy, Debug, PartialEq, Eq)]
 pub enum Break {
@@ -42,4 +45,28 @@ pub enum SourceTurn {
     Wild,
     Deep,
     Spent,
+}
+
+/// How a run of a source or of trees comes to its end, unless its number is used up.
+#[derive(Clone, Copy, Debug, PartialEq, Eq)]
+pub enum Finish {
+    /// With this value (32 bits).
+    Ended(u32),
+    Trapped,
+    Wild,
+    Deep,
+}
+
+impl Finish {
+    /// The answer at this end.
+    pub fn turn(self) -> SourceTurn
+        ensures { result ≡ turn_of self }
+    {
+        match self {
+            Finish::Ended(value) => SourceTurn::Ended(value),
+            Finish::Trapped => SourceTurn::Trapped,
+            Finish::Wild => SourceTurn::Wild,
+            Finish::Deep => SourceTurn::Deep,
+        }
+    }
 }

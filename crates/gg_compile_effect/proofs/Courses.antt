@@ -3,7 +3,7 @@ use Rattle.std.proofs.Common.{◌≡◌, ℕ, List, [], ◌∷◌, length, map, 
 use Rattle.tree_core.specs.declared.program.TreeProgram.{TreeProgram}
 use Rattle.tree_core.specs.Names.{label_name, function_label}
 use Rattle.tree_meaning.specs.State.{State as Trees}
-use Rattle.tree_meaning.specs.declared.machine.Finish.TheVariants as finish
+use Rattle.gg_base.specs.declared.run.Finish.TheVariants as finish
 use Rattle.tree_meaning.specs.Steps.{Step, Goes as GoesOn, Serves, GoesTo, Enters, GoesBack, Ends}
 use Rattle.sel_target.specs.Courses as target
 use Rattle.sel_target.specs.Meaning.{Extent}

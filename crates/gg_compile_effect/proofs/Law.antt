@@ -11,7 +11,7 @@ use Rattle.tree_core.specs.Area.{stored}
 use Rattle.tree_core.specs.Calm.{Calm}
 use Rattle.tree_core.specs.Trees.{IsTyped, grown}
 use Rattle.tree_core.specs.Valid.{IsValid}
-use Rattle.tree_meaning.specs.declared.machine.Finish.TheVariants as finish
+use Rattle.gg_base.specs.declared.run.Finish.TheVariants as finish
 use Rattle.tree_meaning.specs.declared.value.Meaning.TheVariants.{Of, Local, Argument, Memory}
 use Rattle.tree_meaning.specs.State.{State as Trees, sight}
 use Rattle.tree_meaning.specs.Deeds.{Deed, Puts, Branches, Pushes, Returns, Calls, Saves, Jumps, Traps, Strays, tree_deed}

@@ -16,7 +16,7 @@ use Rattle.tree_core.specs.declared.program.TreeProgram.{TreeProgram}
 use Rattle.tree_core.specs.Trees.{grown}
 use Rattle.tree_meaning.specs.State.{Activation, ahead, Next, tree_at, coming, returned, arrived}
 use Rattle.tree_meaning.specs.State.{State as Trees}
-use Rattle.tree_meaning.specs.declared.machine.Finish.TheVariants as finish
+use Rattle.gg_base.specs.declared.run.Finish.TheVariants as finish
 use Rattle.tree_meaning.specs.Steps.{Step, Goes, Serves, GoesTo, Enters, GoesBack, Ends, tree_step}
 use Rattle.tree_meaning.specs.Meaning.{run, runs as tree_runs, carried}
 use Rattle.vax_machine_lists.specs.Instructions.{Course}

@@ -21,7 +21,7 @@ use Rattle.tree_core.specs.Trees.{grown}
 use Rattle.tree_core.specs.Names.{label_name, function_label}
 use Rattle.tree_meaning.specs.State.{Activation, behind}
 use Rattle.tree_meaning.specs.State.{State as Trees}
-use Rattle.tree_meaning.specs.declared.machine.Finish.TheVariants as finish
+use Rattle.gg_base.specs.declared.run.Finish.TheVariants as finish
 use Rattle.tree_meaning.specs.Steps.{Step, Goes, Serves, GoesTo, Enters, GoesBack, Ends, without_pushed, with_label, with_call as entering_with, tree_step}
 use Rattle.vax_states.specs.Agreeing.{Agrees, HasResult}
 use Rattle.vax_machine_lists.specs.Instructions.{Course, one_byte, exec, Comes, Goes as GoesAway, Calls as CallsOut, Returns, Stops}

@@ -31,7 +31,7 @@ use Rattle.tree_core.specs.declared.program.TreeProgram.{TreeProgram}
 use Rattle.tree_core.specs.Trees.{grown}
 use Rattle.tree_core.specs.Names.{label_name, function_label}
 use Rattle.tree_meaning.specs.State.{State as Trees}
-use Rattle.tree_meaning.specs.declared.machine.Finish.TheVariants as finish
+use Rattle.gg_base.specs.declared.run.Finish.TheVariants as finish
 use Rattle.tree_meaning.specs.Steps.{Step, Enters, Ends, without_pushed, with_result, called_as, served, wrote, got as answered, with_pushed, with_local_set, tree_step}
 use Rattle.vax_states.specs.Stack.{long_at, Extent, word_of, Holds}
 use Rattle.vax_machine_lists.specs.Sound.{AllBelow}

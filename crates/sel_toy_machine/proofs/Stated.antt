@@ -18,7 +18,7 @@ use Rattle.tree_core.specs.Area.{is_inside, stored}
 use Rattle.tree_core.specs.Valid.{args_of, args_or, service_args, takes}
 use Rattle.tree_core.specs.Names.{label_name, function_label}
 use Rattle.tree_meaning.specs.State.{State}
-use Rattle.tree_meaning.specs.declared.machine.Finish.TheVariants as finish
+use Rattle.gg_base.specs.declared.run.Finish.TheVariants as finish
 use Rattle.tree_meaning.specs.declared.value.Meaning.{Meaning as Place}
 use Rattle.tree_meaning.specs.declared.value.Meaning.TheVariants as meaning
 use Rattle.tree_meaning.specs.Deeds.{Deed, Puts, Branches, Pushes, Returns as Leaves, Calls as CallDeed, Saves, Jumps, Traps, Strays}

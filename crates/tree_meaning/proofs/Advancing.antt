@@ -3,17 +3,17 @@ use Rattle.std.proofs.Common.{◌≡◌, ℕ, zero, suc, ◌+◌, ◌-◌, List,
 use Rattle.gg_base.specs.declared.run.SourceTurn.{SourceTurn}
 use Rattle.gg_base.specs.declared.run.SourceTurn.TheVariants as turns
 use Rattle.gg_base.specs.Runs.{Remaining, AdvancesBy, one_first, after}
-use Rattle.gg_base.specs.Turns.{Answers, Turns, counted_from}
+use Rattle.gg_base.specs.Turns.{Answers, Turns, counted_from, turn_of}
 use Rattle.tree_core.specs.declared.tree.Leaf.{Leaf}
 use Rattle.tree_core.specs.declared.program.TreeProgram.{TreeProgram}
 use Rattle.tree_core.specs.Trees.{grown}
-use Rattle.tree_meaning.specs.declared.machine.Finish.{Finish}
-use Rattle.tree_meaning.specs.declared.machine.Finish.TheVariants as finish
+use Rattle.gg_base.specs.declared.run.Finish.{Finish}
+use Rattle.gg_base.specs.declared.run.Finish.TheVariants as finish
 use Rattle.tree_meaning.specs.declared.machine.Machine.{Machine}
 use Rattle.tree_meaning.specs.State.{Activation, State, Next, over, tree_at, returned, arrived}
 use Rattle.tree_meaning.specs.Steps.{Step, Goes, Serves, GoesTo, Enters, GoesBack, Ends, tree_step, next, written}
 use Rattle.tree_meaning.specs.Meaning.{first_written, run}
-use Rattle.tree_meaning.specs.Turns.{turn_of, byte_turn, return_turn, turn, before, answers, turns_at, AdvancesTrees}
+use Rattle.tree_meaning.specs.Turns.{byte_turn, return_turn, turn, before, answers, turns_at, AdvancesTrees}
 use Rattle.tree_meaning.specs.View.{state, turn_behind, turns_of, StepsBy, Arrives}
 
 abbrev Told : Turns → SourceTurn → Turns → Type 0

@@ -7,11 +7,12 @@ use Rattle.gg_base.proofs.Lasting.{one_end_of, emits_grow}
 use Rattle.gg_base.specs.Lasting.{Grows, Lasts}
 use Rattle.tree_core.specs.declared.program.TreeProgram.{TreeProgram}
 use Rattle.tree_core.specs.Trees.{grown}
-use Rattle.tree_meaning.specs.declared.machine.Finish.{Finish}
-use Rattle.tree_meaning.specs.declared.machine.Finish.TheVariants as finish
+use Rattle.gg_base.specs.declared.run.Finish.{Finish}
+use Rattle.gg_base.specs.declared.run.Finish.TheVariants as finish
 use Rattle.tree_meaning.specs.State.{Next, over, tree_at}
 use Rattle.tree_meaning.specs.Steps.{Step, tree_step, next, written}
-use Rattle.tree_meaning.specs.Meaning.{To, end_of, first_written, carried, run, runs, first_at, tree_run}
+use Rattle.gg_base.specs.Turns.{end_of}
+use Rattle.tree_meaning.specs.Meaning.{To, first_written, carried, run, runs, first_at, tree_run}
 
 -- A relation between outcomes that is kept by bytes is kept by steps.
 module _ (R : Outcome → Outcome → Type 0) (emits : (b : ℕ) (o p : Outcome) → R o p → R (byte_first b o) (byte_first b p)) (t u : To) (same : (x : Next) → R (t x) (u x)) where

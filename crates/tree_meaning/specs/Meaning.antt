@@ -9,20 +9,13 @@ use Rattle.tree_core.specs.declared.program.TreeFn.{TreeFn}
 use Rattle.tree_core.specs.declared.program.TreeProgram.{TreeProgram}
 use Rattle.tree_core.specs.Trees.{grown}
 use Rattle.tree_core.specs.Area.{opening}
-use Rattle.tree_meaning.specs.declared.machine.Finish.{Finish}
-use Rattle.tree_meaning.specs.declared.machine.Finish.TheVariants as finish
+use Rattle.gg_base.specs.declared.run.Finish.TheVariants as finish
 use Rattle.tree_meaning.specs.State.{begun, Next, over, tree_at, arrived}
 use Rattle.tree_meaning.specs.Steps.{Step, tree_step, next, written}
 
 -- the run ends here
 abbrev pub ended : End → Outcome
 ended e = record { output = []; end = e; number = 0 }
-
-abbrev pub end_of : Finish → End
-end_of (finish.Ended v) = ends.Ended v
-end_of finish.Trapped = ends.Trapped
-end_of finish.Wild = ends.Wild
-end_of finish.Deep = ends.Deep
 
 -- how a run goes on from where it comes to
 abbrev pub To : Type 0

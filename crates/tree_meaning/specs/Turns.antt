@@ -4,23 +4,14 @@ use Rattle.gg_base.specs.declared.run.End.TheVariants as ends
 use Rattle.gg_base.specs.declared.run.SourceTurn.{SourceTurn}
 use Rattle.gg_base.specs.declared.run.SourceTurn.TheVariants as turns
 use Rattle.gg_base.specs.Runs.{Outcome, Remaining, AdvancesBy}
-use Rattle.gg_base.specs.Turns.{Turns, counted_from}
+use Rattle.gg_base.specs.Turns.{Turns, counted_from, turn_of}
 use Rattle.tree_core.specs.declared.program.TreeProgram.{TreeProgram}
 use Rattle.tree_core.specs.Trees.{grown}
-use Rattle.tree_meaning.specs.declared.machine.Finish.{Finish}
-use Rattle.tree_meaning.specs.declared.machine.Finish.TheVariants as finish
 use Rattle.tree_meaning.specs.State.{Activation, Next, over, tree_at}
 use Rattle.tree_meaning.specs.Steps.{Step, Goes, Serves, GoesTo, Enters, GoesBack, Ends, tree_step, next}
 use Rattle.tree_meaning.specs.Meaning.{ended, run, first_at}
 
 -- ---- what is answered to a step
-
--- the end of a run
-abbrev pub turn_of : Finish → SourceTurn
-turn_of (finish.Ended v) = turns.Ended v
-turn_of finish.Trapped = turns.Trapped
-turn_of finish.Wild = turns.Wild
-turn_of finish.Deep = turns.Deep
 
 abbrev pub byte_turn : Option ℕ → SourceTurn
 byte_turn None = turns.Going

@@ -2,8 +2,8 @@
 use Rattle.std.specs.Prelude.{◌≡◌, ℕ, List, Bool, true, false, Option, Some, None, IsSome, map, reverse, take, drop, length, slice_get, ◌∷◌}
 use Rattle.gg_base.specs.declared.run.SourceTurn.{SourceTurn}
 use Rattle.gg_base.specs.declared.run.SourceTurn.TheVariants as turns
-use Rattle.gg_base.specs.Turns.{Turns}
-use Rattle.tree_meaning.specs.declared.machine.Finish.{Finish}
+use Rattle.gg_base.specs.Turns.{Turns, turn_of}
+use Rattle.gg_base.specs.declared.run.Finish.{Finish}
 use Rattle.tree_core.specs.declared.tree.Leaf.{Leaf}
 use Rattle.tree_core.specs.declared.program.Object.{Object}
 use Rattle.tree_core.specs.declared.program.TreeProgram.{TreeProgram}
@@ -15,7 +15,7 @@ use Rattle.tree_meaning.specs.Values.{Sight, leaf_means}
 use Rattle.tree_meaning.specs.State.{Activation, State, Next, over, tree_at, arrived}
 use Rattle.tree_meaning.specs.Deeds.{Deed}
 use Rattle.tree_meaning.specs.Steps.{Step, deed_step, next}
-use Rattle.tree_meaning.specs.Turns.{turn_of, turn, turns_at}
+use Rattle.tree_meaning.specs.Turns.{turn, turns_at}
 
 -- a local that was written has its value
 abbrev pub joined : Option (Option ℕ) → Option ℕ

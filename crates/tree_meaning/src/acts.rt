@@ -7,10 +7,10 @@ ghost use Rattle.tree_meaning.specs.Steps.{put, entered, wrote, got, served, cal
 ghost use Rattle.tree_meaning.specs.View.{state, StepsBy, Does};
 
 use crate::frame::Frame;
-use crate::machine::{Finish, Machine};
+use crate::machine::Machine;
 use crate::value::{Meaning, Value};
-use gg_base::NoMemory;
 use gg_base::limits::ACTIVE_CALL_LIMIT;
+use gg_base::{Finish, NoMemory};
 use std::alloc::Global;
 use std::mem;
 use tree_core::area::store;

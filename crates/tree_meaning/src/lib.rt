@@ -9,6 +9,5 @@ mod reading;
 mod run;
 mod value;
 
-pub use machine::Finish;
 pub use run::TreeRun;
 pub use value::{Meaning, Value};

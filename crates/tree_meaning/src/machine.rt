@@ -3,44 +3,22 @@
 ghost use Rattle.std.specs.Prelude.{◌≡◌, ◌+◌, IfOk, None, Some, length, if◌then◌else◌};
 ghost use Rattle.std.specs.Bool.{OnTrue, OnFalse};
 ghost use Rattle.std.specs.Option.{option_copied};
-ghost use Rattle.tree_meaning.specs.declared.machine.Finish.TheVariants.{Ended};
+ghost use Rattle.gg_base.specs.declared.run.Finish.TheVariants.{Ended};
 ghost use Rattle.tree_core.specs.Trees.{grown};
 ghost use Rattle.tree_meaning.specs.State.{returned, arrived, over};
 ghost use Rattle.tree_meaning.specs.Steps.{tree_step};
 ghost use Rattle.tree_meaning.specs.Meaning.{main_of, first_at};
 ghost use Rattle.gg_base.specs.declared.run.SourceTurn.TheVariants.{Going, Ended as EndedTurn};
-ghost use Rattle.tree_meaning.specs.Turns.{turn_of, return_turn};
+ghost use Rattle.gg_base.specs.Turns.{turn_of};
+ghost use Rattle.tree_meaning.specs.Turns.{return_turn};
 ghost use Rattle.tree_meaning.specs.View.{state, place, turn_behind, StepsBy, Arrives};
 
 use crate::frame::{Frame, next_root};
 use crate::reading::take_kids;
-use gg_base::{NoMemory, SourceTurn};
+use gg_base::{Finish, NoMemory, SourceTurn};
 use std::alloc::Global;
 use tree_core::area::opening;
 use tree_core::{Leaf, TreeFn, TreeProgram};
-
-/// How a run of trees comes to its end, unless its number is used up.
-#[derive(Clone, Copy, Debug, PartialEq, Eq)]
-pub enum Finish {
-    Ended(u32),
-    Trapped,
-    Wild,
-    Deep,
-}
-
-impl Finish {
-    /// The answer at this end.
-    pub(crate) fn turn(self) -> SourceTurn
-        ensures { result ≡ turn_of self }
-    {
-        match self {
-            Finish::Ended(value) => SourceTurn::Ended(value),
-            Finish::Trapped => SourceTurn::Trapped,
-            Finish::Wild => SourceTurn::Wild,
-            Finish::Deep => SourceTurn::Deep,
-        }
-    }
-}
 
 /// A run of a tree program: the innermost call, those that wait for it, the last caller last, the
 /// data area, the input that is left, and the end if the run has come to it.
