@@ -1,10 +1,10 @@
 -- Small facts of truth values, choices, numbers and lists that proofs of many crates cite, beside those of std.
 use Rattle.std.proofs.Common.{◌≡◌, ℕ, zero, suc, ◌+◌, ◌-◌, ◌<◌, Bool, true, false, ◌⊎◌, inl, inr, ⊎_elim, Option, Some, None, List, [], ◌∷◌, ◌++◌, length, refl, sym, ap, subst}
-use Rattle.std.proofs.Common.{take, reverse, ◌∙◌, arith}
+use Rattle.std.proofs.Common.{take, drop, get_or, reverse, ◌∙◌, arith}
 use Rattle.std.specs.Prelude.{◌≤◌, ◌&&◌, ◌||◌, ◌==◌, cond, if◌then◌else◌, is_some, is_none, IsSome, Result, Ok, Err, IfOk, slice_get, slice_set, slice_index_or}
 use Rattle.std.specs.List.{AllByRecursion as All}
 use Rattle.std.proofs.Math.Seq.{take-append_seam}
-use Rattle.std.proofs.lemmas.List.{length-append, reverse-append}
+use Rattle.std.proofs.lemmas.List.{length-append, reverse-append, drop_more}
 use Rattle.std.proofs.lemmas.Option.{none-some, same_Some}
 use Rattle.std.proofs.lemmas.Bool.Decides.{nat_tests}
 
@@ -25,6 +25,10 @@ first_false false b e = refl
 pub second_false : (a b : Bool) → (a || b) ≡ false → b ≡ false
 second_false true b e = cc
 second_false false b e = e
+
+pub either_is : (a b : Bool) {P : Type 0} → (a || b) ≡ true → (a ≡ true → P) → (b ≡ true → P) → P
+either_is true b e f g = f refl
+either_is false b e f g = g e
 
 pub true_or_false : (b : Bool) → b ≡ true → b ≡ false → ⊥
 true_or_false b e h = cc
@@ -174,6 +178,10 @@ pub take_front : {A : Type 0} (xs : List A) (x : A) → take (length (xs ++ x �
 take_front xs x =
     let n : length (xs ++ x ∷ []) - 1 ≡ length xs = (let a = length-append xs (x ∷ []) in omega (arith, a)) in
     ap (λ (k : ℕ). take k (xs ++ x ∷ [])) n ∙ take-append_seam xs (x ∷ [])
+
+-- what is left from a place on begins with what stands there
+pub front_is : {A : Type 0} (xs : List A) (i : ℕ) (x : A) → i < length xs → x ≡ get_or xs i x → drop i xs ≡ x ∷ drop (i + 1) xs
+front_is xs i x lt is = drop_more xs i x lt ∙ ap (λ y. y ∷ drop (i + 1) xs) (sym is)
 
 pub reverse_last : {A : Type 0} (items rest : List A) (x : A) → items ≡ rest ++ x ∷ [] → reverse items ≡ x ∷ reverse rest
 reverse_last items rest x e = ap (λ (ys : List _). reverse ys) e ∙ reverse-append rest (x ∷ [])
