@@ -20,6 +20,7 @@ use Rattle.sel_parse_desk.specs.Desk.{Stack, Outcome, Full, Stuck, Done}
 use Rattle.sel_parse_desk.specs.Reductions.{reduced}
 use Rattle.sel_parse_desk.specs.Selected.{selecting, Parsed}
 use Rattle.sel_parse_desk.specs.Mirror.{stack_of}
+use Rattle.sel_parse_desk.specs.declared.desk.Setting.{Setting}
 use Rattle.sel_parse.specs.declared.selection.Parse.{Parse}
 use Rattle.sel_parse.specs.declared.selection.ParseFault.{ParseFault}
 use Rattle.sel_parse.specs.declared.selection.ParseFault.TheVariants as parse_fault
@@ -132,6 +133,11 @@ module _ {O I S F : Type 0} (of : Meaning O I S F) (q : TreeProgram) (t : TableV
   abbrev pub step : List Leaf → Config O I → Turn O I
   step w c = made_turn c (slice_get w c.at) (chosen (takes of q t.content first c.stack)
       (actions_at t (top_of c.states) (coming (slice_get w c.at))))
+
+-- what a definition over the tables says in a setting
+abbrev pub by_tables : {O I S F T X : Type 0} → Meaning O I S F → Setting T → TableView
+    → (Meaning O I S F → TreeProgram → TableView → ℕ → X) → X
+by_tables of setting t definition = definition of setting.program.now t setting.first
 
 -- a step is made: it accepts, or goes on
 abbrev pub Turns : {O I : Type 0} → Bool → Config O I → Config O I → Turn O I → Type 0

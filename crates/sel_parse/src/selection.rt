@@ -6,9 +6,9 @@ ghost use Rattle.lr_tables.specs.Leads.{target_at};
 ghost use Rattle.md_reader.specs.declared.types.Sym.TheVariants as grammar_symbol;
 ghost use Rattle.sel_parse_desk.specs.Reductions.{reduced};
 ghost use Rattle.sel_parse_desk.specs.Selected.{tree_of, HasCode, FrameFull, Blocked};
-ghost use Rattle.sel_parse_desk.specs.Mirror.{stack_of, IsReady};
+ghost use Rattle.sel_parse_desk.specs.Mirror.{in_setting, stack_of, IsReady};
 ghost use Rattle.sel_parse.specs.Steps.{config_of, takes, chosen, top_of, coming, shifted_turn, seen_before, placed, reduced_turn};
-ghost use Rattle.sel_parse.specs.Steps.{turn_by, made_turn, step, Onward, Falls, Turns, Ends};
+ghost use Rattle.sel_parse.specs.Steps.{turn_by, made_turn, step, by_tables, Onward, Falls, Turns, Ends};
 
 use crate::generator::Generator;
 use gg_base::NoMemory;
@@ -134,8 +134,7 @@ fn is_taken<T: Templates>(
     desk: &Desk<T::Operand, T::Instr>,
     number: u16,
 ) -> Result<bool, NoMemory>
-    ensures { IfOk result (λ yes. yes ≡ takes T.meaning setting.now.program.now setting.now.description.now setting.now.first
-        (stack_of desk.now) number) }
+    ensures { IfOk result (λ yes. yes ≡ in_setting T.meaning setting.now takes (stack_of desk.now) number) }
 {
     match setting.description.rules().get(number as usize) {
         None => Ok(false),
@@ -154,8 +153,7 @@ fn choose<T: Templates>(
     desk: &Desk<T::Operand, T::Instr>,
     choices: &[Choice],
 ) -> Result<Option<Choice>, NoMemory>
-    ensures { IfOk result (λ o. o ≡ chosen (takes T.meaning setting.now.program.now setting.now.description.now setting.now.first
-        (stack_of desk.now)) choices.now) }
+    ensures { IfOk result (λ o. o ≡ chosen (in_setting T.meaning setting.now takes (stack_of desk.now)) choices.now) }
 {
     for choice in choices {
         match *choice {
@@ -256,10 +254,9 @@ fn reduce_by<T: Templates>(
 ) -> Result<(), ParseFault>
     requires ready { IsReady T.meaning parse.old.desk }
     ensures done { OnOk result (reduced_turn tables.now (config_of parse.old) rule.now
-        (reduced T.meaning setting.now.program.now setting.now.description.now setting.now.first rule.now (stack_of parse.old.desk))
-        ≡ Onward (config_of parse.new)) }
+        (in_setting T.meaning setting.now reduced rule.now (stack_of parse.old.desk)) ≡ Onward (config_of parse.new)) }
     ensures fails { IfErr result (λ e. Falls e (reduced_turn tables.now (config_of parse.old) rule.now
-        (reduced T.meaning setting.now.program.now setting.now.description.now setting.now.first rule.now (stack_of parse.old.desk)))) }
+        (in_setting T.meaning setting.now reduced rule.now (stack_of parse.old.desk)))) }
     ensures ready { OnOk result (IsReady T.meaning parse.new.desk) }
 {
     reduce(setting, &mut parse.desk, rule)?;
@@ -296,10 +293,10 @@ fn make_reduction<T: Templates>(
 ) -> Result<(), ParseFault>
     requires same { setting.now.description.now ≡ tables.now.content }
     requires ready { IsReady T.meaning parse.old.desk }
-    ensures done { OnOk result (turn_by T.meaning setting.now.program.now tables.now setting.now.first (config_of parse.old)
+    ensures done { OnOk result (by_tables T.meaning setting.now tables.now turn_by (config_of parse.old)
         (slice_get tables.now.content.rules number) ≡ Onward (config_of parse.new)) }
-    ensures fails { IfErr result (λ e. Falls e (turn_by T.meaning setting.now.program.now tables.now setting.now.first
-        (config_of parse.old) (slice_get tables.now.content.rules number))) }
+    ensures fails { IfErr result (λ e. Falls e (by_tables T.meaning setting.now tables.now turn_by (config_of parse.old)
+        (slice_get tables.now.content.rules number))) }
     ensures ready { OnOk result (IsReady T.meaning parse.new.desk) }
 {
     let Some(rule) = tables.description().rules().get(number as usize) else {
@@ -319,10 +316,9 @@ fn make<T: Templates>(
     requires same { setting.now.description.now ≡ tables.now.content }
     requires ready { IsReady T.meaning parse.old.desk }
     ensures onward { IfOk result (λ done. Turns done (config_of parse.old) (config_of parse.new)
-        (made_turn T.meaning setting.now.program.now tables.now setting.now.first (config_of parse.old)
+        (by_tables T.meaning setting.now tables.now made_turn (config_of parse.old) (slice_get tree.now parse.old.at) (Some choice))) }
+    ensures fails { IfErr result (λ e. Falls e (by_tables T.meaning setting.now tables.now made_turn (config_of parse.old)
         (slice_get tree.now parse.old.at) (Some choice))) }
-    ensures fails { IfErr result (λ e. Falls e (made_turn T.meaning setting.now.program.now tables.now setting.now.first
-        (config_of parse.old) (slice_get tree.now parse.old.at) (Some choice))) }
     ensures ready { OnOk result (IsReady T.meaning parse.new.desk) }
 {
     match choice {
@@ -348,9 +344,8 @@ fn step<T: Templates>(
     requires same { setting.now.description.now ≡ tables.now.content }
     requires ready { IsReady T.meaning parse.old.desk }
     ensures onward { IfOk result (λ done. Turns done (config_of parse.old) (config_of parse.new)
-        (step T.meaning setting.now.program.now tables.now setting.now.first tree.now (config_of parse.old))) }
-    ensures fails { IfErr result (λ e. Falls e (step T.meaning setting.now.program.now tables.now setting.now.first tree.now
-        (config_of parse.old))) }
+        (by_tables T.meaning setting.now tables.now step tree.now (config_of parse.old))) }
+    ensures fails { IfErr result (λ e. Falls e (by_tables T.meaning setting.now tables.now step tree.now (config_of parse.old))) }
     ensures ready { OnOk result (IsReady T.meaning parse.new.desk) }
 {
     let choices = tables.action(top_of(&parse.states), coming(tree, parse.at));

@@ -2,6 +2,7 @@
 use Rattle.std.specs.Prelude.{◌≡◌, ℕ, ◌≤◌, List, map, reverse}
 use Rattle.tree_core.specs.declared.program.TreeProgram.{TreeProgram}
 use Rattle.md_reader_pieces.specs.declared.piece.Line.{Line}
+use Rattle.md_reader.specs.State.{Content}
 use Rattle.sel_target.specs.declared.attr.Attr.{Attr}
 use Rattle.sel_target.specs.declared.attr.Attr.TheVariants as attr
 use Rattle.sel_target.specs.Meaning.{Meaning}
@@ -18,9 +19,13 @@ use Rattle.sel_parse_desk.specs.Tallied.{IsTallied}
 abbrev pub desk_of : {O I : Type 0} → Held O I → Desk O I
 desk_of k = record { below = k.stack.entries; symbols = k.symbols; late = k.late.items; code = k.code.items; most = k.most }
 
+-- what a definition of a selection says in a setting
+abbrev pub in_setting : {O I S F T X : Type 0} → Meaning O I S F → Setting T → (Meaning O I S F → TreeProgram → Content → ℕ → X) → X
+in_setting of setting definition = definition of setting.program.now setting.description.now setting.first
+
 -- how the questions of a parse are answered in a setting
 abbrev pub selecting_in : {O I S F T : Type 0} → Meaning O I S F → Setting T → Selecting (Kept O I) (Entry O)
-selecting_in of setting = selecting of setting.program.now setting.description.now setting.first
+selecting_in of setting = in_setting of setting selecting
 
 -- between two reductions
 abbrev pub stack_of : {O I : Type 0} → Held O I → Stack O I

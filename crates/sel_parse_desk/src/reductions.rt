@@ -14,7 +14,7 @@ ghost use Rattle.sel_parse_desk.specs.Reductions.{reloaded_at, reloaded, own_reg
 ghost use Rattle.sel_parse_desk.specs.Reductions.{finished, with_result, with_scratch, given_by, reduced};
 ghost use Rattle.sel_parse_desk.specs.Selected.{shifted};
 ghost use Rattle.sel_parse_desk.specs.Joined.{is_low};
-ghost use Rattle.sel_parse_desk.specs.Mirror.{desk_of, stack_of, filled_lines, Fails, IsReady};
+ghost use Rattle.sel_parse_desk.specs.Mirror.{desk_of, in_setting, stack_of, filled_lines, Fails, IsReady};
 
 use crate::desk::{Desk, DeskFault, Setting};
 use crate::entries::Entries;
@@ -93,10 +93,10 @@ fn reload<T: Templates>(
     at: usize,
 ) -> Result<(), DeskFault>
     requires ready { IsReady T.meaning desk.old }
-    ensures done { OnOk result (reloaded_at T.meaning setting.now.program.now setting.now.description.now setting.now.first at
-        (desk_of desk.old) (slot_in (slice_get (desk_of desk.old).symbols at)) ≡ Done (desk_of desk.new)) }
-    ensures fails { IfErr result (λ e. Fails e (reloaded_at T.meaning setting.now.program.now setting.now.description.now
-        setting.now.first at (desk_of desk.old) (slot_in (slice_get (desk_of desk.old).symbols at)))) }
+    ensures done { OnOk result (in_setting T.meaning setting.now reloaded_at at (desk_of desk.old)
+        (slot_in (slice_get (desk_of desk.old).symbols at)) ≡ Done (desk_of desk.new)) }
+    ensures fails { IfErr result (λ e. Fails e (in_setting T.meaning setting.now reloaded_at at (desk_of desk.old)
+        (slot_in (slice_get (desk_of desk.old).symbols at)))) }
     ensures ready { OnOk result (IsReady T.meaning desk.new) }
 {
     let Some(word) = desk.symbols.slot(at) else {
@@ -119,10 +119,8 @@ fn reload_all<T: Templates>(
 ) -> Result<(), DeskFault>
     requires few { at + count < 2 ^ 64 }
     requires ready { IsReady T.meaning desk.old }
-    ensures done { OnOk result (reloaded T.meaning setting.now.program.now setting.now.description.now setting.now.first count at
-        (desk_of desk.old) ≡ Done (desk_of desk.new)) }
-    ensures fails { IfErr result (λ e. Fails e (reloaded T.meaning setting.now.program.now setting.now.description.now
-        setting.now.first count at (desk_of desk.old))) }
+    ensures done { OnOk result (in_setting T.meaning setting.now reloaded count at (desk_of desk.old) ≡ Done (desk_of desk.new)) }
+    ensures fails { IfErr result (λ e. Fails e (in_setting T.meaning setting.now reloaded count at (desk_of desk.old))) }
     ensures ready { OnOk result (IsReady T.meaning desk.new) }
 {
     if count == 0 {
@@ -162,8 +160,8 @@ fn finish<T: Templates>(
 ) -> Result<(), NoMemory>
     requires low { is_low given ≡ true }
     requires ready { IsReady T.meaning desk.old }
-    ensures done { OnOk result (finished T.meaning setting.now.program.now setting.now.description.now setting.now.first rule.now
-        zero.now given (desk_of desk.old) ≡ Done (stack_of desk.new)) }
+    ensures done { OnOk result (in_setting T.meaning setting.now finished rule.now zero.now given (desk_of desk.old)
+        ≡ Done (stack_of desk.new)) }
     ensures ready { OnOk result (IsReady T.meaning desk.new) }
 {
     let lines = rule.lines.as_slice();
@@ -222,8 +220,7 @@ fn shaped<T: Templates>(
     shape: &Line,
     holes: &[Attr<T::Operand>],
 ) -> Result<Attr<T::Operand>, NoMemory>
-    ensures given { IfOk result (λ a. a ≡ shaped T.meaning setting.now.program.now setting.now.description.now setting.now.first kind
-        shape.now holes.now) }
+    ensures given { IfOk result (λ a. a ≡ in_setting T.meaning setting.now shaped kind shape.now holes.now) }
     ensures low { IfOk result (λ a. is_low a ≡ true) }
 {
     let first = first_hole(shape.pieces.as_slice());
@@ -257,12 +254,10 @@ fn give_register<T: Templates>(
     given: bool,
 ) -> Result<(), DeskFault>
     requires ready { IsReady T.meaning desk.old }
-    ensures done { OnOk result (bind (due T.meaning setting.now.program.now setting.now.description.now setting.now.first given
-        (desk_of desk.old)) (with_result T.meaning setting.now.program.now setting.now.description.now setting.now.first rule.now)
-        ≡ Done (stack_of desk.new)) }
-    ensures fails { IfErr result (λ e. Fails e (bind (due T.meaning setting.now.program.now setting.now.description.now
-        setting.now.first given (desk_of desk.old)) (with_result T.meaning setting.now.program.now setting.now.description.now
-        setting.now.first rule.now))) }
+    ensures done { OnOk result (bind (in_setting T.meaning setting.now due given (desk_of desk.old))
+        (in_setting T.meaning setting.now with_result rule.now) ≡ Done (stack_of desk.new)) }
+    ensures fails { IfErr result (λ e. Fails e (bind (in_setting T.meaning setting.now due given (desk_of desk.old))
+        (in_setting T.meaning setting.now with_result rule.now))) }
     ensures ready { OnOk result (IsReady T.meaning desk.new) }
 {
     let register = due(setting, desk, given)?;
@@ -277,12 +272,10 @@ fn give_scratch<T: Templates>(
     rule: &Rule,
 ) -> Result<(), DeskFault>
     requires ready { IsReady T.meaning desk.old }
-    ensures done { OnOk result (bind (due T.meaning setting.now.program.now setting.now.description.now setting.now.first false
-        (desk_of desk.old)) (with_scratch T.meaning setting.now.program.now setting.now.description.now setting.now.first rule.now)
-        ≡ Done (stack_of desk.new)) }
-    ensures fails { IfErr result (λ e. Fails e (bind (due T.meaning setting.now.program.now setting.now.description.now
-        setting.now.first false (desk_of desk.old)) (with_scratch T.meaning setting.now.program.now setting.now.description.now
-        setting.now.first rule.now))) }
+    ensures done { OnOk result (bind (in_setting T.meaning setting.now due false (desk_of desk.old))
+        (in_setting T.meaning setting.now with_scratch rule.now) ≡ Done (stack_of desk.new)) }
+    ensures fails { IfErr result (λ e. Fails e (bind (in_setting T.meaning setting.now due false (desk_of desk.old))
+        (in_setting T.meaning setting.now with_scratch rule.now))) }
     ensures ready { OnOk result (IsReady T.meaning desk.new) }
 {
     let register = due(setting, desk, false)?;
@@ -298,8 +291,8 @@ fn give_shape<T: Templates>(
     shape: &Line,
 ) -> Result<(), NoMemory>
     requires ready { IsReady T.meaning desk.old }
-    ensures done { OnOk result (given_by T.meaning setting.now.program.now setting.now.description.now setting.now.first rule.now
-        (give.Shape shape.now) (desk_of desk.old) ≡ Done (stack_of desk.new)) }
+    ensures done { OnOk result (in_setting T.meaning setting.now given_by rule.now (give.Shape shape.now) (desk_of desk.old)
+        ≡ Done (stack_of desk.new)) }
     ensures ready { OnOk result (IsReady T.meaning desk.new) }
 {
     let kind = kind_at(setting.description.classes(), rule.left);
@@ -313,10 +306,9 @@ fn give<T: Templates>(
     rule: &Rule,
 ) -> Result<(), DeskFault>
     requires ready { IsReady T.meaning desk.old }
-    ensures done { OnOk result (given_by T.meaning setting.now.program.now setting.now.description.now setting.now.first rule.now
-        rule.now.give (desk_of desk.old) ≡ Done (stack_of desk.new)) }
-    ensures fails { IfErr result (λ e. Fails e (given_by T.meaning setting.now.program.now setting.now.description.now
-        setting.now.first rule.now rule.now.give (desk_of desk.old))) }
+    ensures done { OnOk result (in_setting T.meaning setting.now given_by rule.now rule.now.give (desk_of desk.old)
+        ≡ Done (stack_of desk.new)) }
+    ensures fails { IfErr result (λ e. Fails e (in_setting T.meaning setting.now given_by rule.now rule.now.give (desk_of desk.old))) }
     ensures ready { OnOk result (IsReady T.meaning desk.new) }
 {
     match &rule.give {
@@ -356,10 +348,8 @@ pub fn reduce<T: Templates>(
     rule: &Rule,
 ) -> Result<(), DeskFault>
     requires ready { IsReady T.meaning desk.old }
-    ensures done { OnOk result (reduced T.meaning setting.now.program.now setting.now.description.now setting.now.first rule.now
-        (stack_of desk.old) ≡ Done (stack_of desk.new)) }
-    ensures fails { IfErr result (λ e. Fails e (reduced T.meaning setting.now.program.now setting.now.description.now setting.now.first
-        rule.now (stack_of desk.old))) }
+    ensures done { OnOk result (in_setting T.meaning setting.now reduced rule.now (stack_of desk.old) ≡ Done (stack_of desk.new)) }
+    ensures fails { IfErr result (λ e. Fails e (in_setting T.meaning setting.now reduced rule.now (stack_of desk.old))) }
     ensures ready { OnOk result (IsReady T.meaning desk.new) }
 {
     let size = rule.right.as_slice().len();

@@ -8,7 +8,7 @@ ghost use Rattle.sel_parse_desk.specs.Entries.{kind_in, word_of};
 ghost use Rattle.sel_parse_desk.specs.Desk.{is_free_register, free_register, is_free_word, free_slot, Done};
 ghost use Rattle.sel_parse_desk.specs.Spills.{in_slot, let_go, victim, spilled, due, Below, Among};
 ghost use Rattle.sel_parse_desk.specs.Joined.{is_low, attr_in};
-ghost use Rattle.sel_parse_desk.specs.Mirror.{desk_of, saved_line, Fails, IsReady};
+ghost use Rattle.sel_parse_desk.specs.Mirror.{desk_of, in_setting, saved_line, Fails, IsReady};
 
 use crate::desk::{Desk, DeskFault, Setting};
 use crate::entries::Entries;
@@ -188,10 +188,8 @@ fn save_below<T: Templates>(
     requires within { at < length desk.old.stack.entries }
     requires unsettled { desk.old.stack.settled ≤ at }
     requires ready { IsReady T.meaning desk.old }
-    ensures done { OnOk result (spilled T.meaning setting.now.program.now setting.now.description.now setting.now.first
-        (desk_of desk.old) (Some (Below at)) ≡ Done (desk_of desk.new)) }
-    ensures fails { IfErr result (λ e. Fails e (spilled T.meaning setting.now.program.now setting.now.description.now setting.now.first
-        (desk_of desk.old) (Some (Below at)))) }
+    ensures done { OnOk result (in_setting T.meaning setting.now spilled (desk_of desk.old) (Some (Below at)) ≡ Done (desk_of desk.new)) }
+    ensures fails { IfErr result (λ e. Fails e (in_setting T.meaning setting.now spilled (desk_of desk.old) (Some (Below at)))) }
     ensures ready { OnOk result (IsReady T.meaning desk.new) }
 {
     let Some(word) = free_slot(setting, desk) else {
@@ -218,10 +216,8 @@ fn save_symbol<T: Templates>(
 ) -> Result<(), DeskFault>
     requires within { at < length desk.old.symbols }
     requires ready { IsReady T.meaning desk.old }
-    ensures done { OnOk result (spilled T.meaning setting.now.program.now setting.now.description.now setting.now.first
-        (desk_of desk.old) (Some (Among at)) ≡ Done (desk_of desk.new)) }
-    ensures fails { IfErr result (λ e. Fails e (spilled T.meaning setting.now.program.now setting.now.description.now setting.now.first
-        (desk_of desk.old) (Some (Among at)))) }
+    ensures done { OnOk result (in_setting T.meaning setting.now spilled (desk_of desk.old) (Some (Among at)) ≡ Done (desk_of desk.new)) }
+    ensures fails { IfErr result (λ e. Fails e (in_setting T.meaning setting.now spilled (desk_of desk.old) (Some (Among at)))) }
     ensures ready { OnOk result (IsReady T.meaning desk.new) }
 {
     let Some(word) = free_slot(setting, desk) else {
@@ -247,10 +243,10 @@ fn spill<T: Templates>(
     given: bool,
 ) -> Result<(), DeskFault>
     requires ready { IsReady T.meaning desk.old }
-    ensures done { OnOk result (spilled T.meaning setting.now.program.now setting.now.description.now setting.now.first
-        (desk_of desk.old) (victim T.meaning given (desk_of desk.old)) ≡ Done (desk_of desk.new)) }
-    ensures fails { IfErr result (λ e. Fails e (spilled T.meaning setting.now.program.now setting.now.description.now setting.now.first
-        (desk_of desk.old) (victim T.meaning given (desk_of desk.old)))) }
+    ensures done { OnOk result (in_setting T.meaning setting.now spilled (desk_of desk.old) (victim T.meaning given (desk_of desk.old))
+        ≡ Done (desk_of desk.new)) }
+    ensures fails { IfErr result (λ e. Fails e (in_setting T.meaning setting.now spilled (desk_of desk.old)
+        (victim T.meaning given (desk_of desk.old)))) }
     ensures ready { OnOk result (IsReady T.meaning desk.new) }
 {
     if let Some(at) = deepest(setting.target, &mut desk.stack) {
@@ -273,10 +269,8 @@ pub fn due<T: Templates>(
     given: bool,
 ) -> Result<u8, DeskFault>
     requires ready { IsReady T.meaning desk.old }
-    ensures done { IfOk result (λ r. due T.meaning setting.now.program.now setting.now.description.now setting.now.first given
-        (desk_of desk.old) ≡ Done (r, desk_of desk.new)) }
-    ensures fails { IfErr result (λ e. Fails e (due T.meaning setting.now.program.now setting.now.description.now setting.now.first
-        given (desk_of desk.old))) }
+    ensures done { IfOk result (λ r. in_setting T.meaning setting.now due given (desk_of desk.old) ≡ Done (r, desk_of desk.new)) }
+    ensures fails { IfErr result (λ e. Fails e (in_setting T.meaning setting.now due given (desk_of desk.old))) }
     ensures ready { OnOk result (IsReady T.meaning desk.new) }
 {
     if let Some(register) = free_register(setting, desk, given) {
