@@ -12,7 +12,7 @@ use Rattle.sel_target.specs.Meaning.{Meaning}
 use Rattle.sel_target.specs.Symbols.{first_that}
 use Rattle.sel_parse_desk.specs.Entries.{Entry, attrs, in_register, in_word}
 use Rattle.sel_parse_desk.specs.Spills.{holds_some}
-use Rattle.sel_parse_desk.specs.Tallied.{one, AreTallied}
+use Rattle.sel_parse_desk.specs.Tallied.{one, HaveRisen, HaveFallen, registers_of, words_of, registers_among, words_among, AreTallied}
 use Rattle.sel_parse_desk.proofs.JoinedLemmas.{length-attrs, attrs-snoc, attrs-set, attrs-take, attrs-drop}
 use Rattle.sel_parse_desk.proofs.Counting.{count-snoc, count-set, count-parts, count-one}
 use Rattle.sel_parse_desk.proofs.Searching.{first_before, first_none}
@@ -55,8 +55,8 @@ module _ {O I S F : Type 0} (of : Meaning O I S F) where
   -- one more entry
   pub pushed_tallied : (es fs : List (Entry O)) (e : Entry O) (rs ws rs' ws' : List ℕ) (n : ℕ) → fs ≡ es ++ e ∷ [] → AreTallied of (attrs es) rs ws n
       → length rs' ≡ 12 → length ws' ≡ 1024
-      → ((r : ℕ) → r < 12 → slice_index rs' r ≡ slice_index rs r + one (in_register of r e.attr))
-      → ((w : ℕ) → w < 1024 → slice_index ws' w ≡ slice_index ws w + one (in_word of w e.attr))
+      → HaveRisen 12 rs rs' (registers_of of e.attr)
+      → HaveRisen 1024 ws ws' (words_of of e.attr)
       → AreTallied of (attrs fs) rs' ws' n
   pushed_tallied es fs e rs ws rs' ws' n is t lr lw ups upw =
       let all : attrs fs ≡ attrs es ++ e.attr ∷ [] = ap (λ (xs : List (Entry O)). attrs xs) is ∙ attrs-snoc es e in
@@ -91,10 +91,10 @@ module _ {O I S F : Type 0} (of : Meaning O I S F) where
   pub put_tallied : (es fs : List (Entry O)) (i : ℕ) (k : Option Kind) (h g : Attr O) (rs ws ra wa rb wb : List ℕ) (n : ℕ)
       → fs ≡ set es i (record { kind = k; attr = h }) → i < length es → n ≤ i → g ≡ get_or (attrs es) i g
       → AreTallied of (attrs es) rs ws n → length rb ≡ 12 → length wb ≡ 1024
-      → ((r : ℕ) → r < 12 → slice_index ra r + one (in_register of r g) ≡ slice_index rs r)
-      → ((w : ℕ) → w < 1024 → slice_index wa w + one (in_word of w g) ≡ slice_index ws w)
-      → ((r : ℕ) → r < 12 → slice_index rb r ≡ slice_index ra r + one (in_register of r h))
-      → ((w : ℕ) → w < 1024 → slice_index wb w ≡ slice_index wa w + one (in_word of w h))
+      → HaveFallen 12 rs ra (registers_of of g)
+      → HaveFallen 1024 ws wa (words_of of g)
+      → HaveRisen 12 ra rb (registers_of of h)
+      → HaveRisen 1024 wa wb (words_of of h)
       → AreTallied of (attrs fs) rb wb n
   put_tallied es fs i k h g rs ws ra wa rb wb n is lt le at t lr lw da dw ua uw =
       let all : attrs fs ≡ set (attrs es) i h = ap (λ (xs : List (Entry O)). attrs xs) is ∙ attrs-set es i (record { kind = k; attr = h }) in
@@ -143,8 +143,8 @@ module _ {O I S F : Type 0} (of : Meaning O I S F) where
   -- the top is taken off
   pub part_tallied : (es fs gs : List (Entry O)) (b : ℕ) (rs ws rs' ws' : List ℕ) (n m : ℕ) → fs ≡ take b es → gs ≡ drop b es → m ≤ b → m ≤ n → b ≤ length es
       → AreTallied of (attrs es) rs ws n → length rs' ≡ 12 → length ws' ≡ 1024
-      → ((r : ℕ) → r < 12 → slice_index rs' r + count_by (in_register of r) (attrs gs) ≡ slice_index rs r)
-      → ((w : ℕ) → w < 1024 → slice_index ws' w + count_by (in_word of w) (attrs gs) ≡ slice_index ws w)
+      → HaveFallen 12 rs rs' (registers_among of (attrs gs))
+      → HaveFallen 1024 ws ws' (words_among of (attrs gs))
       → AreTallied of (attrs fs) rs' ws' m
   part_tallied es fs gs b rs ws rs' ws' n m low high mb mn bl t lr lw dr dw =
       let all : attrs fs ≡ take b (attrs es) = ap (λ (xs : List (Entry O)). attrs xs) low ∙ attrs-take b es in

@@ -1,13 +1,14 @@
 // The stack below a rule's symbols, with what its entries hold.
-ghost use Rattle.std.specs.Prelude.{◌≡◌, ℕ, ◌∷◌, ◌++◌, [], ◌+◌, ◌-◌, ◌<◌, ◌≤◌, ◌^◌, length, take, drop, replicate, true, false};
+ghost use Rattle.std.specs.Prelude.{◌≡◌, ◌∷◌, ◌++◌, [], ◌-◌, ◌<◌, ◌≤◌, length, take, drop, replicate, true, false};
 ghost use Rattle.std.specs.Prelude.{OnOk, IfOk, IfSome};
-ghost use Rattle.std.specs.List.{list_any, count_by, slice_get, slice_set, slice_index};
+ghost use Rattle.std.specs.List.{list_any, slice_get, slice_set};
 ghost use Rattle.sel_target.specs.Symbols.{first_that};
-ghost use Rattle.sel_parse_desk.specs.Entries.{attrs, kind_in, in_register, in_word};
+ghost use Rattle.sel_parse_desk.specs.Entries.{attrs, kind_in};
 ghost use Rattle.sel_parse_desk.specs.Desk.{register_held, word_held};
 ghost use Rattle.sel_parse_desk.specs.Spills.{holds_some};
 ghost use Rattle.sel_parse_desk.specs.Joined.{is_low};
-ghost use Rattle.sel_parse_desk.specs.Tallied.{one, IsTallied};
+ghost use Rattle.sel_parse_desk.specs.Tallied.{HaveRoom, HaveRisen, AreAtLeast, HaveFallen, registers_of, words_of, registers_among, words_among};
+ghost use Rattle.sel_parse_desk.specs.Tallied.{IsTallied};
 
 use crate::entries::Entries;
 use crate::holding::{holds_some, in_register, word_of};
@@ -32,8 +33,8 @@ pub struct Stack<O> {
 
 fn raise_registers<T: Templates>(target: &T, counts: &mut [usize], attr: &Attr<T::Operand>)
     requires long { length counts.old ≡ 12 }
-    requires room { (r : ℕ) → r < 12 → slice_index counts.old r + one (in_register T.meaning r attr.now) < 2 ^ 64 }
-    ensures { (r : ℕ) → r < 12 → slice_index counts.new r ≡ slice_index counts.old r + one (in_register T.meaning r attr.now) }
+    requires room { HaveRoom 12 counts.old (registers_of T.meaning attr.now) }
+    ensures { HaveRisen 12 counts.old counts.new (registers_of T.meaning attr.now) }
 {
     for register in 0..12u8 {
         if in_register(target, register, attr) {
@@ -44,8 +45,8 @@ fn raise_registers<T: Templates>(target: &T, counts: &mut [usize], attr: &Attr<T
 
 fn lower_registers<T: Templates>(target: &T, counts: &mut [usize], attr: &Attr<T::Operand>)
     requires long { length counts.old ≡ 12 }
-    requires held { (r : ℕ) → r < 12 → one (in_register T.meaning r attr.now) ≤ slice_index counts.old r }
-    ensures { (r : ℕ) → r < 12 → slice_index counts.new r + one (in_register T.meaning r attr.now) ≡ slice_index counts.old r }
+    requires held { AreAtLeast 12 counts.old (registers_of T.meaning attr.now) }
+    ensures { HaveFallen 12 counts.old counts.new (registers_of T.meaning attr.now) }
 {
     for register in 0..12u8 {
         if in_register(target, register, attr) {
@@ -56,8 +57,8 @@ fn lower_registers<T: Templates>(target: &T, counts: &mut [usize], attr: &Attr<T
 
 fn raise_word<T: Templates>(target: &T, counts: &mut [usize], attr: &Attr<T::Operand>)
     requires long { length counts.old ≡ 1024 }
-    requires room { (w : ℕ) → w < 1024 → slice_index counts.old w + one (in_word T.meaning w attr.now) < 2 ^ 64 }
-    ensures { (w : ℕ) → w < 1024 → slice_index counts.new w ≡ slice_index counts.old w + one (in_word T.meaning w attr.now) }
+    requires room { HaveRoom 1024 counts.old (words_of T.meaning attr.now) }
+    ensures { HaveRisen 1024 counts.old counts.new (words_of T.meaning attr.now) }
 {
     if let Some(word) = word_of(target, attr) {
         let at = word as usize;
@@ -69,8 +70,8 @@ fn raise_word<T: Templates>(target: &T, counts: &mut [usize], attr: &Attr<T::Ope
 
 fn lower_word<T: Templates>(target: &T, counts: &mut [usize], attr: &Attr<T::Operand>)
     requires long { length counts.old ≡ 1024 }
-    requires held { (w : ℕ) → w < 1024 → one (in_word T.meaning w attr.now) ≤ slice_index counts.old w }
-    ensures { (w : ℕ) → w < 1024 → slice_index counts.new w + one (in_word T.meaning w attr.now) ≡ slice_index counts.old w }
+    requires held { AreAtLeast 1024 counts.old (words_of T.meaning attr.now) }
+    ensures { HaveFallen 1024 counts.old counts.new (words_of T.meaning attr.now) }
 {
     if let Some(word) = word_of(target, attr) {
         let at = word as usize;
@@ -89,14 +90,12 @@ fn raise<T: Templates>(
 )
     requires twelve { length registers.old.items ≡ 12 }
     requires all_words { length words.old.items ≡ 1024 }
-    requires register_room { (r : ℕ) → r < 12 → slice_index registers.old.items r + one (in_register T.meaning r attr.now) < 2 ^ 64 }
-    requires word_room { (w : ℕ) → w < 1024 → slice_index words.old.items w + one (in_word T.meaning w attr.now) < 2 ^ 64 }
+    requires register_room { HaveRoom 12 registers.old.items (registers_of T.meaning attr.now) }
+    requires word_room { HaveRoom 1024 words.old.items (words_of T.meaning attr.now) }
     ensures twelve { length registers.new.items ≡ 12 }
     ensures all_words { length words.new.items ≡ 1024 }
-    ensures registers { (r : ℕ) → r < 12 → slice_index registers.new.items r
-        ≡ slice_index registers.old.items r + one (in_register T.meaning r attr.now) }
-    ensures words { (w : ℕ) → w < 1024 → slice_index words.new.items w
-        ≡ slice_index words.old.items w + one (in_word T.meaning w attr.now) }
+    ensures registers { HaveRisen 12 registers.old.items registers.new.items (registers_of T.meaning attr.now) }
+    ensures words { HaveRisen 1024 words.old.items words.new.items (words_of T.meaning attr.now) }
 {
     raise_registers(target, registers, attr);
     raise_word(target, words, attr);
@@ -111,14 +110,12 @@ fn lower<T: Templates>(
 )
     requires twelve { length registers.old.items ≡ 12 }
     requires all_words { length words.old.items ≡ 1024 }
-    requires in_registers { (r : ℕ) → r < 12 → one (in_register T.meaning r attr.now) ≤ slice_index registers.old.items r }
-    requires in_words { (w : ℕ) → w < 1024 → one (in_word T.meaning w attr.now) ≤ slice_index words.old.items w }
+    requires in_registers { AreAtLeast 12 registers.old.items (registers_of T.meaning attr.now) }
+    requires in_words { AreAtLeast 1024 words.old.items (words_of T.meaning attr.now) }
     ensures twelve { length registers.new.items ≡ 12 }
     ensures all_words { length words.new.items ≡ 1024 }
-    ensures registers { (r : ℕ) → r < 12 → slice_index registers.new.items r + one (in_register T.meaning r attr.now)
-        ≡ slice_index registers.old.items r }
-    ensures words { (w : ℕ) → w < 1024 → slice_index words.new.items w + one (in_word T.meaning w attr.now)
-        ≡ slice_index words.old.items w }
+    ensures registers { HaveFallen 12 registers.old.items registers.new.items (registers_of T.meaning attr.now) }
+    ensures words { HaveFallen 1024 words.old.items words.new.items (words_of T.meaning attr.now) }
 {
     lower_registers(target, registers, attr);
     lower_word(target, words, attr);
@@ -133,14 +130,12 @@ fn lower_all<T: Templates>(
 )
     requires twelve { length registers.old.items ≡ 12 }
     requires all_words { length words.old.items ≡ 1024 }
-    requires in_registers { (r : ℕ) → r < 12 → count_by (in_register T.meaning r) attrs.now ≤ slice_index registers.old.items r }
-    requires in_words { (w : ℕ) → w < 1024 → count_by (in_word T.meaning w) attrs.now ≤ slice_index words.old.items w }
+    requires in_registers { AreAtLeast 12 registers.old.items (registers_among T.meaning attrs.now) }
+    requires in_words { AreAtLeast 1024 words.old.items (words_among T.meaning attrs.now) }
     ensures twelve { length registers.new.items ≡ 12 }
     ensures all_words { length words.new.items ≡ 1024 }
-    ensures registers { (r : ℕ) → r < 12 → slice_index registers.new.items r + count_by (in_register T.meaning r) attrs.now
-        ≡ slice_index registers.old.items r }
-    ensures words { (w : ℕ) → w < 1024 → slice_index words.new.items w + count_by (in_word T.meaning w) attrs.now
-        ≡ slice_index words.old.items w }
+    ensures registers { HaveFallen 12 registers.old.items registers.new.items (registers_among T.meaning attrs.now) }
+    ensures words { HaveFallen 1024 words.old.items words.new.items (words_among T.meaning attrs.now) }
 {
     for attr in attrs {
         lower(target, registers, words, attr);

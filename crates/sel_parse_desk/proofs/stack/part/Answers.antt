@@ -1,7 +1,8 @@
-use Rattle.std.proofs.Common.{◌≡◌, ℕ, ◌+◌, ◌<◌, ◌≤◌, List, sym, subst, arith}
+use Rattle.std.proofs.Common.{◌≤◌, List, sym, subst, arith}
 use Rattle.std.specs.Prelude.{slice_index, count_by}
 use Rattle.sel_target.specs.declared.attr.Attr.{Attr}
 use Rattle.sel_parse_desk.specs.Entries.{in_register, in_word}
+use Rattle.sel_parse_desk.specs.Tallied.{HaveFallen, registers_among, words_among}
 use Rattle.sel_parse_desk.proofs.Tallies.{part_tallied, part_some}
 use Rattle.sel_parse_desk.proofs.stack.part.Goals as goal
 
@@ -24,7 +25,5 @@ returns-clause-tallied g c =
     c.in_ok-taken.ensures.before c.in_ok-taken.ensures.behind c.smaller-stack.ensures.b c.smaller-stack.ensures.a
     (let s = c.saturating_sub-base.ensures in let l = c.len-long.ensures in omega (arith, s, l))
     c.requires.tallied c.lower_all.ensures.twelve c.lower_all.ensures.all_words
-    (subst (λ (hs : List (Attr g.row.T-Operand.Denot)). (r : ℕ) → r < 12 → slice_index c.lower_all.new.registers.items r + count_by (in_register g.T.Templates.meaning r) hs
-    ≡ slice_index c.args.stack.now.registers.items r) c.attrs.ensures.attrs c.lower_all.ensures.registers)
-    (subst (λ (hs : List (Attr g.row.T-Operand.Denot)). (w : ℕ) → w < 1024 → slice_index c.lower_all.new.words.items w + count_by (in_word g.T.Templates.meaning w) hs
-    ≡ slice_index c.args.stack.now.words.items w) c.attrs.ensures.attrs c.lower_all.ensures.words)
+    (subst (λ (hs : List (Attr g.row.T-Operand.Denot)). HaveFallen 12 c.args.stack.now.registers.items c.lower_all.new.registers.items (registers_among g.T.Templates.meaning hs)) c.attrs.ensures.attrs c.lower_all.ensures.registers)
+    (subst (λ (hs : List (Attr g.row.T-Operand.Denot)). HaveFallen 1024 c.args.stack.now.words.items c.lower_all.new.words.items (words_among g.T.Templates.meaning hs)) c.attrs.ensures.attrs c.lower_all.ensures.words)

@@ -1,8 +1,6 @@
-use Rattle.std.proofs.Common.{◌≡◌, ℕ, ◌+◌, ◌<◌, List, get_or, ap, ◌∙◌, subst}
-use Rattle.std.specs.Prelude.{slice_index}
+use Rattle.std.proofs.Common.{◌≡◌, List, get_or, ap, ◌∙◌, subst}
 use Rattle.sel_target.specs.declared.attr.Attr.{Attr}
-use Rattle.sel_parse_desk.specs.Entries.{in_register, in_word}
-use Rattle.sel_parse_desk.specs.Tallied.{one}
+use Rattle.sel_parse_desk.specs.Tallied.{HaveRisen, registers_of, words_of}
 use Rattle.sel_parse_desk.proofs.Tallies.{pushed_tallied, pushed_there}
 use Rattle.sel_parse_desk.proofs.stack.push.Goals as goal
 
@@ -14,7 +12,5 @@ returns-clause-tallied g c =
     pushed_tallied g.T.Templates.meaning c.args.stack.now.entries c.push.new.self (record { kind = c.args.kind; attr = c.args.attr })
     c.args.stack.now.registers.items c.args.stack.now.words.items c.raise.new.registers.items c.raise.new.words.items c.args.stack.now.settled
     c.in_ok-push.ensures c.requires.tallied c.raise.ensures.twelve c.raise.ensures.all_words
-    (subst (λ (a : Attr g.row.T-Operand.Denot). (r : ℕ) → r < 12 → slice_index c.raise.new.registers.items r ≡ slice_index c.args.stack.now.registers.items r
-    + one (in_register g.T.Templates.meaning r a)) there c.raise.ensures.registers)
-    (subst (λ (a : Attr g.row.T-Operand.Denot). (w : ℕ) → w < 1024 → slice_index c.raise.new.words.items w ≡ slice_index c.args.stack.now.words.items w
-    + one (in_word g.T.Templates.meaning w a)) there c.raise.ensures.words)
+    (subst (λ (a : Attr g.row.T-Operand.Denot). HaveRisen 12 c.args.stack.now.registers.items c.raise.new.registers.items (registers_of g.T.Templates.meaning a)) there c.raise.ensures.registers)
+    (subst (λ (a : Attr g.row.T-Operand.Denot). HaveRisen 1024 c.args.stack.now.words.items c.raise.new.words.items (words_of g.T.Templates.meaning a)) there c.raise.ensures.words)
