@@ -54,10 +54,7 @@ module _ (t : TableView) (f : FoundView) (found : IsFound (automaton_of t) f) (s
   same_place q k b s h = same_Some (sound_at q k b s h).place (place_of q k b) (sym (sound_at q k b s h).there ∙ place_is q k b s h)
 
   same_list : (q : ℕ) (k b : Tok) (s : List Sym) (h : HasSettling f q k b s) → (sound_at q k b s h).list ≡ s
-  same_list q k b s h = some_same (sound_at q k b s h).list s (sym (sound_at q k b s h).symbols ∙ h.settles.list)
-    where
-      some_same : (a c : List Sym) → Some a ≡ Some c → a ≡ c
-      some_same a c e = cc
+  same_list q k b s h = same_Some (sound_at q k b s h).list s (sym (sound_at q k b s h).symbols ∙ h.settles.list)
 
   behind_is : (q p : ℕ) (k b : Tok) (s : List Sym) (h : HasSettling f q k b s) → walk (automaton_of t) q s ≡ Some p → h.settles.entry.behind ≡ Some p
   behind_is q p k b s h ws =

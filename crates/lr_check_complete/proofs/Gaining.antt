@@ -1,7 +1,8 @@
 -- The sums of the first of two kids as they are gathered.
-use Rattle.std.proofs.Common.{◌≡◌, ◌⊎◌, ℕ, ◌+◌, ◌≤◌, ◌<◌, List, [], ◌∷◌, ◌++◌, Some, Contains, length, get_or, refl, sym, ◌∙◌, subst, inl, inr, ⊎_elim, arith}
+use Rattle.std.proofs.Common.{◌≡◌, ◌⊎◌, ℕ, ◌+◌, ◌≤◌, ◌<◌, List, [], ◌∷◌, ◌++◌, Contains, length, get_or, refl, sym, ◌∙◌, subst, inl, inr, ⊎_elim, arith}
 use Rattle.std.specs.Prelude.{slice_index_or}
 use Rattle.std.proofs.lemmas.List.Elements.{Contains-append_left, Contains-append_right}
+use Rattle.std.proofs.lemmas.Option.{same_Some}
 use Rattle.lr_tables.proofs.Members.{In, In-cases, In-Contains, Contains-In}
 use Rattle.tree_core.specs.declared.token.Tok.{Tok}
 use Rattle.tree_core.specs.declared.token.Sort.{Sort}
@@ -73,11 +74,8 @@ list_of_both f i n j y s same sum = subst (λ l. IsList f.lists l s) (sym same) 
 same_list : (f : FoundView) (p n : ℕ) (z : Place) (h : SumOf f z n) (s : List Sym) → z.state ≡ p → IsList f.lists (list_number f n) s → HasListAt f p n s
 same_list f p n z h s state at =
     let own : IsList f.lists (list_number f n) h.list = list_is f n z h.list h.behind h.sum in
-    let e : h.list ≡ s = some_same h.list s (sym own ∙ at) in
+    let e : h.list ≡ s = same_Some h.list s (sym own ∙ at) in
     record { place = z; behind = h.behind; sum = subst (λ l. SumAt f n z l h.behind) e h.sum; state = state }
-  where
-    some_same : (a b : List Sym) → Some a ≡ Some b → a ≡ b
-    some_same a b q = cc
 
 pub first_at : (A : Automaton) (f : FoundView) (m : ℕ) (y : Place) (sums before after : List ℕ) → IsFound A f → IsPlaceAt f m y → sums ≡ slice_index_or f.sums m [] →
     AddsLists f sums before after → FirstAt f y after

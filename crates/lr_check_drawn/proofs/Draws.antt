@@ -1,5 +1,6 @@
 -- One node more.
-use Rattle.std.proofs.Common.{◌≡◌, ◌⊎◌, ℕ, zero, suc, ◌+◌, List, [], ◌∷◌, ◌++◌, Some, None, length, slice_get, refl, sym, ap, ◌∙◌, subst, inl, inr, ⊎_elim, length-append}
+use Rattle.std.proofs.Common.{◌≡◌, ◌⊎◌, ℕ, zero, suc, ◌+◌, List, [], ◌∷◌, ◌++◌, Some, length, slice_get, refl, sym, ap, ◌∙◌, subst, inl, inr, ⊎_elim, length-append}
+use Rattle.std.proofs.lemmas.Option.{none-some}
 use Rattle.gg_base.proofs.Facts.{slice_last}
 use Rattle.tree_core.specs.declared.token.Tok.{Tok}
 use Rattle.lr_check_sets.specs.Automaton.{Automaton}
@@ -69,9 +70,6 @@ module _ (A : Automaton) (f : FoundView) where
   pub none_drawn : AreDrawn A f (record { nodes = []; depths = [] })
   none_drawn = record { many = refl; each = λ i ds e. absurd (nowhere i ds e) }
     where
-      none_some : (ds : List ℕ) → None ≡ Some ds → ⊥
-      none_some ds e = cc
-
       nowhere : (i : ℕ) (ds : List ℕ) → slice_get (the_none ds) i ≡ Some ds → ⊥
-      nowhere zero ds e = none_some ds e
-      nowhere (suc i) ds e = none_some ds e
+      nowhere zero ds e = none-some ds e
+      nowhere (suc i) ds e = none-some ds e

@@ -1,6 +1,7 @@
 -- Ancestors of a place's node, one by one.
-use Rattle.std.proofs.Common.{◌≡◌, ℕ, ◌<◌, List, [], ◌∷◌, Some, None, true, length, slice_get, refl, sym, ap, ◌∙◌, subst, arith}
+use Rattle.std.proofs.Common.{◌≡◌, ℕ, ◌<◌, List, [], ◌∷◌, None, true, length, slice_get, refl, sym, ap, ◌∙◌, subst, arith}
 use Rattle.std.specs.Prelude.{Result, Ok, Err, IfOk}
+use Rattle.std.proofs.lemmas.Option.{same_Some}
 use Rattle.tree_core.specs.declared.token.Tok.{Tok}
 use Rattle.tree_core.specs.declared.token.Sort.TheVariants as sort
 use Rattle.tree_core.specs.Grammar.{kids}
@@ -154,11 +155,8 @@ risen f old now new n top m node begun r h = subst (λ l. HasRisen f old l n top
       (root_may (begun.each m r.stands.place r.stands.there));
 })
   where
-    Some-same : {X : Type 0} (x y : X) → Some x ≡ Some y → x ≡ y
-    Some-same x y e = cc
-
     root_may : HasBegun f m r.stands.place → May r.stands.place.token sort.Stmt
-    root_may b = subst (IsBegun f m r.stands.place) (Some-same b.origin origin.Root (sym b.there ∙ h.0)) b.begun
+    root_may b = subst (IsBegun f m r.stands.place) (same_Some b.origin origin.Root (sym b.there ∙ h.0)) b.begun
 
 pub rising_settled : (f : FoundView) (old now : List Node) (n top m node : ℕ) → HaveNodes f old → Rising f old now n top m node → HaveNodes f now
 rising_settled f old now n top m node s r = have_nodes_grow r.grows s

@@ -3,7 +3,7 @@ use Rattle.std.proofs.Common.{◌≡◌, ℕ, zero, suc, ◌-◌, ◌<◌, List,
 use Rattle.std.specs.Prelude.{◌==◌, if◌then◌else◌}
 use Rattle.std.proofs.lemmas.List.{drop-map}
 use Rattle.std.proofs.lemmas.Bool.{eqb-true, true≢false}
-use Rattle.std.proofs.lemmas.Option.{same_Some}
+use Rattle.std.proofs.lemmas.Option.{same_Some, none-some}
 use Rattle.gg_base.proofs.Facts.{some_none}
 use Rattle.tree_core.specs.declared.token.Tok.{Tok}
 use Rattle.tree_core.specs.declared.token.Tok.TheVariants as tok
@@ -24,7 +24,7 @@ use Rattle.lr_check_sets.specs.Automaton.{Production, Candidate, shift, reduce, 
 use Rattle.lr_check_sets.specs.Table.{production, candidates_of, candidates_at, automaton_of}
 use Rattle.lr_check_sets.specs.Exact.{MeetsLaws}
 use Rattle.lr_check_sets.specs.Answers as auto
-use Rattle.lr_check_sets.specs.Answers.{Entry, Leaf, Picked, first_answer, other_answers, owner, pick_by, pick, held_reduced, Step, Runs, IsBlocked, Reductions, the_end}
+use Rattle.lr_check_sets.specs.Answers.{Entry, Leaf, Picked, first_answer, other_answers, owner, pick_by, pick, held_reduced}
 use Rattle.lr_check_sets.proofs.Links.{in_productions}
 use Rattle.lr_check_sets.proofs.Rows.{rule_of, rules_of, candidates_are, leads}
 use Rattle.lr_check_sets.proofs.Asks.{by_no, by_none}
@@ -216,9 +216,6 @@ module _ (t : TableView) (v : IsValid t.content) (b : IsNumbered t) (m : MeetsLa
           unlike : (r : Production) → Some (reduce r) ≡ Some shift → ⊥
           unlike r h = cc
 
-          nor : None ≡ Some shift → ⊥
-          nor h = cc
-
           taken : pick (map reduce (rules_of t.content.rules ns)) a ≡ record { taken = Some shift; stack = c }
           taken = ap (λ cs. pick cs a) (sym e) ∙ pk
 
@@ -226,7 +223,7 @@ module _ (t : TableView) (v : IsValid t.content) (b : IsNumbered t) (m : MeetsLa
           none k = by_taken k.taken refl
             where
               by_taken : (o : Option ℕ) → k.taken ≡ o → ⊥
-              by_taken None u = nor (ap (λ (q : Picked). q.taken) (sym (k.nothing u) ∙ taken))
+              by_taken None u = none-some shift (ap (λ (q : Picked). q.taken) (sym (k.nothing u) ∙ taken))
               by_taken (Some n) u = let g = k.rule n u in unlike (production g.0) (ap (λ (q : Picked). q.taken) (sym g.1.1 ∙ taken))
 
   -- a reduction
@@ -236,9 +233,6 @@ module _ (t : TableView) (v : IsValid t.content) (b : IsNumbered t) (m : MeetsLa
     where
       unlike : Some (reduce r) ≡ Some shift → ⊥
       unlike h = cc
-
-      nor : None ≡ Some (reduce r) → ⊥
-      nor h = cc
 
       same_rule : (q : Production) → Some (reduce q) ≡ Some (reduce r) → q ≡ r
       same_rule q h = cc
@@ -254,7 +248,7 @@ module _ (t : TableView) (v : IsValid t.content) (b : IsNumbered t) (m : MeetsLa
           with_picks g = by_taken g.taken refl
             where
               by_taken : (o : Option ℕ) → g.taken ≡ o → Moves t.content.rules (stmt_of t.content.classes) ws (parts a) ws (parts (held_reduced r c))
-              by_taken None u = absurd (nor (ap (λ (q : Picked). q.taken) (sym (g.nothing u) ∙ taken)))
+              by_taken None u = absurd (none-some (reduce r) (ap (λ (q : Picked). q.taken) (sym (g.nothing u) ∙ taken)))
               by_taken (Some n) u =
                   let h = g.rule n u in
                   let rule : production h.0 ≡ r = same_rule (production h.0) (ap (λ (q : Picked). q.taken) (sym h.1.1 ∙ taken)) in

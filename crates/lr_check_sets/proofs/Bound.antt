@@ -4,7 +4,7 @@ use Rattle.std.proofs.Common.{ap₂, sym, ◌∙◌, inl, inr, ⊎_elim, subst, 
 use Rattle.std.specs.List.{IsDistinct, list_any, AllByRecursion}
 use Rattle.std.proofs.lemmas.Map.Steps.{length-le_from_distinct_below}
 use lib.Dec.{eqb}
-use Rattle.std.proofs.lemmas.Option.{same_Some}
+use Rattle.std.proofs.lemmas.Option.{same_Some, none-some}
 use Rattle.tree_core.specs.declared.token.Tok.{Tok}
 use Rattle.tree_core.specs.declared.token.Tok.TheVariants as tok
 use Rattle.md_reader.specs.declared.types.Sym.{Sym}
@@ -49,10 +49,7 @@ tokens-append (grammar_symbol.Class c ∷ s) a = tokens-append s a
 -- a tree without tokens is one class
 behind_class : (c : ℕ) (w : Option ℕ) (n : ℕ) → wanted_behind (grammar_symbol.Class c) w ≡ Some n → w ≡ Some (suc n)
 behind_class c None n e = cc
-behind_class c (Some zero) n e = absurd (none e)
-  where
-    none : None ≡ Some n → ⊥
-    none e = cc
+behind_class c (Some zero) n e = absurd (none-some n e)
 behind_class c (Some (suc j)) n e = let same : 0 + j ≡ n = cc in ap Some (omega arith)
 
 classes_only : (s : List Sym) (n : ℕ) → tokens s ≡ 0 → wanted 1 s ≡ Some (suc (suc n)) → ⊥

@@ -1,5 +1,6 @@
 -- Each fault of the sets gives a tree whose parse blocks or loops.
 use Rattle.std.proofs.Common.{◌≡◌, ℕ, ◌≤◌, List, [], ◌∷◌, ◌++◌, Some, None, refl, ap, sym, ◌∙◌, subst, arith, length}
+use Rattle.std.proofs.lemmas.Option.{none-some}
 use Rattle.tree_core.specs.declared.token.Tok.{Tok}
 use Rattle.tree_core.specs.declared.token.Sort.TheVariants as sort
 use Rattle.md_reader.specs.declared.types.Sym.{Sym}
@@ -25,10 +26,7 @@ symbols-bare (X ∷ s) = ap (λ l. X ∷ l) (symbols-bare s)
 
 pub is_blocked : (A : Automaton) (p : ℕ) (t : Tok) (a b : List Entry) (w : List Leaf) → next_token w ≡ Some t → walk A 0 (symbols a) ≡ Some p →
     pick (A.candidates p t) a ≡ record { taken = None; stack = b } → IsBlocked A a w
-is_blocked A p t a b [] g at pk = absurd (no_token g)
-  where
-    no_token : None ≡ Some t → ⊥
-    no_token e = cc
+is_blocked A p t a b [] g at pk = absurd (none-some t g)
 is_blocked A p t a b (d ∷ w) g at pk =
     let same : d.tok ≡ t = cc in
     blocked at (subst (λ m. pick (A.candidates p m) a ≡ record { taken = None; stack = b }) (sym same) pk)

@@ -1,9 +1,9 @@
 -- Each sum's own tree, by the sets with reductions of whole lists alone.
-use Rattle.std.proofs.Common.{◌≡◌, ◌⊎◌, ℕ, suc, ◌+◌, ◌-◌, ◌≤◌, ◌<◌, List, [], ◌∷◌, ◌++◌, Some, None, Bool, false, Contains, length, map, take, drop, refl, ap, ap₂, sym, ◌∙◌, inl}
+use Rattle.std.proofs.Common.{◌≡◌, ◌⊎◌, ℕ, suc, ◌+◌, ◌-◌, ◌≤◌, ◌<◌, List, [], ◌∷◌, ◌++◌, Some, Bool, false, Contains, length, map, take, drop, refl, ap, ap₂, sym, ◌∙◌, inl}
 use Rattle.std.proofs.Common.{inr, ⊎_elim, subst, arith, append_assoc, length-append, drop_at, length-drop, length-take, take-append-drop, suc-add, zero-add}
 use Rattle.std.proofs.lemmas.Bool.{cases_lt, cases_eq}
 use Rattle.std.proofs.lemmas.List.{take-append-le}
-use Rattle.std.proofs.lemmas.Option.{slice_get-get_or}
+use Rattle.std.proofs.lemmas.Option.{slice_get-get_or, none-some}
 use Rattle.tree_core.specs.declared.token.Tok.{Tok}
 use Rattle.tree_core.specs.declared.token.Sort.{Sort}
 use Rattle.md_reader.specs.declared.types.Sym.{Sym}
@@ -179,10 +179,7 @@ module _ (G : List Production) (A : Automaton) (no_end : HasNoEnd G) (no_empty :
     where
       one_step : (u y : List Entry) (w : List Leaf) → next_token w ≡ Some t → walk A 0 (symbols u) ≡ Some p → pick (A.candidates p t) u ≡ record { taken = Some (reduce r); stack = y } →
           Step A u w (held_reduced r y) w
-      one_step u y [] g at pk = absurd (no_token g)
-        where
-          no_token : None ≡ Some t → ⊥
-          no_token e = cc
+      one_step u y [] g at pk = absurd (none-some t g)
       one_step u y (d ∷ w) g at pk =
           let same : d.tok ≡ t = cc in
           reduces at (subst (λ m. pick (A.candidates p m) u ≡ record { taken = Some (reduce r); stack = y }) (sym same) pk)

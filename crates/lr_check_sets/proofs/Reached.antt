@@ -1,6 +1,7 @@
 -- Each place and each sum is met in the parse of a real tree, under some answers.
-use Rattle.std.proofs.Common.{◌≡◌, ℕ, suc, ◌≤◌, ◌<◌, List, [], ◌∷◌, ◌++◌, Some, None, Bool, true, false, length, take, drop, refl, ap, sym, ◌∙◌, subst, arith, append_assoc}
+use Rattle.std.proofs.Common.{◌≡◌, ℕ, suc, ◌≤◌, ◌<◌, List, [], ◌∷◌, ◌++◌, Some, Bool, true, false, length, take, drop, refl, ap, sym, ◌∙◌, subst, arith, append_assoc}
 use Rattle.std.proofs.Common.{length-append, drop_at, take-append-drop, length-take, ap₂}
+use Rattle.std.proofs.lemmas.Option.{none-some}
 use Rattle.tree_core.specs.declared.token.Tok.{Tok}
 use Rattle.tree_core.specs.declared.token.Tok.TheVariants as tok
 use Rattle.tree_core.specs.declared.token.Sort.{Sort}
@@ -320,10 +321,7 @@ module _ (A : Automaton) (table : IsTable A) where
 
       by_step : (u z : List Entry) (w : List Leaf) → next_token w ≡ Some t → walk A 0 (symbols u) ≡ Some p → pick (A.candidates p t) u ≡ record { taken = Some (reduce r); stack = z } →
           held_reduced r z ≡ h ∷ y → Step A u w (h ∷ y) w
-      by_step u z [] g at pk it = absurd (no_token g)
-        where
-          no_token : None ≡ Some t → ⊥
-          no_token e = cc
+      by_step u z [] g at pk it = absurd (none-some t g)
       by_step u z (d ∷ w) g at pk it =
           let same : d.tok ≡ t = cc in
           subst (λ l. Step A u (d ∷ w) l (d ∷ w)) it (reduces at (subst (λ m. pick (A.candidates p m) u ≡ record { taken = Some (reduce r); stack = z }) (sym same) pk))

@@ -27,14 +27,8 @@ wanted-none n (X ∷ s') s e = ap (wanted_behind X) (wanted-none n s' s e)
 
 -- with more wanted before the list, as many more are wanted behind it
 behind-more : (X : Sym) (o : Option ℕ) (p : Option ℕ) (m d : ℕ) → ((j : ℕ) → o ≡ Some j → p ≡ Some (j + d)) → wanted_behind X o ≡ Some m → wanted_behind X p ≡ Some (m + d)
-behind-more X None p m d h e = absurd (unlike e)
-  where
-    unlike : None ≡ Some m → ⊥
-    unlike e = cc
-behind-more X (Some zero) p m d h e = absurd (unlike e)
-  where
-    unlike : None ≡ Some m → ⊥
-    unlike e = cc
+behind-more X None p m d h e = absurd (none-some m e)
+behind-more X (Some zero) p m d h e = absurd (none-some m e)
 behind-more X (Some (suc j)) p m d h e =
     let was : arity X + j ≡ m = cc in
     let it : p ≡ Some (suc (j + d)) = h (suc j) refl ∙ ap Some (suc-add j d) in

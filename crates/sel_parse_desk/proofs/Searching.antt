@@ -1,7 +1,8 @@
 -- Searches from a number on.
-use Rattle.std.proofs.Common.{◌≡◌, ℕ, zero, suc, ◌+◌, ◌-◌, ◌<◌, ◌≤◌, List, [], ◌∷◌, length, take, drop, Option, Some, None, Bool, true, false, refl, ap, sym, ◌∙◌, subst, arith}
+use Rattle.std.proofs.Common.{◌≡◌, ℕ, zero, suc, ◌+◌, ◌<◌, ◌≤◌, List, [], ◌∷◌, length, take, drop, Option, Some, None, Bool, true, false, refl, ap, sym, ◌∙◌, subst, arith}
 use Rattle.std.specs.Prelude.{◌||◌, if◌then◌else◌, is_some, IfSome}
 use Rattle.std.specs.List.{list_any, find, position_from, range_with_len}
+use Rattle.std.proofs.lemmas.Option.{same_Some}
 use Rattle.sel_target.specs.Symbols.{lowest, behind_one, first_that}
 
 -- as `any` and `find` meet it in a range
@@ -85,19 +86,16 @@ module _ {X : Type 0} (p : X → Bool) where
   first_before [] i e = absurd (cc)
   first_before (y ∷ xs) i e = by (p y) refl (first_that p xs) (λ k f. first_before xs k f) e
     where
-      Some-same : (m n : ℕ) → Some m ≡ Some n → m ≡ n
-      Some-same m n f = cc
-
       later : (k : ℕ) → p y ≡ false → list_any p (take k xs) ≡ false → list_any p (take (k + 1) (y ∷ xs)) ≡ false
       later k off f = ap (λ (j : ℕ). list_any p (take j (y ∷ xs))) (let s : k + 1 ≡ suc k = omega arith in s) ∙ ap (λ (b : Bool). b || list_any p (take k xs)) off ∙ f
 
       by : (b : Bool) → p y ≡ b → (o : Option ℕ) → ((k : ℕ) → o ≡ Some k → (k < length xs) × (list_any p (take k xs) ≡ false))
           → (if b then Some 0 else behind_one o) ≡ Some i → (i < length (y ∷ xs)) × (list_any p (take i (y ∷ xs)) ≡ false)
-      by true here o go f = subst (λ (j : ℕ). (j < length (y ∷ xs)) × (list_any p (take j (y ∷ xs)) ≡ false)) (Some-same 0 i f) (omega arith, refl)
+      by true here o go f = subst (λ (j : ℕ). (j < length (y ∷ xs)) × (list_any p (take j (y ∷ xs)) ≡ false)) (same_Some 0 i f) (omega arith, refl)
       by false off None go f = absurd (cc)
       by false off (Some k) go f =
           let h = go k refl in
-          subst (λ (j : ℕ). (j < length (y ∷ xs)) × (list_any p (take j (y ∷ xs)) ≡ false)) (Some-same (k + 1) i f) (omega (arith, h.0), later k off h.1)
+          subst (λ (j : ℕ). (j < length (y ∷ xs)) × (list_any p (take j (y ∷ xs)) ≡ false)) (same_Some (k + 1) i f) (omega (arith, h.0), later k off h.1)
 
   pub first_none : (xs : List X) (n : ℕ) → first_that p xs ≡ None → list_any p (take n xs) ≡ false
   first_none xs zero e = refl

@@ -5,6 +5,7 @@ use Rattle.std.specs.Prelude.{slice_set, not, if◌then◌else◌, ◌||◌}
 use Rattle.std.specs.List.{list_any}
 use Rattle.std.proofs.lemmas.Bool.Decides.{nat_tests}
 use Rattle.std.proofs.lemmas.Bool.{eqb-true}
+use Rattle.std.proofs.lemmas.Option.{same_Some}
 use Rattle.sel_target.specs.Symbols.{lowest}
 
 abbrev pub tick : Bool → ℕ
@@ -102,10 +103,7 @@ total f (a ∷ all) = f a + total f all
 
 pub total_set : {A : Type 0} (f : A → ℕ) (xs : List A) (i : ℕ) (a b : A) → slice_get xs i ≡ Some a → total f (slice_set xs i b) + f a ≡ total f xs + f b
 total_set f [] i a b e = absurd (cc)
-total_set f (x ∷ xs) zero a b e = (let same : f x ≡ f a = ap f (some_same x a e) in omega (arith, same))
-  where
-    some_same : {X : Type 0} (x y : X) → Some x ≡ Some y → x ≡ y
-    some_same x y e = cc
+total_set f (x ∷ xs) zero a b e = (let same : f x ≡ f a = ap f (same_Some x a e) in omega (arith, same))
 total_set f (x ∷ xs) (suc i) a b e = (let r = total_set f xs i a b e in omega (arith, r))
 
 pub total_append : {A : Type 0} (f : A → ℕ) (xs ys : List A) → total f (xs ++ ys) ≡ total f xs + total f ys

@@ -4,6 +4,7 @@ use Rattle.std.specs.Prelude.{if◌then◌else◌}
 use Rattle.std.specs.Int.{bit_at}
 use Rattle.std.proofs.lemmas.Nat.Bits.{bit_at-zero}
 use Rattle.std.proofs.lemmas.Bool.{eqb-true, both_ways}
+use Rattle.std.proofs.lemmas.Option.{same_Some, none-some}
 use Rattle.gg_base.specs.declared.size.Size.{Size}
 use Rattle.gg_base.specs.declared.size.Size.TheVariants.{Byte, Word, Long}
 use Rattle.gg_base.specs.Sizes.{bytes_of, low}
@@ -130,11 +131,9 @@ module _ {O I S F : Type 0} (of : Meaning O I S F) (law : IsLawful of) (q : Tree
     number_carried m' z b a n before behind whole no_home att = record {
       worth_is = λ x e. behind ∙ sym before ∙ e;
       whole = whole;
-      home = λ o e. absurd (none_is o (sym no_home ∙ e));
+      home = λ o e. absurd (none-some o (sym no_home ∙ e));
       att = att;
-    } where
-      none_is : (o : O) → None ≡ Some o → ⊥
-      none_is o e = cc
+    }
 
     pub register_saved : (line : Line) (x : Saves of (kind.Value Long) line) (r n w : ℕ) → r < 12 → of.reads (of.register r) Long m ≡ Some n
         → first ≤ w → w < f.words → Moves (saving of q line (attr.Reg r) w) (WordAt w) (Some kind.Reg) (attr.Reg r) (attr.InSlot w) (OfNumber n) m
@@ -194,12 +193,6 @@ module _ {O I S F : Type 0} (of : Meaning O I S F) (law : IsLawful of) (q : Tree
           };
         }
       where
-        at_slot : (p p' : O) → Some p ≡ Some p' → p ≡ p'
-        at_slot p p' e = cc
-
-        same_number : (a b : ℕ) → Some a ≡ Some b → a ≡ b
-        same_number a b e = cc
-
         the_place : (m' : S) → of.names (of.slot_deferred w) z m' ≡ Some n → (g : Place) → PlaceIs of f t m z o g → PlaceIs of f t m' z (of.slot_deferred w) g
         the_place m' gets g (local k long is lt low) = absurd (spells (ap of.registers is ∙ law.spells.local_bits k))
         the_place m' gets g (argument k long is lt) = absurd (spells (ap of.registers is ∙ law.spells.argument_bits (k + 1)))
@@ -210,7 +203,7 @@ module _ {O I S F : Type 0} (of : Meaning O I S F) (law : IsLawful of) (q : Tree
         homed m' gets o' e = record {
           operand = o;
           own = refl;
-          same = λ g is. subst (λ p. PlaceIs of f t m' z p g) (at_slot (of.slot_deferred w) o' e) (the_place m' gets g is);
+          same = λ g is. subst (λ p. PlaceIs of f t m' z p g) (same_Some (of.slot_deferred w) o' e) (the_place m' gets g is);
         }
 
     pub address_saved : (line : Line) (x : Saves of kind.Ea line) (o : O) (n w : ℕ) → of.fits kind.Ea o ≡ true

@@ -3,6 +3,7 @@ use Rattle.std.proofs.Common.{◌≡◌, ℕ, zero, suc, ◌+◌, ◌-◌, ◌*�
 use Rattle.std.specs.Prelude.{IsSome, ◌&&◌, nat_le}
 use Rattle.std.proofs.lemmas.Bool.Decides.{nat_tests}
 use Rattle.std.proofs.lemmas.Bool.{eqb-true, and_parts}
+use Rattle.std.proofs.lemmas.Option.{same_Some}
 use Rattle.gg_base.specs.declared.size.Size.{Size}
 use Rattle.gg_base.specs.declared.size.Size.TheVariants.{Long}
 use Rattle.gg_base.specs.Sizes.{bytes_of}
@@ -1107,9 +1108,6 @@ module _ {O I S F : Type 0} (of : Meaning O I S F) (law : IsLawful of) (q : Tree
   symbol_whole x k a v (token l fit named) = token_whole l.tok l.att fit named.0
   symbol_whole x k a v (class c a' v' is) = class_whole (kind_at d.classes c) a v is
 
-  some_same : (x y : O) → Some x ≡ Some y → x ≡ y
-  some_same x y e = cc
-
   -- a place can be found
   place_homes : (z : Size) (o : O) (g : Place) → PlaceIs of f t m z o g → IsSome (of.names o z m)
   place_homes z o g (local k long is lt low) = subst (λ y. IsSome (of.names o y m)) (sym long) (subst (λ p. IsSome (of.names p Long m)) (sym is) (local_homes k lt))
@@ -1122,7 +1120,7 @@ module _ {O I S F : Type 0} (of : Meaning O I S F) (law : IsLawful of) (q : Tree
   class_homes k a v p (register r x lt is) e = absurd (cc)
   class_homes k a v p (in_slot w x le lt is) e = absurd (cc)
   class_homes k a v p (value z o x fits is) e = absurd (cc)
-  class_homes k a v p (place z o g fits is) e = subst (λ y. IsSome (of.names y z m)) (some_same o p e) (place_homes z o g is)
+  class_homes k a v p (place z o g fits is) e = subst (λ y. IsSome (of.names y z m)) (same_Some o p e) (place_homes z o g is)
   class_homes k a v p (number x lt) e = absurd (cc)
   class_homes k a v p (address o x fits is) e = absurd (cc)
 
@@ -1180,14 +1178,14 @@ module _ {O I S F : Type 0} (of : Meaning O I S F) (law : IsLawful of) (q : Tree
   token_homes tok.Loc att.Nothing p fit named e = absurd (cc)
   token_homes tok.Loc (att.Number k) p fit named e = absurd (cc)
   token_homes tok.Loc (att.Object object offset) p fit named e = absurd (cc)
-  token_homes tok.Loc (att.Slot k) p fit named e = subst (λ y. IsSome (of.names y Long m)) (some_same (of.local k) p e) (local_homes k named)
+  token_homes tok.Loc (att.Slot k) p fit named e = subst (λ y. IsSome (of.names y Long m)) (same_Some (of.local k) p e) (local_homes k named)
   token_homes tok.Loc (att.Branch rel label) p fit named e = absurd (cc)
   token_homes tok.Loc (att.Label label) p fit named e = absurd (cc)
   token_homes tok.Loc (att.Callee function count) p fit named e = absurd (cc)
   token_homes tok.Arg att.Nothing p fit named e = absurd (cc)
   token_homes tok.Arg (att.Number k) p fit named e = absurd (cc)
   token_homes tok.Arg (att.Object object offset) p fit named e = absurd (cc)
-  token_homes tok.Arg (att.Slot k) p fit named e = subst (λ y. IsSome (of.names y Long m)) (some_same (of.argument k) p e) (argument_homes k named.0 named.1)
+  token_homes tok.Arg (att.Slot k) p fit named e = subst (λ y. IsSome (of.names y Long m)) (same_Some (of.argument k) p e) (argument_homes k named.0 named.1)
   token_homes tok.Arg (att.Branch rel label) p fit named e = absurd (cc)
   token_homes tok.Arg (att.Label label) p fit named e = absurd (cc)
   token_homes tok.Arg (att.Callee function count) p fit named e = absurd (cc)

@@ -101,12 +101,8 @@ with_bytes Long bytes at v h =
 stored_bytes : (size : Size) (bytes : List ℕ) (a v : ℕ) (after : List ℕ) → Bytes bytes → stored size bytes a v ≡ Some after → Bytes after
 stored_bytes size bytes a v after h e = by (is_inside size bytes a) e where
   by : (b : Bool) → cond b (Some (with_number size bytes (a - 65536) v)) None ≡ Some after → Bytes after
-  by true g = subst Bytes (list_same _ after g) (with_bytes size bytes (a - 65536) v h) where
-    list_same : (x y : List ℕ) → Some x ≡ Some y → x ≡ y
-    list_same x y w = cc
-  by false g = absurd (no_list after g) where
-    no_list : (y : List ℕ) → None ≡ Some y → ⊥
-    no_list y w = cc
+  by true g = subst Bytes (same_Some _ after g) (with_bytes size bytes (a - 65536) v h)
+  by false g = absurd (none-some after g)
 
 map_get : {X Y : Type 0} (g : X → Y) (xs : List X) (i : ℕ) → slice_get (map g xs) i ≡ option_map g (slice_get xs i)
 map_get g [] i = refl

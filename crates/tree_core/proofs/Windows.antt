@@ -272,10 +272,7 @@ least_reaches from k best (m ∷ ms) e h = least_reaches from k (better from bes
 
 -- the windows go up
 pub from_rises : (ns : List ℕ) (from base : ℕ) → least from None ns ≡ Some base → from ≤ base
-from_rises ns from base e = least_reaches from base None ns e (λ m q. absurd (never m q))
-  where
-    never : (m : ℕ) → None ≡ Some m → ⊥
-    never m q = cc
+from_rises ns from base e = least_reaches from base None ns e (λ m q. absurd (none-some m q))
 
 -- the window that was met, as the code names its parts
 pub met_there : (base b b' : ℕ) (g h : ℕ → Bool) (ns : List ℕ) → b ≡ base → b' ≡ b → h ≡ (λ m. false) → g ≡ added_all b h ns → (b' ≡ base) × (g ≡ added_all base (λ m. false) ns)

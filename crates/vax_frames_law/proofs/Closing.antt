@@ -29,9 +29,6 @@ on_to code p h =
     ap (λ (q : ℕ). mask_from 0 code (next_item code q)) z ∙ on_from 0 p code h
 
 module _ (code : List CodeItem) where
-  instr_same : (x y : CodeItem) → ◌≡◌ {A = Option CodeItem} (Some x) (Some y) → x ≡ y
-  instr_same x y e = cc
-
   -- what is said of an instruction among the items
   closed_at : (k : ℕ) (list : List CodeItem) → AreClosed code k list → (p : ℕ) (i : Instr) → slice_get list p ≡ Some (item_kind.Instr i) → IsClosedAt code (mask_from k list p) i (drop (suc p) list)
   closed_at k [] h zero i e = absurd cc

@@ -1,11 +1,12 @@
 -- A call of a function: its frame is made, and the state stands for the trees' state in which the function begins.
-use Rattle.std.proofs.Common.{◌≡◌, ℕ, zero, suc, ◌+◌, ◌-◌, ◌*◌, ◌/◌, ◌%◌, ◌<◌, ◌≤◌, Bool, false, cond, List, [], ◌∷◌, ◌++◌, length, take, drop, Option, Some, None, Result, Ok, Err}
+use Rattle.std.proofs.Common.{◌≡◌, ℕ, zero, suc, ◌+◌, ◌-◌, ◌*◌, ◌/◌, ◌%◌, ◌<◌, ◌≤◌, Bool, false, cond, List, [], ◌∷◌, ◌++◌, length, take, drop, Option, Some, Result, Ok, Err}
 use Rattle.std.proofs.Common.{refl, sym, ap, subst, ◌∙◌, arith, get_or-set_same}
 use Rattle.std.specs.Prelude.{slice_get, slice_set, nat_le}
 use Rattle.std.specs.Int.RustNames.{count_ones}
 use Rattle.std.proofs.lemmas.Bool.{le-ltb, lt-leb}
 use Rattle.std.proofs.lemmas.List.{set-set, length-drop}
 use Rattle.std.proofs.lemmas.Nat.{ones-le}
+use Rattle.std.proofs.lemmas.Option.{none-some}
 use lib.Count.{ones_step}
 use Rattle.gg_base.specs.declared.size.Size.TheVariants.{Long}
 use Rattle.gg_base.specs.Arithmetic.{sub32}
@@ -242,14 +243,11 @@ module _ (m : State) (can : CanCall m) (mask count : ℕ) (back : Option ℕ) (f
           argument =
               λ i v is. let z : argument_of (number_at m) (i + 1) ≡ reg m Sp + 4 * i = omega (arith, can.space) in ap (λ (x : ℕ). long_at (stack_with m count) x) z
               ∙ same_above (reg m Sp + 4 * i) (omega arith) ∙ stand i v is;
-          is_local = λ k v is. absurd (nothing v is);
-          local = λ k v is. absurd (nothing v is);
+          is_local = λ k v is. absurd (none-some v is);
+          local = λ k v is. absurd (none-some v is);
           pushed = λ i v is. absurd (empty i v is);
         }
       where
-        nothing : (v : ℕ) → ◌≡◌ {A = Option ℕ} None (Some v) → ⊥
-        nothing v e = cc
-
         empty : (i v : ℕ) → slice_get [] i ≡ Some v → ⊥
         empty zero v e = cc
         empty (suc i) v e = cc

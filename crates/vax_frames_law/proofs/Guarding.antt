@@ -5,6 +5,7 @@ use Rattle.std.specs.Prelude.{slice_get, slice_index, slice_set, nat_lt, nat_le,
 use Rattle.std.specs.Int.RustNames.{count_ones}
 use Rattle.std.specs.Str.{bytes_eq}
 use Rattle.std.proofs.lemmas.List.{same_from_push}
+use Rattle.std.proofs.lemmas.Option.{same_Some, none-some}
 use Rattle.gg_base.specs.declared.size.Size.TheVariants.{Byte, Long}
 use Rattle.gg_base.specs.Arithmetic.{sub32}
 use Rattle.gg_base.proofs.Facts.{err_ok}
@@ -254,15 +255,9 @@ pub record LastIntact (code : List CodeItem) (mask_at : ℕ → ℕ) (frames : L
 last_intact : (code : List CodeItem) (mask_at : ℕ → ℕ) (frames : List Frame) (place : ℕ) (registers : List ℕ) → AreIntact code mask_at frames place registers
     → LastIntact code mask_at frames place registers
 last_intact code mask_at frames place registers (outermost f place' registers' none h) =
-    record { outer = []; f = f; frames_are = refl; last = h; others = λ back is. absurd (never back (sym none ∙ is)) }
-  where
-    never : (b : ℕ) → ◌≡◌ {A = Option ℕ} None (Some b) → ⊥
-    never b e = cc
+    record { outer = []; f = f; frames_are = refl; last = h; others = λ back is. absurd (none-some back (sym none ∙ is)) }
 last_intact code mask_at frames place registers (inner outer all f place' back registers' eq is h others) =
-    record { outer = outer; f = f; frames_are = eq; last = h; others = λ b e. subst (λ (x : ℕ). AreIntact code mask_at outer x f.saved) (same_number back b (sym is ∙ e)) others }
-  where
-    same_number : (a b : ℕ) → ◌≡◌ {A = Option ℕ} (Some a) (Some b) → a ≡ b
-    same_number a b e = cc
+    record { outer = outer; f = f; frames_are = eq; last = h; others = λ b e. subst (λ (x : ℕ). AreIntact code mask_at outer x f.saved) (same_Some back b (sym is ∙ e)) others }
 
 restored_all : (code : List CodeItem) (mask_at : ℕ → ℕ) (m : State) (f : Frame) (place : ℕ) (registers : List ℕ) → IsIntact code mask_at f place registers
     → (r : ℕ) → 2 ≤ r → r < 12 → (has f.mask r ≡ false → slice_index m.registers r ≡ slice_index registers r) → restored m f r ≡ slice_index f.saved r

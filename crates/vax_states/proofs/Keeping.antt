@@ -1,9 +1,9 @@
 -- What leaves a state standing for a state of a tree program.
-use Rattle.std.proofs.Common.{◌≡◌, ◌⊎◌, inl, inr, ⊎_elim, ℕ, zero, suc, ◌+◌, ◌-◌, ◌*◌, ◌^◌, ◌<◌, ◌≤◌, Bool, true, false, cond, List, [], ◌∷◌, length, Option, Some, refl, sym, ap}
+use Rattle.std.proofs.Common.{◌≡◌, ◌⊎◌, inl, inr, ⊎_elim, ℕ, zero, suc, ◌+◌, ◌-◌, ◌*◌, ◌^◌, ◌<◌, ◌≤◌, Bool, true, false, cond, List, [], ◌∷◌, length, Some, refl, sym, ap}
 use Rattle.std.proofs.Common.{◌∙◌, arith, length-set}
 use Rattle.std.specs.Prelude.{slice_get, slice_set, ◌==◌}
 use Rattle.std.proofs.lemmas.Bool.{eqb-true, eqb-false, cases_lt}
-use Rattle.std.proofs.lemmas.Option.{slice_get_within}
+use Rattle.std.proofs.lemmas.Option.{slice_get_within, same_Some}
 use Rattle.gg_base.specs.declared.size.Size.{Size}
 use Rattle.gg_base.specs.declared.size.Size.TheVariants.{Long}
 use Rattle.gg_base.specs.Sizes.{bytes_of}
@@ -67,10 +67,7 @@ reg_small m r h = below_get (2 ^ 32) (reg_number r) m.registers (omega arith) h.
 pub set_get : {A : Type 0} (xs : List A) (i j : ℕ) (v w : A) → slice_get (slice_set xs i v) j ≡ Some w → ((j ≡ i) × (v ≡ w)) ⊎ ((j ≡ i → ⊥) × (slice_get xs j ≡ Some w))
 set_get [] i zero v w e = absurd cc
 set_get [] i (suc j) v w e = absurd cc
-set_get (x ∷ xs) zero zero v w e = inl (refl, same v w e)
-  where
-    same : {A : Type 0} (v w : A) → ◌≡◌ {A = Option A} (Some v) (Some w) → v ≡ w
-    same v w e = cc
+set_get (x ∷ xs) zero zero v w e = inl (refl, same_Some v w e)
 set_get (x ∷ xs) zero (suc j) v w e = inr ((λ q. omega (arith, q)), e)
 set_get (x ∷ xs) (suc i) zero v w e = inr ((λ q. omega (arith, q)), e)
 set_get (x ∷ xs) (suc i) (suc j) v w e = ⊎_elim (λ h. inl (ap suc h.0, h.1)) (λ h. inr ((λ q. h.0 (omega (arith, q))), h.1)) (set_get xs i j v w e)
@@ -143,9 +140,6 @@ module _ (stack : List ℕ) (f : Frame) (e : Extent) (a : Activation) (low high 
       known j w true eq g = let s : j ≡ k = eqb-true j k eq in omega (arith, s, is)
       known j w false eq g = h.is_local j w g
 
-      some_same : (v w : ℕ) → ◌≡◌ {A = Option ℕ} (Some v) (Some w) → v ≡ w
-      some_same v w e = cc
-
       apart : (j : ℕ) → j < e.words → k < e.words → (j < k) ⊎ (k < j) → (word_of f.fp k + 4 ≤ word_of f.fp j) ⊎ (word_of f.fp j + 4 ≤ word_of f.fp k)
       apart j lj lk (inl lt) = inl (words_apart stack f e a low high h j k lj lk lt)
       apart j lj lk (inr gt) = inr (words_apart stack f e a low high h k j lk lj gt)
@@ -153,7 +147,7 @@ module _ (stack : List ℕ) (f : Frame) (e : Extent) (a : Activation) (low high 
       value : (j w : ℕ) → ((b : ℕ) → 2139095040 ≤ b → (word_of f.fp k + 4 ≤ b) ⊎ (b + 4 ≤ word_of f.fp k) → long_at (with_number Long stack (word_of f.fp k - 2139095040) v) b ≡ long_at stack b)
           → long_at (with_number Long stack (word_of f.fp k - 2139095040) v) (word_of f.fp k) ≡ v
           → (b : Bool) → (j == k) ≡ b → cond b (Some v) (a.locals j) ≡ Some w → long_at (with_number Long stack (word_of f.fp k - 2139095040) v) (word_of f.fp j) ≡ w
-      value j w other there true eq g = ap (λ (i : ℕ). long_at (with_number Long stack (word_of f.fp k - 2139095040) v) (word_of f.fp i)) (eqb-true j k eq) ∙ there ∙ some_same v w g
+      value j w other there true eq g = ap (λ (i : ℕ). long_at (with_number Long stack (word_of f.fp k - 2139095040) v) (word_of f.fp i)) (eqb-true j k eq) ∙ there ∙ same_Some v w g
       value j w other there false eq g =
           let lj = local_word stack f e a low high h j w g in
           let lk : k < e.words = omega (arith, is, h.locals) in
@@ -228,12 +222,9 @@ module _ (stack : List ℕ) (f : Frame) (e : Extent) (a : Activation) (low high 
         pushed = λ i w g. value i w there kept g;
       }
     where
-      some_same : (v w : ℕ) → ◌≡◌ {A = Option ℕ} (Some v) (Some w) → v ≡ w
-      some_same v w e = cc
-
       value : (i w : ℕ) → long_at (with_number Long stack (low - 4 - 2139095040) v) (low - 4) ≡ v → Holds (with_number Long stack (low - 4 - 2139095040) v) f e a low high
           → slice_get (v ∷ a.pushed) i ≡ Some w
           → long_at (with_number Long stack (low - 4 - 2139095040) v) (low - 4 + 4 * i) ≡ w
-      value zero w there kept g = let z : low - 4 + 4 * 0 ≡ low - 4 = omega arith in ap (λ (b : ℕ). long_at (with_number Long stack (low - 4 - 2139095040) v) b) z ∙ there ∙ some_same v w g
+      value zero w there kept g = let z : low - 4 + 4 * 0 ≡ low - 4 = omega arith in ap (λ (b : ℕ). long_at (with_number Long stack (low - 4 - 2139095040) v) b) z ∙ there ∙ same_Some v w g
       value (suc i) w there kept g =
           let z : low - 4 + 4 * suc i ≡ low + 4 * i = omega (arith, room) in ap (λ (b : ℕ). long_at (with_number Long stack (low - 4 - 2139095040) v) b) z ∙ kept.pushed i w g

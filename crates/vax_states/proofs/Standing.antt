@@ -1,8 +1,8 @@
 -- What leaves a state standing for a state of a tree program, and what is read in such a state.
-use Rattle.std.proofs.Common.{◌≡◌, ℕ, ◌+◌, ◌-◌, ◌^◌, ◌<◌, ◌≤◌, Bool, true, false, cond, List, length, Option, Some, None, Ok, Err, refl, sym, ap, subst, ◌∙◌, arith, get_or-set_same, get_or-set_other}
+use Rattle.std.proofs.Common.{◌≡◌, ℕ, ◌+◌, ◌-◌, ◌^◌, ◌<◌, ◌≤◌, Bool, true, false, cond, List, length, Some, None, Ok, Err, refl, sym, ap, subst, ◌∙◌, arith, get_or-set_same, get_or-set_other}
 use Rattle.std.specs.Prelude.{slice_get, slice_set, nat_lt, nat_le, ◌&&◌}
 use Rattle.std.proofs.lemmas.Bool.{le-ltb, leb-true}
-use Rattle.std.proofs.lemmas.Option.{slice_get_within}
+use Rattle.std.proofs.lemmas.Option.{slice_get_within, same_Some}
 use Rattle.gg_base.specs.declared.size.Size.{Size}
 use Rattle.gg_base.specs.declared.size.Size.TheVariants.{Byte, Word, Long}
 use Rattle.gg_base.specs.Arithmetic.{sub32}
@@ -86,11 +86,8 @@ module _ (objects : List Object) (e : Extent) (es : List Extent) (t : Trees) (m 
   area_read_by size a v true true p q is =
       let low = leb-true 65536 a p in
       let up : a + bytes_of size ≤ 65536 + length m.area = omega (arith, leb-true (a + bytes_of size) (65536 + length t.area) q, ap length h.area) in
-      area_read m a size low up ∙ ap (λ (x : ℕ). Ok x) (same_number size (a - 65536) ∙ some_same (number_in size t.area (a - 65536)) v is)
+      area_read m a size low up ∙ ap (λ (x : ℕ). Ok x) (same_number size (a - 65536) ∙ same_Some (number_in size t.area (a - 65536)) v is)
     where
-      some_same : (x y : ℕ) → ◌≡◌ {A = Option ℕ} (Some x) (Some y) → x ≡ y
-      some_same x y e = cc
-
       same_number : (size : Size) (at : ℕ) → number_in size m.area at ≡ number_in size t.area at
       same_number Byte at = ap (λ (l : List ℕ). number_in Byte l at) h.area
       same_number Word at = ap (λ (l : List ℕ). number_in Word l at) h.area
@@ -206,16 +203,13 @@ module _ (objects : List Object) (e : Extent) (es : List Extent) (t : Trees) (m 
   area_by size a v area true true p q is =
       let low = leb-true 65536 a p in
       let up : a + bytes_of size ≤ 65536 + length m.area = omega (arith, leb-true (a + bytes_of size) (65536 + length t.area) q, ap length h.area) in
-      let made : with_number size m.area (a - 65536) v ≡ area = same_bytes size (a - 65536) v ∙ some_same (with_number size t.area (a - 65536) v) area is in
+      let made : with_number size m.area (a - 65536) v ≡ area = same_bytes size (a - 65536) v ∙ same_Some (with_number size t.area (a - 65536) v) area is in
       let sound = sound_area m size (a - 65536) v h.sound (omega (arith, low, up)) in (
         area_written m a size v low up ∙ ap (λ (l : List ℕ). Ok (record m { area = l })) made,
         rebuilt (record m { area = area }) (record t { area = area }) (subst (λ (l : List ℕ). IsSound (record m { area = l })) made sound) refl refl h.input refl refl refl h.running refl
             (λ x from. refl) h.bottom,
       )
     where
-      some_same : (x y : List ℕ) → ◌≡◌ {A = Option (List ℕ)} (Some x) (Some y) → x ≡ y
-      some_same x y e = cc
-
       same_bytes : (size : Size) (at v : ℕ) → with_number size m.area at v ≡ with_number size t.area at v
       same_bytes Byte at v = ap (λ (l : List ℕ). with_number Byte l at v) h.area
       same_bytes Word at v = ap (λ (l : List ℕ). with_number Word l at v) h.area

@@ -6,6 +6,7 @@ use Rattle.std.specs.Str.{bytes_eq}
 use Rattle.std.proofs.lemmas.Bool.{eqb-true, false_from_ne_true, true≢false}
 use Rattle.std.proofs.lemmas.List.{length-take-le}
 use Rattle.std.proofs.lemmas.Slice.Eq.{bytes_eq-Decides}
+use Rattle.std.proofs.lemmas.Option.{same_Some}
 use Rattle.gg_base.proofs.Facts.{tail_same}
 use Rattle.tree_core.specs.declared.tree.Att.TheVariants as att
 use Rattle.tree_core.specs.declared.program.TreeFn.{TreeFn}
@@ -62,9 +63,7 @@ callee_first (h ∷ hs) function count e =
 none_named : (name : List ℕ) (fs : List TreeFn) (k : ℕ) (g : TreeFn) → named name fs ≡ 0 → slice_get fs k ≡ Some g → bytes_eq g.name name ≡ true → ⊥
 none_named name [] k g none there is = cc
 none_named name (x ∷ fs) zero g none there is =
-    let one = ap (λ (b : Bool). cond b 1 0 + named name fs) (ap (λ (y : TreeFn). bytes_eq y.name name) (same x g there) ∙ is) in omega (arith, one, none) where
-      same : (x y : TreeFn) → Some x ≡ Some y → x ≡ y
-      same x y e = cc
+    let one = ap (λ (b : Bool). cond b 1 0 + named name fs) (ap (λ (y : TreeFn). bytes_eq y.name name) (same_Some x g there) ∙ is) in omega (arith, one, none)
 none_named name (x ∷ fs) (suc k) g none there is = none_named name fs k g (omega (arith, none)) there is
 
 apart : (name : List ℕ) (fs : List TreeFn) (k : ℕ) (g : TreeFn) → named name fs ≡ 0 → slice_get fs k ≡ Some g → bytes_eq (function_label g.name) (function_label name) ≡ false

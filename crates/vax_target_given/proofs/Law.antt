@@ -1,7 +1,7 @@
 -- What a rule that gives a shape gives: the operand stands for it, and the rule's lines change nothing.
 use Rattle.std.proofs.Common.{◌≡◌, ℕ, zero, suc, ◌-◌, ◌==◌, Bool, true, false, cond, Option, Some, None, Ok, List, [], ◌∷◌, map, refl, sym, ap, subst, ◌∙◌, slice_get}
 use Rattle.std.specs.List.{AllByRecursion}
-use Rattle.vax_target_spelling.proofs.Shapes.{nth_is}
+use Rattle.std.proofs.lemmas.Option.{same_Some}
 use Rattle.gg_base.specs.declared.size.Size.{Size}
 use Rattle.gg_base.specs.declared.size.Size.TheVariants.{Long}
 use Rattle.gg_base.proofs.Facts.{err_ok, ok_same}
@@ -84,11 +84,8 @@ module _ (q : TreeProgram) (m : State) where
   AllNumbered (h ∷ roles) [] = ⊥
   AllNumbered (h ∷ roles) (a ∷ hs) = Numbered h a × AllNumbered roles hs
 
-  some_number : (x y : ℕ) → Some x ≡ Some y → x ≡ y
-  some_number x y e = cc
-
   number_numbered : (x : Tok) (k : ℕ) → HasOne (attr.Token (record { tok = x; att = att.Number k }))
-  number_numbered x k n e = some_number k n e
+  number_numbered x k n e = same_Some k n e
 
   literal_numbered : (x : Tok) (k : ℕ) (a : Att) → is_of_kind (att_kind.Own k) a ≡ true → HasOne (attr.Token (record { tok = x; att = a }))
   literal_numbered x k (att.Number n) f = number_numbered x n
@@ -118,7 +115,7 @@ module _ (q : TreeProgram) (m : State) where
   token_numbered x a f = tt
 
   class_numbered : (k : Option Kind) (a : Attr Operand) → KindFits vax k a → Numbered (hole_of_kind k) a
-  class_numbered (Some kind.Con) (attr.Con k) f = λ n e. some_number k n e
+  class_numbered (Some kind.Con) (attr.Con k) f = λ n e. same_Some k n e
   class_numbered (Some kind.Con) a f = absurd f
   class_numbered (Some kind.Reg) a f = tt
   class_numbered (Some (kind.Value z)) a f = tt

@@ -1,6 +1,6 @@
 -- In an instance of a rule each hole means what it stands for.
-use Rattle.std.proofs.Common.{◌≡◌, ℕ, zero, suc, ◌+◌, ◌-◌, ◌%◌, ◌^◌, ◌<◌, ◌≤◌, Bool, true, cond, List, [], ◌∷◌, map, Option, Some, None, refl, sym, ap, subst, ◌∙◌, arith}
-use Rattle.std.specs.Prelude.{IsSome, is_some, is_none, unwrap_or, ◌&&◌, not, nat_lt, nat_le, slice_get}
+use Rattle.std.proofs.Common.{◌≡◌, ℕ, zero, suc, ◌-◌, ◌%◌, ◌^◌, ◌<◌, Bool, true, cond, List, [], ◌∷◌, map, Option, Some, None, refl, sym, ap, subst, ◌∙◌, arith}
+use Rattle.std.specs.Prelude.{IsSome, is_none, unwrap_or, nat_lt, nat_le, slice_get}
 use Rattle.std.specs.Option.{option_map}
 use Rattle.std.proofs.lemmas.Bool.{eqb-true, lt-ltb}
 use Rattle.std.proofs.lemmas.Option.{none-some, same_Some}
@@ -26,7 +26,7 @@ use Rattle.md_reader.specs.declared.types.Give.{Give}
 use Rattle.md_reader.specs.declared.types.Give.TheVariants as give
 use Rattle.md_reader.specs.declared.types.Rule.{Rule}
 use Rattle.md_reader.specs.Patterns.{kind_at}
-use Rattle.term_core.specs.Shape.{Shape, Symbol, LastResult}
+use Rattle.term_core.specs.Shape.{Shape, Symbol}
 use Rattle.term_core.proofs.Values.{small}
 use Rattle.sel_terms.specs.Effects.{EffectShape}
 use Rattle.sel_terms.specs.RuleFacts.{size_of_kind, size_of_symbol, size_of_some, size_at}
@@ -44,19 +44,17 @@ use Rattle.vax_core.specs.declared.operand.Base.TheVariants as bases
 use Rattle.vax_core.specs.declared.operand.Operand.{Operand}
 use Rattle.vax_core.specs.Homes.{home, at_home, argument_home}
 use Rattle.vax_machine.specs.State.{State, reg}
-use Rattle.vax_machine.specs.Area.{resolved_of, label_address}
-use Rattle.vax_states.specs.Agreeing.{AreLabelled, Agrees}
+use Rattle.vax_machine.specs.Area.{resolved_of}
+use Rattle.vax_states.specs.Agreeing.{AreLabelled}
 use Rattle.vax_states.proofs.Keeping.{reg_small}
-use Rattle.vax_templates.specs.declared.setting.Hole.{Hole}
 use Rattle.vax_templates.specs.declared.setting.Hole.TheVariants as hole_kind
 use Rattle.vax_templates.specs.declared.setting.Own.TheVariants as own
-use Rattle.vax_templates.specs.declared.setting.Opening.{Opening}
 use Rattle.vax_templates.specs.declared.setting.Opening.TheVariants as opening
-use Rattle.vax_templates.specs.Settings.{hole_of_token, hole_of_kind, hole_of, holes_of, hole_or_other, hole_at, own_of, opening_of, opening_by, setting_of}
-use Rattle.vax_templates.specs.Filled.{alone, spare, attr_or, attr_at, numbered, label_of, word_operand, slot_operand, argument_deferred, operand_in, deferred_in, addr_in}
+use Rattle.vax_templates.specs.Settings.{hole_of_token, hole_of_kind, hole_of, hole_or_other, own_of, opening_of, opening_by}
+use Rattle.vax_templates.specs.Filled.{spare, attr_or, numbered, label_of, word_operand, slot_operand, argument_deferred}
 use Rattle.vax_target_meaning.specs.Reading.{named, moved, names, reads}
 use Rattle.vax_target_meaning.specs.Vax.{vax}
-use Rattle.vax_target_operands.specs.Scenes.{Scene, worth, role_at, filling_at, IsRegister, IsPlace, IsLocal, Names, IsNumber, IsObject, IsSavedLocal, Means, OwnIs, IsOwnRegister, Sees}
+use Rattle.vax_target_operands.specs.Scenes.{Scene, worth, role_at, filling_at, IsLocal, Names, IsNumber, IsObject, IsSavedLocal, Means, OwnIs, Sees}
 use Rattle.vax_target_operands.proofs.Machine.{mapped}
 use Rattle.vax_target_rules.specs.Scene.{scene_of, InstancesAreSeen}
 
@@ -298,13 +296,9 @@ pub record IsFilled (classes : List Class) (right : List Sym) (hs : List (Attr O
   pub fits : SymFits vax classes s attribute
 
 pub filled_at : (classes : List Class) (right : List Sym) (hs : List (Attr Operand)) (j : ℕ) (s : Sym) → Fit vax classes right hs → slice_get right j ≡ Some s → IsFilled classes right hs j s
-filled_at classes [] hs j s fit e = absurd (none_sym s e) where
-  none_sym : (s : Sym) → None ≡ Some s → ⊥
-  none_sym s e = cc
+filled_at classes [] hs j s fit e = absurd (none-some s e)
 filled_at classes (x ∷ right) [] j s fit e = absurd fit
-filled_at classes (x ∷ right) (h ∷ hs) zero s fit e = record { attribute = h; at = refl; fits = subst (λ y. SymFits vax classes y h) (some_sym x s e) fit.0 } where
-  some_sym : (x y : Sym) → Some x ≡ Some y → x ≡ y
-  some_sym x y e = cc
+filled_at classes (x ∷ right) (h ∷ hs) zero s fit e = record { attribute = h; at = refl; fits = subst (λ y. SymFits vax classes y h) (same_Some x s e) fit.0 }
 filled_at classes (x ∷ right) (h ∷ hs) (suc j) s fit e = let r = filled_at classes right hs j s fit.1 e in record { attribute = r.attribute; at = r.at; fits = r.fits }
 
 pub mapped_at : (classes : List Class) (right : List Sym) (j : ℕ) → slice_get (map (hole_of classes) right) j ≡ option_map (hole_of classes) (slice_get right j)

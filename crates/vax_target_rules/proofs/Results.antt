@@ -1,14 +1,12 @@
 -- A rule's lines leave its result in its register.
-use Rattle.std.proofs.Common.{◌≡◌, ℕ, zero, suc, ◌-◌, ◌^◌, ◌<◌, ◌≤◌, ◌==◌, ◌⊎◌, inl, inr, ◌++◌, Bool, true, false, cond, List, [], ◌∷◌, length, map, Option, Some, None, Result, Ok}
-use Rattle.std.proofs.Common.{Err, refl, sym, ap, subst, ◌∙◌, arith}
+use Rattle.std.proofs.Common.{◌≡◌, ℕ, zero, suc, ◌-◌, ◌<◌, ◌⊎◌, inl, inr, true, false, List, [], ◌∷◌, map, Option, Some, None, Ok}
+use Rattle.std.proofs.Common.{refl, sym, ap, subst, ◌∙◌, arith}
 use Rattle.std.specs.Prelude.{slice_get}
 use Rattle.std.specs.Option.{option_map}
-use Rattle.std.specs.List.{AllByRecursion}
-use Rattle.gg_base.specs.declared.size.Size.{Size}
+use Rattle.std.proofs.lemmas.Option.{same_Some, none-some}
 use Rattle.gg_base.specs.declared.size.Size.TheVariants.{Long}
 use Rattle.gg_base.proofs.Facts.{err_ok, ok_same}
 use Rattle.tree_core.specs.declared.program.TreeProgram.{TreeProgram}
-use Rattle.md_reader_pieces.specs.declared.piece.Line.{Line}
 use Rattle.md_reader.specs.declared.types.Kind.{Kind}
 use Rattle.md_reader.specs.declared.types.Kind.TheVariants as kind
 use Rattle.md_reader.specs.declared.types.Class.{Class}
@@ -22,51 +20,42 @@ use Rattle.md_reader.specs.Rows.{plain_fits}
 use Rattle.md_reader.specs.Valid.{MayGive}
 use Rattle.term_core.specs.Shape.{Shape}
 use Rattle.sel_terms.specs.Effects.{ActShape, EffectShape, Value}
-use Rattle.sel_target.specs.declared.fault.TemplateKind.{TemplateKind}
 use Rattle.sel_target.specs.declared.attr.Attr.{Attr}
 use Rattle.sel_target.specs.declared.attr.Attr.TheVariants as attr
 use Rattle.sel_target.specs.Meaning.{Extent, Spot, RegAt}
 use Rattle.sel_terms_meaning.specs.Meaning.{terms_of_act}
 use Rattle.sel_target.specs.Values.{View, value}
-use Rattle.sel_target.specs.Instances.{attr_touches, Avoids, IsResult, lines_of, Instance, Ready}
+use Rattle.sel_target.specs.Instances.{attr_touches, Avoids, IsResult, lines_of, Ready}
 use Rattle.sel_target.specs.Outcomes.{Sets}
 use Rattle.vax_core.specs.declared.operand.Operand.{Operand}
 use Rattle.vax_core.specs.Registers.{reg_number}
-use Rattle.vax_machine.specs.State.{State, reg}
+use Rattle.vax_machine.specs.State.{State}
 use Rattle.vax_machine_lists.specs.Instructions.{Course, comes, exec}
-use Rattle.vax_templates.specs.declared.setting.Own.{Own}
 use Rattle.vax_templates.specs.declared.setting.Own.TheVariants as own
-use Rattle.vax_templates.specs.declared.setting.Hole.{Hole}
 use Rattle.vax_templates.specs.declared.setting.Hole.TheVariants as hole_kind
 use Rattle.vax_templates.specs.Settings.{holes_of, setting_of, own_of, is_reuse, hole_of, hole_or_other}
 use Rattle.vax_templates.specs.Deeds.{Last, Plain, Compared, Tested, Returning, Ended}
 use Rattle.vax_templates.specs.Judging.{is_operand}
-use Rattle.vax_templates.specs.Progress.{Progress}
 use Rattle.vax_templates.specs.GiveLines.{left_value, last_deed, given_by}
-use Rattle.vax_templates.specs.Found.{with_divisors}
-use Rattle.vax_templates.specs.Filled.{attr_or, numbered, register_in}
+use Rattle.vax_templates.specs.Filled.{attr_or, register_in}
 use Rattle.vax_target_meaning.specs.Running.{course_of}
 use Rattle.vax_target_meaning.specs.Vax.{vax}
-use Rattle.vax_target_operands.specs.Scenes.{Scene, worth, role_at, filling_at, Sees}
+use Rattle.vax_target_operands.specs.Scenes.{Scene, role_at, filling_at, Sees}
 use Rattle.vax_target_lines.specs.Lines.{NoneIsZero, EndIsRead, MayEnd}
 use Rattle.vax_target_lines.proofs.Performing.{number_is}
 use Rattle.vax_target_runs.specs.Kept.{Differs}
-use Rattle.vax_target_runs.specs.Runs.{OwnChanged, ZeroChanged, Changed, SeesBehind, Reaches, EndsIn, ComesTo, RunsTo, IsApart, line_of, IsCalm}
+use Rattle.vax_target_runs.specs.Runs.{OwnChanged, Changed, EndsIn, RunsTo, IsApart, line_of, IsCalm}
 use Rattle.vax_target_runs.proofs.Kept.{registers_are_kept}
 use Rattle.vax_target_runs.proofs.Law.{lines_run}
 use Rattle.vax_target_rules.specs.Scene.{scene_of}
 use Rattle.vax_target_rules.proofs.Founds.{IsFound, rule_is, reads_safe, front_safe}
-use Rattle.vax_target_rules.proofs.Instances.{IsFilled, filled_at, mapped_at, role_is, filling_is, register_result, instance_seen}
+use Rattle.vax_target_rules.proofs.Instances.{filled_at, mapped_at, role_is, filling_is, register_result, instance_seen}
 
 -- ---- the register of the result
 
 pub avoids_at : (s : Spot) (hs : List (Attr Operand)) (j : ℕ) (h : Attr Operand) → Avoids vax s hs → slice_get hs j ≡ Some h → attr_touches vax h s ≡ false
-avoids_at s [] j h a e = absurd (none_attr h e) where
-  none_attr : (h : Attr Operand) → None ≡ Some h → ⊥
-  none_attr h e = cc
-avoids_at s (x ∷ hs) zero h a e = subst (λ y. attr_touches vax y s ≡ false) (some_attr x h e) a.0 where
-  some_attr : (x y : Attr Operand) → Some x ≡ Some y → x ≡ y
-  some_attr x y e = cc
+avoids_at s [] j h a e = absurd (none-some h e)
+avoids_at s (x ∷ hs) zero h a e = subst (λ y. attr_touches vax y s ≡ false) (same_Some x h e) a.0
 avoids_at s (x ∷ hs) (suc j) h a e = avoids_at s hs j h a.1 e
 
 -- where the operands' registers are avoided

@@ -3,6 +3,7 @@ use Rattle.std.proofs.Common.{◌≡◌, ℕ, zero, suc, ◌-◌, ◌==◌, inl,
 use Rattle.std.specs.Prelude.{slice_get}
 use Rattle.std.specs.Option.{option_map}
 use Rattle.std.specs.List.{AllByRecursion}
+use Rattle.std.proofs.lemmas.Option.{same_Some}
 use Rattle.gg_base.specs.declared.relation.Rel.{Rel}
 use Rattle.gg_base.specs.declared.relation.Rel.TheVariants as relations
 use Rattle.gg_base.specs.Relations.{holds, compares_signed}
@@ -56,9 +57,7 @@ token_is (attr.Value o) a e = cc
 token_is (attr.Place o) a e = cc
 token_is (attr.Con n) a e = cc
 token_is (attr.Ea o) a e = cc
-token_is (attr.Token l) a e = (l, refl, same l.att a e) where
-  same : (x y : Att) → Some x ≡ Some y → x ≡ y
-  same x y e = cc
+token_is (attr.Token l) a e = (l, refl, same_Some l.att a e)
 token_is attr.Nothing a e = cc
 
 -- the first hole has the label

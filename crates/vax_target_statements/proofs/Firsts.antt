@@ -3,6 +3,7 @@ use Rattle.std.proofs.Common.{◌≡◌, ℕ, zero, suc, Bool, true, false, List
 use Rattle.std.specs.Prelude.{slice_get, not}
 use Rattle.std.specs.List.{AllByRecursion, list_all}
 use Rattle.std.proofs.lemmas.Bool.{and_parts}
+use Rattle.std.proofs.lemmas.Option.{same_Some}
 use Rattle.gg_base.specs.declared.relation.Rel.{Rel}
 use Rattle.tree_core.specs.declared.token.Tok.{Tok}
 use Rattle.tree_core.specs.declared.token.Tok.TheVariants as tok
@@ -226,9 +227,7 @@ pub symbol_of : (classes : List Class) (right : List Sym) (hs : List (Attr Opera
 symbol_of classes [] [] j h fit e = cc
 symbol_of classes [] (x ∷ hs) j h fit e = absurd fit
 symbol_of classes (s ∷ right) [] j h fit e = absurd fit
-symbol_of classes (s ∷ right) (x ∷ hs) zero h fit e = record { symbol = s; at = refl; fits_so = subst (SymFits vax classes s) (same x h e) fit.0 } where
-  same : (x y : Attr Operand) → Some x ≡ Some y → x ≡ y
-  same x y e = cc
+symbol_of classes (s ∷ right) (x ∷ hs) zero h fit e = record { symbol = s; at = refl; fits_so = subst (SymFits vax classes s) (same_Some x h e) fit.0 }
 symbol_of classes (s ∷ right) (x ∷ hs) (suc j) h fit e = let r = symbol_of classes right hs j h fit.1 e in record { symbol = r.symbol; at = r.at; fits_so = r.fits_so }
 
 branches_only : (t : Tok) (rel : Rel) (label : ℕ) → is_of_kind (attribute_of t) (att.Branch rel label) ≡ true → is_branch (Some (grammar_symbol.Tok t)) ≡ true

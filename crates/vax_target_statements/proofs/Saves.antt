@@ -3,6 +3,7 @@ use Rattle.std.proofs.Common.{◌≡◌, ℕ, zero, suc, ◌+◌, ◌*◌, ◌^�
 use Rattle.std.specs.Prelude.{slice_get, nat_le}
 use Rattle.std.specs.Option.{option_map}
 use Rattle.std.proofs.lemmas.Bool.{lt-ltb}
+use Rattle.std.proofs.lemmas.Option.{same_Some}
 use Rattle.gg_base.specs.declared.size.Size.TheVariants.{Long}
 use Rattle.gg_base.specs.Arithmetic.{neg32}
 use Rattle.gg_base.proofs.Facts.{err_ok, ok_same}
@@ -176,9 +177,7 @@ hole_is_save tok.End e = cc
 
 begins : (right : List Sym) (t : Tok) → slice_get right 0 ≡ Some (grammar_symbol.Tok t) → t ≡ tok.Save → begins_with_save right ≡ true
 begins [] t e is = cc
-begins (s ∷ right) t e is = subst (λ x. begins_with_save (x ∷ right) ≡ true) (sym (one s (grammar_symbol.Tok t) e ∙ ap grammar_symbol.Tok is)) refl where
-  one : (x y : Sym) → Some x ≡ Some y → x ≡ y
-  one x y e = cc
+begins (s ∷ right) t e is = subst (λ x. begins_with_save (x ∷ right) ≡ true) (sym (same_Some s (grammar_symbol.Tok t) e ∙ ap grammar_symbol.Tok is)) refl
 
 -- the last line saves in that token's place
 last_saves : (s : Setting) (roles : List Hole) (l : Last) (i : ℕ) → last_deed l ≡ Ok (Save i) → LastIs s roles None l → hole_at roles i ≡ hole_kind.Saved
