@@ -2,7 +2,7 @@
 use Rattle.std.proofs.Common.{◌≡◌, ℕ, zero, suc, ◌+◌, ◌-◌, ◌<◌, List, [], ◌∷◌, ◌++◌, Option, Some, None, Bool, true, false, Contains, length, map, drop, slice_get, refl}
 use Rattle.std.proofs.Common.{sym, ap, ◌∙◌, subst, inl, inr, arith}
 use Rattle.std.proofs.lemmas.List.{drop-map}
-use Rattle.std.proofs.lemmas.Bool.{eqb-true}
+use Rattle.std.proofs.lemmas.Bool.{eqb-true, false≢true}
 use Rattle.std.specs.Prelude.{◌==◌, if◌then◌else◌}
 use Rattle.std.proofs.lemmas.Option.{same_Some}
 use Rattle.gg_base.proofs.Facts.{some_none, head_same, tail_same}
@@ -261,10 +261,7 @@ mutual
   toks-trees (more_trees v vs) w = toks-tree v (leaves_all vs w) ∙ ap (onto v) (toks-trees vs w)
 
 not_end : (k : Tok) (x : Sort) → May k x → k ≡ tok.End → ⊥
-not_end k x m e = unlike (subst (λ z. may z x ≡ true) e m)
-  where
-    unlike : false ≡ true → ⊥
-    unlike h = cc
+not_end k x m e = false≢true (subst (λ z. may z x ≡ true) e m)
 
 mutual
   no-ends : {x : Sort} (v : Tree x) (w : List Leaf) → NoEnds (map (λ (l : Leaf). record { tok = l.tok; answers = l.answers }) w) →

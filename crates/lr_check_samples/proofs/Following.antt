@@ -1,6 +1,7 @@
 -- What the automaton's parse of a sample comes to, the parse over the rules comes to.
-use Rattle.std.proofs.Common.{◌≡◌, ℕ, suc, List, [], ◌∷◌, ◌++◌, Some, true, false, length, map, refl, sym, ap, ◌∙◌, subst, arith}
+use Rattle.std.proofs.Common.{◌≡◌, ℕ, suc, List, [], ◌∷◌, ◌++◌, Some, length, map, refl, sym, ap, ◌∙◌, subst, arith}
 use Rattle.std.specs.Prelude.{IsTrue}
+use Rattle.std.proofs.lemmas.Bool.{false≢true}
 use Rattle.gg_base.proofs.Facts.{nil_cons, head_same, tail_same}
 use Rattle.tree_core.specs.declared.token.Tok.{Tok}
 use Rattle.tree_core.specs.declared.token.Tok.TheVariants as tok
@@ -31,10 +32,7 @@ NoEnds [] = Unit {0}
 NoEnds (l ∷ w) = (l.tok ≡ tok.End → ⊥) × NoEnds w
 
 no_end : (k : Tok) (x : Sort) → IsTrue (sort_fits (sort_of k) x) → k ≡ tok.End → ⊥
-no_end k x h e = unlike (subst (λ j. IsTrue (sort_fits (sort_of j) x)) e h)
-  where
-    unlike : false ≡ true → ⊥
-    unlike g = cc
+no_end k x h e = false≢true (subst (λ j. IsTrue (sort_fits (sort_of j) x)) e h)
 
 pub typed_no_ends : {xs : List Sort} (w : List Leaf) → AreTyped xs (tokens w) → NoEnds w
 typed_no_ends [] h = tt

@@ -269,9 +269,6 @@ module _ (t : TableView) (v : IsValid t.content) (b : IsNumbered t) (m : MeetsLa
       unlike : None ≡ Some shift → ⊥
       unlike h = cc
 
-      nor : (r : Production) → Some (reduce r) ≡ None → ⊥
-      nor r h = cc
-
       by : Here a k p → Reduction t.content.rules (stmt_of t.content.classes) ws (parts a) None (parts c)
       by (shift_here sb e) = absurd (unlike (shift_only a c None (ap (λ cs. pick cs a) (sym e) ∙ pk)).0)
       by (reduce_here ns refused ar e) = with_picks (reductions_at a k ns ar)
@@ -289,4 +286,4 @@ module _ (t : TableView) (v : IsValid t.content) (b : IsNumbered t) (m : MeetsLa
                   (reduction_of a ws ns None g.after (subst (λ z. StandsBefore t.content.rules (stmt_of t.content.classes) (auto.symbols a) (grammar_symbol.Tok z) → ⊥) (sym next) refused)
                   (subst (λ z. AreReductions t.content.rules (stmt_of t.content.classes) (auto.symbols a) z ns) (sym next) ar)
                   (subst (λ o. Takes t.content.rules (parts a) ns o (parts g.after)) u g.takes))
-              by_taken (Some n) u = let h = g.rule n u in absurd (nor (production h.0) (ap (λ (q : Picked). q.taken) (sym h.1.1 ∙ taken)))
+              by_taken (Some n) u = let h = g.rule n u in absurd (some_none (reduce (production h.0)) (ap (λ (q : Picked). q.taken) (sym h.1.1 ∙ taken)))

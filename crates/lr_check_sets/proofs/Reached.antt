@@ -1,7 +1,8 @@
 -- Each place and each sum is met in the parse of a real tree, under some answers.
-use Rattle.std.proofs.Common.{◌≡◌, ℕ, suc, ◌≤◌, ◌<◌, List, [], ◌∷◌, ◌++◌, Some, Bool, true, false, length, take, drop, refl, ap, sym, ◌∙◌, subst, arith, append_assoc}
+use Rattle.std.proofs.Common.{◌≡◌, ℕ, suc, ◌≤◌, ◌<◌, List, [], ◌∷◌, ◌++◌, Some, Bool, length, take, drop, refl, ap, sym, ◌∙◌, subst, arith, append_assoc}
 use Rattle.std.proofs.Common.{length-append, drop_at, take-append-drop, length-take, ap₂}
 use Rattle.std.proofs.lemmas.Option.{none-some}
+use Rattle.std.proofs.lemmas.Bool.{false≢true}
 use Rattle.tree_core.specs.declared.token.Tok.{Tok}
 use Rattle.tree_core.specs.declared.token.Tok.TheVariants as tok
 use Rattle.tree_core.specs.declared.token.Sort.{Sort}
@@ -76,10 +77,7 @@ tree_from tok.Ret h = node tok.Ret h [] (more_trees a_long no_trees)
 tree_from tok.Call h = node tok.Call h [] no_trees
 tree_from tok.Save h = node tok.Save h [] no_trees
 tree_from tok.Jump h = node tok.Jump h [] no_trees
-tree_from tok.End h = absurd (unlike h)
-  where
-    unlike : false ≡ true → ⊥
-    unlike e = cc
+tree_from tok.End h = absurd (false≢true h)
 
 root-tree_from : (x : Sort) (m : Tok) (h : May m x) → root (tree_from m h) ≡ m
 unfolding tree_from
@@ -122,10 +120,7 @@ root-tree_from x tok.Ret h = refl
 root-tree_from x tok.Call h = refl
 root-tree_from x tok.Save h = refl
 root-tree_from x tok.Jump h = refl
-root-tree_from x tok.End h = absurd (unlike h)
-  where
-    unlike : false ≡ true → ⊥
-    unlike e = cc
+root-tree_from x tok.End h = absurd (false≢true h)
 
 some_tree : (x : Sort) → Tree x
 some_tree sort.Stmt = node tok.Jump refl [] no_trees

@@ -1,6 +1,7 @@
 -- The fields of an interpretation: what each reduction gives, and that a zero divisor traps.
 use Rattle.std.proofs.Common.{◌≡◌, ℕ, ◌≤◌, List, [], ◌∷◌, length, Option, Some, None, Bool, true, false, refl, sym, ap, ◌∙◌, subst}
 use Rattle.std.specs.Prelude.{count_ones}
+use Rattle.std.proofs.lemmas.Bool.{false≢true}
 use Rattle.gg_base.specs.declared.size.Size.{Size}
 use Rattle.gg_base.specs.declared.size.Size.TheVariants.{Byte, Word, Long}
 use Rattle.tree_core.specs.declared.token.Tok.TheVariants as tok
@@ -113,10 +114,7 @@ no_divisors : (classes : List Class) (r : Rule) → IsRule classes r → begins_
 no_divisors classes r is_rule e = ap (λ w. (first_part (stack_from classes 1 w)).divisors) (saves_alone classes r is_rule e)
 
 no_trap : (objects : List Object) (s : Sight) (vs : List Sense) (e : EffectShape) (m : term.State) → e.divisors ≡ [] → TrapsBy objects s vs e m → ⊥
-no_trap objects s vs e m g h = unlike (subst (λ w. divides_by_zero m w ≡ true) g h.divides)
-  where
-    unlike : false ≡ true → ⊥
-    unlike k = cc
+no_trap objects s vs e m g h = false≢true (subst (λ w. divides_by_zero m w ≡ true) g h.divides)
 
 -- a class that stands for something is no statement's
 stands_not : (k : Kind) (v : Sense) → SenseFits (Some k) v → sort_fits (Some sort.Stmt) (sort_of_kind k) ≡ true → ⊥

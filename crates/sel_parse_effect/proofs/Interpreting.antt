@@ -3,6 +3,7 @@ use Rattle.std.proofs.Common.{◌≡◌, ◌⊎◌, inl, inr, ℕ, zero, suc, �
 use Rattle.std.specs.Prelude.{count_ones}
 use Rattle.std.specs.List.{AllByRecursion as All}
 use Rattle.std.proofs.lemmas.Option.{same_Some, none-some}
+use Rattle.std.proofs.lemmas.Bool.{false≢true}
 use Rattle.gg_base.proofs.Facts.{all_get}
 use Rattle.tree_core.specs.declared.token.Tok.TheVariants as tok
 use Rattle.tree_core.specs.declared.tree.Att.{Att}
@@ -50,7 +51,7 @@ use Rattle.sel_parse_selected.specs.Spills.{Where, holds_register, due}
 use Rattle.sel_parse_selected.specs.Reductions.{reloaded_by, reloaded_at, reloaded, with_scratch, given_by, reduced}
 use Rattle.sel_parse_selected.specs.Selected.{Kept, kept_of, shifted, reduced_by, selecting}
 use Rattle.sel_parse_stands.specs.Stands as stands
-use Rattle.sel_parse_stands.specs.Stands.{NamedBy, Names, SymbolIs, Sees, IsFrame, Holds}
+use Rattle.sel_parse_stands.specs.Stands.{NamedBy, Names, SymbolIs, IsFrame, Holds}
 use Rattle.sel_parse_stands.specs.Lines.{LinesSave}
 use Rattle.sel_parse_stands.proofs.Loaded.{IsLoaded, AllLoaded}
 use Rattle.sel_parse_stands.proofs.Parting.{parted_at}
@@ -60,7 +61,7 @@ use Rattle.sel_parse_effect.specs.Standing.{OnlyTokens, Standing, Stands, Trappe
 use Rattle.sel_parse_effect.specs.Places.{StoresToPlaces}
 use Rattle.sel_parse_effect.proofs.Giving as giving
 use Rattle.sel_parse_effect.proofs.Reducing as red
-use Rattle.sel_parse_effect.proofs.Reducing.{bound, tops, Ready, Brought, brought, Taken, taken}
+use Rattle.sel_parse_effect.proofs.Reducing.{bound, tops, Ready, Brought, brought, taken}
 use Rattle.sel_parse_effect.proofs.Gives.{saves_alone, reduction_gives, reduction_traps}
 use Rattle.sel_parse_effect.proofs.Doing as doing
 use Rattle.sel_parse_effect.proofs.Growing.{reduction_grows, traps_still}
@@ -72,16 +73,10 @@ comes_same : {I S : Type 0} (m n : S) → ◌≡◌ {A = Course I S} (comes m) (
 comes_same m n e = ending_same m n (ap (λ (c : Course _ _). c.ending) e)
 
 not_reg : (k : Option Kind) → k ≡ Some kind.Nothing → is_reg k ≡ true → ⊥
-not_reg k e h = unlike (subst (λ w. is_reg w ≡ true) e h)
-  where
-    unlike : false ≡ true → ⊥
-    unlike g = cc
+not_reg k e h = false≢true (subst (λ w. is_reg w ≡ true) e h)
 
 not_shape : (classes : List Class) (right : List Sym) (k : Option Kind) (l : Line) → k ≡ Some kind.Nothing → shape_fits classes right k l.pieces ≡ true → ⊥
-not_shape classes right k l e h = unlike (subst (λ w. shape_fits classes right w l.pieces ≡ true) e h)
-  where
-    unlike : false ≡ true → ⊥
-    unlike g = cc
+not_shape classes right k l e h = false≢true (subst (λ w. shape_fits classes right w l.pieces ≡ true) e h)
 
 module _ {O I S F : Type 0} (of : Meaning O I S F) (law : IsLawful of) (stores : StoresToPlaces of) (q : TreeProgram) (valid : IsValid q) (can : of.can_write q) (d : Content) (first : ℕ)
     (f : Extent) (fs : List Extent) (t : State) (s : Sight) (m0 : S) (frame : IsFrame of q d first f fs t s m0) (lines : LinesSave of d) where

@@ -9,7 +9,7 @@ use Rattle.std.proofs.lemmas.Bool.Decides.{nat_tests}
 use Rattle.std.proofs.lemmas.Grind.{reverse_onto}
 use Rattle.std.proofs.lemmas.Nat.{ones-le}
 use Rattle.std.proofs.lemmas.Nat.Bits.{bit_at-suc, bit_at_lowest}
-use Rattle.std.proofs.lemmas.Bool.{eqb-true}
+use Rattle.std.proofs.lemmas.Bool.{eqb-true, true≢false}
 use Rattle.std.proofs.lemmas.Option.{none-some, same_Some}
 use Rattle.sel_target.specs.Symbols.{lowest, behind_one, first_that}
 use Rattle.sel_parse_selected.specs.Spills.{later_of, last_that}
@@ -172,18 +172,12 @@ pub made_free : (p b g s : Bool) → p ≡ true → b ≡ false → (g ≡ false
 made_free false b g s e f h = absurd (cc)
 made_free true true g s e f h = absurd (cc)
 made_free true false true s e f h = refl
-made_free true false false true e f h = absurd (let k = h refl in both k)
-  where
-    both : true ≡ false → ⊥
-    both k = cc
+made_free true false false true e f h = absurd (let k = h refl in true≢false k)
 made_free true false false false e f h = refl
 
 pub not_free : (p b g s : Bool) → (p && (not b && (g || not s))) ≡ false → b ≡ false → (g ≡ false → s ≡ false) → p ≡ false
 not_free false b g s e f h = refl
 not_free true true g s e f h = absurd (cc)
 not_free true false true s e f h = absurd (cc)
-not_free true false false true e f h = absurd (let k = h refl in both k)
-  where
-    both : true ≡ false → ⊥
-    both k = cc
+not_free true false false true e f h = absurd (let k = h refl in true≢false k)
 not_free true false false false e f h = absurd (cc)

@@ -1,6 +1,7 @@
 -- What a parse keeps is what its moves make.
-use Rattle.std.proofs.Common.{◌≡◌, ℕ, ◌==◌, List, [], ◌∷◌, Option, Some, None, IsSome, Bool, true, false, length, slice_get, refl, sym, ap, ◌∙◌, subst}
+use Rattle.std.proofs.Common.{◌≡◌, ℕ, ◌==◌, List, [], ◌∷◌, Option, Some, None, Bool, true, false, length, slice_get, refl, sym, ap, ◌∙◌}
 use Rattle.std.specs.Prelude.{if◌then◌else◌, option_and_then}
+use Rattle.std.proofs.lemmas.Bool.{true≢false}
 use Rattle.gg_base.proofs.Facts.{some_none}
 use Rattle.tree_core.specs.declared.tree.Leaf.{Leaf}
 use Rattle.tree_core.specs.declared.program.TreeProgram.{TreeProgram}
@@ -14,7 +15,7 @@ use Rattle.lr_check_parse.proofs.OneWay.{parse_one_way}
 use Rattle.sel_target.specs.Meaning.{Meaning}
 use Rattle.sel_parse_selected.specs.Desk.{Stack, Outcome, Full, Stuck, Done}
 use Rattle.sel_parse_selected.specs.Reductions.{reduced}
-use Rattle.sel_parse_selected.specs.Selected.{Kept, kept_of, shifted, reduced_by, reduced_at, selecting, start, made, Parsed, Selected, FrameFull}
+use Rattle.sel_parse_selected.specs.Selected.{Kept, kept_of, shifted, reduced_by, reduced_at, selecting, start, made}
 use Rattle.sel_parse_selected.specs.Claims.{IsFullBehind, HasOneCode, IsOneEnd, IsMade, IsFull}
 
 module _ {O I S F : Type 0} (of : Meaning O I S F) (q : TreeProgram) (d : Content) (first : ℕ) where
@@ -117,7 +118,4 @@ module _ {O I S F : Type 0} (of : Meaning O I S F) where
   pub is_one_end : IsOneEnd of
   is_one_end q d first w code most s f =
       let e = (parse_one_way (by_attributes (selecting of q d first)) d.rules (stmt_of d.classes) 0 [] w [] (start of q d first) _ _ _ _ s.parsed f.parsed).1 in
-      unlike (ap accepting e)
-    where
-      unlike : true ≡ false → ⊥
-      unlike h = cc
+      true≢false (ap accepting e)

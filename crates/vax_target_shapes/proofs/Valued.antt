@@ -1,6 +1,7 @@
 -- An operand that stands for a value reads it.
 use Rattle.std.proofs.Common.{◌≡◌, ℕ, ◌==◌, Bool, true, false, cond, Option, Some, None, Ok, Err, refl, sym, ap, subst, ◌∙◌, option_map}
 use Rattle.std.specs.Prelude.{IsSome}
+use Rattle.std.proofs.lemmas.Bool.{true≢false}
 use Rattle.gg_base.specs.declared.size.Size.{Size}
 use Rattle.gg_base.specs.declared.size.Size.TheVariants.{Byte, Word, Long}
 use Rattle.gg_base.specs.Arithmetic.{neg32}
@@ -192,9 +193,7 @@ module _ (c : Scene) (m : State) (h : Sees c None m) where
   sized_is z size x t e whole = by (same_size z size) refl e where
     by : (b : Bool) → same_size z size ≡ b → cond b x taken_missized ≡ t → (z ≡ size) × (x ≡ t)
     by true same e = (equal_sizes z size same, e)
-    by false same e = absurd (missized (ap (λ (y : Taken). y.missized) e ∙ whole)) where
-      missized : true ≡ false → ⊥
-      missized q = cc
+    by false same e = absurd (true≢false (ap (λ (y : Taken). y.missized) e ∙ whole))
 
   own_none : (x : Own) (t : Taken) (size : Size) → (own_value x None >>= cut_term size) ≡ Ok t → ⊥
   own_none own.Nothing t size e = err_ok _ t e

@@ -5,7 +5,7 @@ use Rattle.std.specs.Prelude.{nat_le, codes}
 use Rattle.std.specs.Fmt.{decimal}
 use Rattle.std.specs.List.{AllByRecursion, list_any, list_all}
 use Rattle.std.proofs.lemmas.Bool.Decides.{nat_tests}
-use Rattle.std.proofs.lemmas.Bool.{le-leb, and_from}
+use Rattle.std.proofs.lemmas.Bool.{le-leb, and_from, false≢true}
 use Rattle.std.proofs.lemmas.Fmt.{decimal_by_steps, length-decimal-le}
 use Rattle.std.proofs.lemmas.List.Folds.{list_all-append}
 use Rattle.std.proofs.lemmas.Option.{none-some, same_Some}
@@ -293,8 +293,6 @@ pub spill_names : (q : TreeProgram) (hs : List (Attr Operand)) (ps : List Piece)
 spill_names q hs ps e =
     let fit = pieces_of_line true (grammar_symbol.Class 0 ∷ []) ps e in
     record {
-      label = λ named. absurd (untrue (label_allowed true (grammar_symbol.Class 0 ∷ []) ps fit named));
-      callee = λ named. absurd (untrue (callee_allowed true (grammar_symbol.Class 0 ∷ []) ps fit named));
-    } where
-      untrue : false ≡ true → ⊥
-      untrue e = cc
+      label = λ named. absurd (false≢true (label_allowed true (grammar_symbol.Class 0 ∷ []) ps fit named));
+      callee = λ named. absurd (false≢true (callee_allowed true (grammar_symbol.Class 0 ∷ []) ps fit named));
+    }
