@@ -1,6 +1,7 @@
 -- How a place that was found begins, by its origin.
 use Rattle.std.proofs.Common.{◌≡◌, ℕ, List, [], ◌∷◌, Some, slice_get, ap, sym, ◌∙◌, subst}
 use Rattle.std.proofs.lemmas.Option.{same_Some}
+use Rattle.gg_base.proofs.Facts.{cons_nil}
 use Rattle.tree_core.specs.declared.token.Tok.TheVariants as tok
 use Rattle.tree_core.specs.declared.token.Sort.{Sort}
 use Rattle.tree_core.specs.declared.token.Sort.TheVariants as sort
@@ -57,10 +58,7 @@ module _ {A : Automaton} {f : FoundView} {x : Place} where
   begun_first (first {i = j} {p = p} {y = z} {w = w} {v = v} m there h g may) i y e at =
       let same : j ≡ i = cc in
       let place : z ≡ y = same_Some z y (sym there ∙ (ap (slice_get f.places) same ∙ at)) in
-      subst (BegunFirst A x) place (record { sort = w; others = v ∷ []; state = p; go = h.go; kid = h.kid; at = g.state; may = g.may; behind = λ n. absurd (some n) })
-    where
-      some : v ∷ [] ≡ [] → ⊥
-      some n = cc
+      subst (BegunFirst A x) place (record { sort = w; others = v ∷ []; state = p; go = h.go; kid = h.kid; at = g.state; may = g.may; behind = λ n. absurd (cons_nil v [] n) })
   begun_first (second there h sum fit g) i y e at = absurd (cc)
 
   pub begun_second : {o : Origin} → Begun A f x o → (i n : ℕ) (y : Place) → o ≡ origin.Second i n → IsPlaceAt f i y → BegunSecond A f n x y

@@ -1,6 +1,7 @@
 -- The parse of the tree round a place comes to the place, with a stack that answers no to all.
 use Rattle.std.proofs.Common.{◌≡◌, ℕ, zero, suc, List, [], ◌∷◌, ◌++◌, Some, Bool, false, refl, ap, sym, ◌∙◌, subst, append_assoc, append-nil}
 use Rattle.std.proofs.lemmas.Option.{same_Some}
+use Rattle.gg_base.proofs.Facts.{tail_same}
 use Rattle.tree_core.specs.declared.token.Tok.{Tok}
 use Rattle.tree_core.specs.declared.token.Sort.{Sort}
 use Rattle.md_reader.specs.declared.types.Sym.{Sym}
@@ -148,10 +149,7 @@ module _ (t : TableView) (m : MeetsLaws t) (f : FoundView) (found : IsFound (aut
   reaches {n = n} (at_only {i = i} {y = y} {before = before} {behind = behind} is there kid c) x at =
       let g : BegunFirst (automaton_of t) x y = begun_first (begun_so (automaton_of t) f found n x (origin.First i) at is) i y refl there in
       let r : Reaches (automaton_of t) y before behind = reaches c y there in
-      below_first (automaton_of t) (table t m) x y before behind [] r g (r.next ∙ ap Some (sym (g.behind (tail _ _ _ _ (sym g.kid ∙ kid)))))
-    where
-      tail : (a b : Sort) (u v : List Sort) → a ∷ u ≡ b ∷ v → u ≡ v
-      tail a b u v e = cc
+      below_first (automaton_of t) (table t m) x y before behind [] r g (r.next ∙ ap Some (sym (g.behind (tail_same _ _ _ _ (sym g.kid ∙ kid)))))
   reaches {n = n} (at_first {i = i} {y = y} {z = z} {before = before} {behind = behind} {us = us} is there kid there' begins c) x at =
       let g : BegunFirst (automaton_of t) x y = begun_first (begun_so (automaton_of t) f found n x (origin.First i) at is) i y refl there in
       let r : Reaches (automaton_of t) y before behind = reaches c y there in

@@ -1,6 +1,7 @@
 -- With any answers the parse follows free choices, so it ends where all free choices do.
 use Rattle.std.proofs.Common.{◌≡◌, ℕ, List, [], ◌∷◌, Some, None, Bool, true, false, drop, map, refl, ap, sym, ◌∙◌, inl, inr, subst, ap₂}
 use Rattle.std.proofs.lemmas.List.{drop-map}
+use Rattle.gg_base.proofs.Facts.{nil_cons, head_same}
 use Rattle.tree_core.specs.declared.token.Tok.{Tok}
 use Rattle.tree_core.specs.declared.token.Tok.TheVariants as tok
 use Rattle.tree_core.specs.declared.token.Sort.{Sort}
@@ -67,14 +68,8 @@ module _ (A : Automaton) where
   ends_accepts accepts b v e g = at_accept b v e g
     where
       at_accept : (b : List Entry) (v : List Leaf) → symbols b ≡ grammar_symbol.Class A.stmt ∷ [] → tokens v ≡ tok.End ∷ [] → Accepts A b v
-      at_accept b [] e g = absurd (unlike g)
-        where
-          unlike : [] ≡ tok.End ∷ [] → ⊥
-          unlike g = cc
-      at_accept b (f ∷ []) e g = accept e (headed g)
-        where
-          headed : f.tok ∷ [] ≡ tok.End ∷ [] → f.tok ≡ tok.End
-          headed g = cc
+      at_accept b [] e g = absurd (nil_cons tok.End [] g)
+      at_accept b (f ∷ []) e g = accept e (head_same f.tok tok.End [] [] g)
       at_accept b (f ∷ d ∷ v) e g = absurd (unlike g)
         where
           unlike : f.tok ∷ d.tok ∷ tokens v ≡ tok.End ∷ [] → ⊥
@@ -84,10 +79,7 @@ module _ (A : Automaton) where
     where
       in_front : ((c : Candidate) → Free (A.candidates p t) c → (b' : List Entry) (v' : List Leaf) → symbols b' ≡ stack_after c t a → tokens v' ≡ rest_after c t w → Accepts A b' v') →
           (v : List Leaf) → tokens v ≡ t ∷ w → Accepts A b v
-      in_front ih [] g = absurd (unlike g)
-        where
-          unlike : [] ≡ t ∷ w → ⊥
-          unlike g = cc
+      in_front ih [] g = absurd (nil_cons t w g)
       in_front ih (f ∷ u) g =
           let st : f.tok ≡ t = cc in
           let sw : tokens u ≡ w = cc in

@@ -2,7 +2,7 @@
 use Rattle.std.proofs.Common.{◌≡◌, ◌⊎◌, ℕ, suc, ◌+◌, ◌-◌, ◌≤◌, ◌<◌, List, [], ◌∷◌, ◌++◌, Some, Bool, false, Contains, length, map, take, drop, refl, ap, ap₂, sym, ◌∙◌, inl}
 use Rattle.std.proofs.Common.{inr, ⊎_elim, subst, arith, append_assoc, length-append, drop_at, length-drop, length-take, take-append-drop, suc-add, zero-add}
 use Rattle.std.proofs.lemmas.Bool.{cases_lt, cases_eq}
-use Rattle.std.proofs.lemmas.List.{take-append-le}
+use Rattle.std.proofs.lemmas.List.{take-append-le, nil_from_length}
 use Rattle.std.proofs.lemmas.Option.{slice_get-get_or, none-some}
 use Rattle.tree_core.specs.declared.token.Tok.{Tok}
 use Rattle.tree_core.specs.declared.token.Sort.{Sort}
@@ -184,13 +184,9 @@ module _ (G : List Production) (A : Automaton) (no_end : HasNoEnd G) (no_empty :
           let same : d.tok ≡ t = cc in
           reduces at (subst (λ m. pick (A.candidates p m) u ≡ record { taken = Some (reduce r); stack = y }) (sym same) pk)
 
-      nothing : (l : List Sym) → length l ≡ 0 → l ≡ []
-      nothing [] e = refl
-      nothing (X ∷ l) e = absurd (omega arith)
-
       result : (b : List Bool) (z : List Entry) → held_reduced r (hold s b ++ z) ≡ hold (reduced r s) b ++ z
       result b z =
-          let none : drop (size_of r) s ≡ [] = nothing (drop (size_of r) s) (omega (arith, length-drop (size_of r) s)) in
+          let none : drop (size_of r) s ≡ [] = nil_from_length (drop (size_of r) s) (omega (arith, length-drop (size_of r) s)) in
           ap₂ (λ u v. record { symbol = grammar_symbol.Class r.left; answers = u } ∷ v) (owner-hold r.right s b z size (omega (arith, tree_some s tree)))
           (drop_at (hold s b) z (size_of r) (length-hold s b ∙ sym size))
           ∙ sym (ap (λ l. hold (grammar_symbol.Class r.left ∷ l) b ++ z) none)

@@ -1,6 +1,7 @@
 -- The main direction again: a kid's continuation is also told that the reductions inside its list end.
 use Rattle.std.proofs.Common.{◌≡◌, ℕ, ◌≤◌, ◌<◌, List, [], ◌∷◌, ◌++◌, Some, length, refl, ap, sym, ◌∙◌, ⊎_elim, subst, arith, append_assoc, length-drop}
 use Rattle.std.proofs.lemmas.Bool.{cases_lt}
+use Rattle.gg_base.proofs.Facts.{cons_nil}
 use Rattle.tree_core.specs.declared.token.Tok.{Tok}
 use Rattle.tree_core.specs.declared.token.Tok.TheVariants as tok
 use Rattle.tree_core.specs.declared.token.Sort.{Sort}
@@ -28,10 +29,7 @@ sum_walk (sum {p = p} c h e f o) = (p, e)
 -- without trees to come the next token is the one behind
 no_more : {xs : List Sort} (vs : Trees xs) → xs ≡ [] → (t : Tok) (w : List Tok) → (first vs t ≡ t) × (onto_all vs w ≡ w)
 no_more no_trees e t w = (refl, refl)
-no_more (more_trees {x = x} {xs = xs} v vs) e t w = absurd (unlike e)
-  where
-    unlike : x ∷ xs ≡ [] → ⊥
-    unlike e = cc
+no_more (more_trees {x = x} {xs = xs} v vs) e t w = absurd (cons_nil x xs e)
 
 module _ (G : List Production) (A : Automaton) (no_end : HasNoEnd G) (no_empty : HasNoEmpty G) (trees : HasTrees G) (exact : IsAutomatonOf G A) (fine : NoFault A) where
   table : IsTable A

@@ -1,6 +1,7 @@
 -- The order of items in kernels, by which equal sets are equal lists.
 use Rattle.std.proofs.Common.{◌≡◌, ◌⊎◌, ℕ, ◌+◌, ◌≤◌, ◌<◌, List, [], ◌∷◌, ◌++◌, Option, Some, None, Bool, true, false, cond, map, filter, get_or, refl, sym, ap}
 use Rattle.std.proofs.Common.{◌∙◌, subst, inl, inr, ⊎_elim, arith}
+use Rattle.gg_base.proofs.Facts.{some_none}
 use Rattle.md_reader.specs.declared.types.Rule.{Rule}
 use Rattle.md_reader.specs.declared.types.Sym.{Sym}
 use Rattle.lr_tables.specs.declared.item.Item.{Item}
@@ -175,8 +176,5 @@ set_kernel rules stmt classes k i at h =
     (λ x. let o : Opened 0 i = opened_is rules (open_classes rules stmt classes (chains rules) k) 0 i x in absurd (never o.place o.is h))
     (In-cases i k (opened_from 0 rules (open_classes rules stmt classes (chains rules) k)) at)
   where
-    unlike : (n : ℕ) → Some n ≡ None → ⊥
-    unlike n e = cc
-
     never : (n : ℕ) → i ≡ fresh n → InKernel i → ⊥
-    never n e h = ⊎_elim (λ a. let d : i.dot ≡ 0 = ap (λ (x : Item). x.dot) e in omega (arith, a, d)) (λ s. unlike n (sym (ap (λ (x : Item). x.rule) e) ∙ ap (λ (x : Item). x.rule) s)) h
+    never n e h = ⊎_elim (λ a. let d : i.dot ≡ 0 = ap (λ (x : Item). x.dot) e in omega (arith, a, d)) (λ s. some_none n (sym (ap (λ (x : Item). x.rule) e) ∙ ap (λ (x : Item). x.rule) s)) h

@@ -3,6 +3,7 @@ use Rattle.std.proofs.Common.{◌≡◌, ◌⊎◌, inl, inr, ℕ, ◌+◌, ◌-
 use Rattle.std.specs.Prelude.{nat_lt, if◌then◌else◌}
 use Rattle.std.proofs.lemmas.Bool.{lt-ltb}
 use Rattle.std.proofs.lemmas.List.{length-replicate}
+use Rattle.gg_base.proofs.Facts.{true_or_false}
 use Rattle.md_reader.specs.declared.types.Rule.{Rule}
 use Rattle.md_reader.specs.declared.types.Sym.{Sym}
 use Rattle.md_reader.specs.declared.types.Sym.TheVariants as grammar_symbol
@@ -35,10 +36,6 @@ module _ {L X : Type 0} (of : Answering L X) (rules : List Rule) (stmt classes :
   within : n < length seen
   within = let s = marks.size in omega (arith, s, declared)
 
-  both_ways : (b : Bool) → b ≡ true → b ≡ false → ⊥
-  both_ways true e f = cc
-  both_ways false e f = cc
-
   again_unit : Again 1
   again_unit f = marks.seen_is.there n f
 
@@ -49,7 +46,7 @@ module _ {L X : Type 0} (of : Answering L X) (rules : List Rule) (stmt classes :
       let d = length-drop 1 a some in
       record {
         marked = record { seen_is = seen_unit seen a (a ∷ before) n marks.seen_is (omega (arith, some)) within; size = size ∙ marks.size };
-        new = λ h. both_ways (get_or seen n false) (marks.seen_is.back n h) f;
+        new = λ h. true_or_false (get_or seen n false) (marks.seen_is.back n h) f;
         falls = λ w. subst (λ j. left w (length (drop 1 a) + 1) next + 1 ≤ left w j seen) d (unit_falls w (length (drop 1 a)) seen next size (mark_count seen n within f));
       }
 

@@ -5,6 +5,7 @@ use Rattle.std.specs.List.{AllByRecursion as All}
 use Rattle.std.specs.Int.{bit_at}
 use Rattle.std.proofs.lemmas.Bool.Decides.{nat_tests}
 use Rattle.std.proofs.lemmas.Nat.Bits.{bit_at-pow_same, bit_at-pow_other}
+use Rattle.gg_base.proofs.Facts.{true_or_false}
 use Rattle.tree_core.specs.declared.token.Tok.{Tok}
 use Rattle.tree_core.specs.declared.token.Tok.TheVariants as tok
 use Rattle.tree_core.specs.declared.tree.Att.{Att}
@@ -49,11 +50,8 @@ module _ {O I S F : Type 0} (of : Meaning O I S F) (law : IsLawful of) (q : Tree
   -- ---- a register alone
 
   not_equal : (r v : ℕ) → (r == v) ≡ false → v ≡ r → ⊥
-  not_equal r v e f = both_not (r == v) (is v f) e
+  not_equal r v e f = true_or_false (r == v) (is v f) e
     where
-      both_not : (b : Bool) → b ≡ true → b ≡ false → ⊥
-      both_not b e f = cc
-
       is : (v : ℕ) → v ≡ r → (r == v) ≡ true
       is v f = grind (arith, nat_tests)
 

@@ -4,7 +4,7 @@ use Rattle.std.specs.Prelude.{drop, slice_get}
 use Rattle.std.proofs.lemmas.List.{length-append, length-map}
 use Rattle.std.specs.List.{AllByRecursion as All}
 use Rattle.std.proofs.lemmas.Option.{same_Some, none-some}
-use Rattle.gg_base.proofs.Facts.{all_get}
+use Rattle.gg_base.proofs.Facts.{all_get, nil_cons}
 use Rattle.tree_core.specs.declared.tree.Leaf.{Leaf}
 use Rattle.tree_core.specs.declared.token.Tok.{Tok}
 use Rattle.tree_core.specs.declared.program.TreeProgram.{TreeProgram}
@@ -117,12 +117,9 @@ module _ {O I S F : Type 0} (of : Meaning O I S F) (law : IsLawful of) (q : Tree
   iterate (parse.refuses r h c there red) b = tt
   iterate (parse.blocks h c) b = tt
 
-  no_start : [] ≡ grammar_symbol.Class (stmt_of d.classes) ∷ [] → ⊥
-  no_start e = cc
-
   pub has_code : (w : List Leaf) (log : List (Move Leaf)) (x : Stack O I)
       → Parses (by_attributes (selecting of q d first)) d.rules (stmt_of d.classes) 0 [] w [] (start of q d first) log (Accepts (Some x)) → IsLong x
-  has_code w log x p = iterate p (λ e. absurd (no_start e))
+  has_code w log x p = iterate p (λ e. absurd (nil_cons (grammar_symbol.Class (stmt_of d.classes)) [] e))
 
 pub statements_have_code : {O I S F : Type 0} (of : Meaning O I S F) → IsLawful of → StatementsHaveCode of
 statements_have_code of law q d first w code most valid taken s =

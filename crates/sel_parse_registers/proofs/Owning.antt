@@ -1,11 +1,12 @@
 -- Each register is held by one entry at most, and a register that is due can be had.
 use Rattle.std.proofs.Common.{◌≡◌, ℕ, zero, suc, ◌+◌, ◌-◌, ◌<◌, ◌≤◌, ◌==◌, List, [], ◌∷◌, slice_get, Option, Some, None, Bool, true, false, refl, sym, ap, ◌∙◌, subst, arith}
-use Rattle.std.specs.Prelude.{slice_set, is_some, count_ones, ◌||◌, if◌then◌else◌}
+use Rattle.std.specs.Prelude.{slice_set, is_some, count_ones, if◌then◌else◌}
 use Rattle.std.specs.List.{AllByRecursion as All}
 use Rattle.std.specs.Int.{bit_at}
 use Rattle.std.proofs.lemmas.Nat.Bits.{bit_at-pow_other}
 use Rattle.std.proofs.lemmas.Option.{none-some}
-use Rattle.gg_base.proofs.Facts.{not_some}
+use Rattle.std.proofs.lemmas.Bool.{or_from}
+use Rattle.gg_base.proofs.Facts.{not_some, true_or_false}
 use Rattle.tree_core.specs.declared.token.Tok.{Tok}
 use Rattle.tree_core.specs.declared.token.Tok.TheVariants as tok
 use Rattle.tree_core.specs.declared.tree.Att.{Att}
@@ -148,12 +149,8 @@ module _ {O I S F : Type 0} (of : Meaning O I S F) (law : IsLawful of) (q : Tree
   -- no entry of these holds the register
   none_hold : (es : List (Entry O)) (r : ℕ) → r < 12 → All (λ (e : Entry O). holds_register of e ≡ false) es → held of es (RegAt r) ≡ false
   none_hold [] r lt h = refl
-  none_hold (e ∷ es) r lt h = both (attr_touches of e.attr (RegAt r)) (held of es (RegAt r)) one (none_hold es r lt h.1)
+  none_hold (e ∷ es) r lt h = or_from (attr_touches of e.attr (RegAt r)) (held of es (RegAt r)) one (none_hold es r lt h.1)
     where
-      both : (a b : Bool) → a ≡ false → b ≡ false → (a || b) ≡ false
-      both true b e f = absurd (cc)
-      both false b e f = f
-
       one : attr_touches of e.attr (RegAt r) ≡ false
       one = lowest_none (λ v. attr_touches of e.attr (RegAt v)) 0 12 r (not_some (lowest (λ v. attr_touches of e.attr (RegAt v)) 0 12) h.0) (omega arith) lt
 
@@ -406,10 +403,7 @@ module _ {O I S F : Type 0} (of : Meaning O I S F) (law : IsLawful of) (q : Tree
       where
         got : (y : Desk O I) → IsFreed given y → (o : Option ℕ) → free_register of d given y ≡ o → Had (IsGot given) (with_free of q d first y o)
         got y k None at =
-            absurd (both (is_free_register of d given y k.register) k.free (lowest_none (is_free_register of d given y) 0 12 k.register at (omega arith) (let lt = k.small in omega (arith, lt))))
-          where
-            both : (b : Bool) → b ≡ true → b ≡ false → ⊥
-            both b e f = cc
+            absurd (true_or_false (is_free_register of d given y k.register) k.free (lowest_none (is_free_register of d given y) 0 12 k.register at (omega arith) (let lt = k.small in omega (arith, lt))))
         got y k (Some r) at =
             let g = lowest_found (is_free_register of d given y) 0 12 r at in
             let lt = g.below in

@@ -3,6 +3,7 @@ use Rattle.std.proofs.Common.{◌≡◌, ℕ, zero, suc, ◌+◌, ◌<◌, ◌�
 use Rattle.std.specs.Prelude.{slice_set, count_ones, Ok}
 use Rattle.std.specs.List.{list_any}
 use Rattle.std.proofs.lemmas.Bool.Decides.{nat_tests}
+use Rattle.gg_base.proofs.Facts.{true_or_false}
 use Rattle.tree_core.specs.declared.program.TreeProgram.{TreeProgram}
 use Rattle.md_reader_pieces.specs.declared.piece.Line.{Line}
 use Rattle.md_reader.specs.declared.types.Kind.{Kind}
@@ -61,11 +62,8 @@ module _ {O I S F : Type 0} (of : Meaning O I S F) (law : IsLawful of) (q : Tree
     alone r false e = (let a = ap tick (register_other of law q d first v r lt (λ g. apart g)) in omega (arith, a))
       where
         apart : r ≡ v → ⊥
-        apart g = both (r == v) (same g) e
+        apart g = true_or_false (r == v) (same g) e
           where
-            both : (b : Bool) → b ≡ true → b ≡ false → ⊥
-            both b e f = cc
-
             same : r ≡ v → (r == v) ≡ true
             same g = grind (arith, nat_tests)
 

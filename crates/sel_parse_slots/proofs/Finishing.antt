@@ -8,6 +8,7 @@ use Rattle.std.proofs.lemmas.Nat.Bits.{bit_at-pow_other}
 use Rattle.std.proofs.lemmas.Option.{same_Some, none-some}
 use Rattle.sel_parse_moves.proofs.Performs.{fits_stmt}
 use Rattle.gg_base.specs.declared.size.Size.TheVariants.{Byte, Word, Long}
+use Rattle.gg_base.proofs.Facts.{true_or_false}
 use Rattle.tree_core.specs.declared.token.Tok.{Tok}
 use Rattle.tree_core.specs.declared.token.Sort.{Sort}
 use Rattle.tree_core.specs.declared.token.Sort.TheVariants as sort
@@ -135,11 +136,8 @@ module _ {O I S F : Type 0} (of : Meaning O I S F) (law : IsLawful of) (q : Tree
       omega (arith, a, b)
     where
       other : (v : ℕ) → (r == v) ≡ false → v ≡ r → ⊥
-      other v e f = both_not (r == v) (is v f) e
+      other v e f = true_or_false (r == v) (is v f) e
         where
-          both_not : (b : Bool) → b ≡ true → b ≡ false → ⊥
-          both_not b e f = cc
-
           is : (v : ℕ) → v ≡ r → (r == v) ≡ true
           is v f = grind (arith, Rattle.std.proofs.lemmas.Bool.Decides.nat_tests)
 

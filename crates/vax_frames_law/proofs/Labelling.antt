@@ -4,18 +4,14 @@ use Rattle.std.specs.Prelude.{◌||◌}
 use Rattle.std.specs.Str.{bytes_eq}
 use Rattle.std.proofs.lemmas.Bool.{true≢false}
 use Rattle.std.proofs.lemmas.Slice.Eq.{bytes_eq-Decides}
-use Rattle.gg_base.proofs.Facts.{some_none}
+use Rattle.gg_base.proofs.Facts.{some_none, or_true}
 use Rattle.vax_core.specs.declared.code.CodeItem.{CodeItem}
 use Rattle.vax_core.specs.declared.code.CodeItem.TheVariants as item_kind
 use Rattle.vax_machine.specs.Labels.{is_service, is_label, has_label, label_place, double_label}
 
 has_there : (pre post : List CodeItem) (n : List ℕ) → has_label (pre ++ item_kind.Label n ∷ post) n ≡ true
 has_there [] post n = ap (λ (b : Bool). b || has_label post n) ((bytes_eq-Decides n n).1 refl)
-has_there (x ∷ pre) post n = ap (λ (b : Bool). is_label x n || b) (has_there pre post n) ∙ by (is_label x n)
-  where
-    by : (b : Bool) → (b || true) ≡ true
-    by true = refl
-    by false = refl
+has_there (x ∷ pre) post n = ap (λ (b : Bool). is_label x n || b) (has_there pre post n) ∙ or_true (is_label x n)
 
 not_double : (x : CodeItem) (pre post : List CodeItem) (n : List ℕ) → double_label (x ∷ (pre ++ item_kind.Label n ∷ post)) ≡ None
     → (is_label x n ≡ false) × (double_label (pre ++ item_kind.Label n ∷ post) ≡ None)

@@ -1,17 +1,16 @@
 -- A line does what it is judged to do.
-use Rattle.std.proofs.Common.{◌≡◌, ℕ, zero, suc, ◌+◌, ◌-◌, ◌*◌, ◌%◌, ◌^◌, ◌<◌, ◌≤◌, ◌==◌, ◌⊎◌, inl, inr, ◌++◌, Bool, true, false, cond, List, [], ◌∷◌, length, map, take, Option}
+use Rattle.std.proofs.Common.{◌≡◌, ℕ, zero, suc, ◌-◌, ◌<◌, ◌==◌, inl, inr, Bool, true, false, cond, List, [], ◌∷◌, map, take, Option}
 use Rattle.std.proofs.Common.{Some, None, Result, Ok, Err, refl, sym, ap, subst, ◌∙◌, arith}
 use Rattle.std.specs.Prelude.{not, ◌||◌, ◌&&◌, nat_lt, is_some}
 use Rattle.std.specs.List.{AllByRecursion, list_any}
 use Rattle.std.proofs.lemmas.Bool.{eqb-true}
 use Rattle.gg_base.specs.declared.size.Size.{Size}
-use Rattle.gg_base.specs.declared.size.Size.TheVariants.{Byte, Word, Long}
-use Rattle.gg_base.proofs.Facts.{err_ok, ok_same}
+use Rattle.gg_base.specs.declared.size.Size.TheVariants.{Long}
+use Rattle.gg_base.proofs.Facts.{err_ok, ok_same, second_false, second_true, first_true, first_false}
 use Rattle.md_reader_pieces.specs.declared.piece.Piece.{Piece}
 use Rattle.term_core.specs.Shape.{Shape, Constant, Symbol, LastResult, Memory, Unary, Binary}
 use Rattle.sel_terms.specs.Effects.{ActShape}
 use Rattle.sel_terms.specs.Effects as act
-use Rattle.sel_target.specs.declared.fault.TemplateKind.{TemplateKind}
 use Rattle.sel_target.specs.declared.fault.TemplateKind.TheVariants.{NotInstr, WrongSize, Order}
 use Rattle.sel_target.specs.declared.attr.Attr.TheVariants as attr
 use Rattle.vax_core.specs.declared.register.Reg.{Reg}
@@ -33,7 +32,7 @@ use Rattle.vax_machine.specs.declared.operands.Location.{Location}
 use Rattle.vax_machine.specs.declared.operands.Location.TheVariants as locations
 use Rattle.vax_machine.specs.declared.operands.Destination.{Destination}
 use Rattle.vax_machine.specs.declared.operands.Arguments.{Arguments as Numbers}
-use Rattle.vax_machine.specs.State.{State, reg, with_reg, with_conditions, stack_full}
+use Rattle.vax_machine.specs.State.{State, with_reg, with_conditions, stack_full}
 use Rattle.vax_machine.specs.State as state
 use Rattle.vax_machine.specs.Memory.{register_set}
 use Rattle.vax_machine.specs.Functions.{action_of, applied}
@@ -48,26 +47,26 @@ use Rattle.vax_templates.specs.Instructions.{Instruction, Relation, Jump, Calls,
 use Rattle.vax_templates.specs.Standing.{◌>>=◌}
 use Rattle.vax_templates.specs.Targets.{Target, ToOwn, ToSlot, ToHome, ToMemory, ToZero, ToSaved}
 use Rattle.vax_templates.specs.Taking.{Arguments, all_evaluated, evaluated, Taken, in_front, last_of}
-use Rattle.vax_templates.specs.Giving.{Given, Computes, Divides, Compares, Tests, given, extended}
+use Rattle.vax_templates.specs.Giving.{Given, Computes, Divides, Compares, Tests, given}
 use Rattle.vax_templates.specs.Deeds.{Last, Plain, Compared, Tested, Returning, Ended, Deed, leaves, ends_statement}
 use Rattle.vax_templates.specs.Deeds.{is_relation, branches, is_movl, is_last_result, puts, put, divided, computed}
 use Rattle.vax_templates.specs.Deeds.{acted}
-use Rattle.vax_templates.specs.Judging.{is_operand, spells_symbol, has_some, is_disordered, in_order, with_reads}
+use Rattle.vax_templates.specs.Judging.{spells_symbol, has_some, is_disordered, in_order, with_reads}
 use Rattle.vax_templates.specs.Judging.{checked, operated, instruction_did, returned, did_behind, line_did}
 use Rattle.vax_templates.specs.Deeds as deeds
 use Rattle.vax_templates.specs.Judging as judging
 use Rattle.vax_templates.specs.Settings.{hole_at}
 use Rattle.vax_templates.specs.Filled.{numbered, register_in, operand_in, filled}
-use Rattle.vax_templates.specs.FilledLines.{op_in, branch_to, call_of, callee_among, filled_instruction, filled_line, plain_return}
+use Rattle.vax_templates.specs.FilledLines.{filled_instruction, filled_line, plain_return}
 use Rattle.vax_target_operands.specs.Scenes.{Scene, worth, filling_at, is_lost, OwnIs, IsOwnRegister, Sees}
-use Rattle.vax_target_operands.specs.Places.{StandsAt, IsHome, MayBeRead, BaseIsShort}
-use Rattle.vax_target_operands.specs.Conditions.{Gets, Quotient, IsGiven, IsNarrow, AreNarrow}
+use Rattle.vax_target_operands.specs.Places.{StandsAt, IsHome}
+use Rattle.vax_target_operands.specs.Conditions.{IsGiven, AreNarrow}
 use Rattle.vax_target_operands.specs.Conditions as codes
-use Rattle.vax_target_operands.proofs.Binds.{Chained, chained, cond_ok}
+use Rattle.vax_target_operands.proofs.Binds.{chained, cond_ok}
 use Rattle.vax_target_operands.proofs.Tables.{functions_mean}
-use Rattle.vax_target_lines.specs.Takings.{IsTarget, IsDestination, AreRead, CanAim, AreOfSize, AtSize, last_size, AreArguments, aims, LastIsWritten, MayStand, Takes}
-use Rattle.vax_target_lines.specs.Lines.{CodesMean, ZeroHolds, IsStored, putting, Puts, IsMet, DoesDeed, with_own, with_last, MayEnd, GoesOn, DoesLine, EndIsRead, NoneIsZero, LinesDo, LinesTrap}
-use Rattle.vax_target_lines.proofs.Rows.{Suits, IsRow, row_of}
+use Rattle.vax_target_lines.specs.Takings.{IsDestination, AreRead, CanAim, AreOfSize, AtSize, last_size, AreArguments, aims, MayStand, Takes}
+use Rattle.vax_target_lines.specs.Lines.{CodesMean, ZeroHolds, putting, DoesDeed, MayEnd, DoesLine, EndIsRead, NoneIsZero, LinesDo, LinesTrap}
+use Rattle.vax_target_lines.proofs.Rows.{Suits, row_of}
 use Rattle.vax_target_lines.proofs.Short.{AreShort, IsShortLine, instruction_short}
 use Rattle.vax_target_lines.proofs.Takings.{own_place, all_taken, evaluated_plain}
 
@@ -174,14 +173,6 @@ module _ (c : Scene) (held : Option Shape) (m : State) (h : Sees c held m) where
         last_may = aim.1;
       })
   put_did op (Some (ToSaved i)) (Some x) t v k d size e is aim at long = by (is_movl op && is_last_result t) refl e where
-    left : (a b : Bool) → (a && b) ≡ true → a ≡ true
-    left true b e = refl
-    left false b e = cc
-
-    right : (a b : Bool) → (a && b) ≡ true → b ≡ true
-    right true b e = e
-    right false b e = cc
-
     last_is : (t : Shape) → is_last_result t ≡ true → t ≡ LastResult
     last_is (Constant n) e = cc
     last_is (Symbol j) e = cc
@@ -193,14 +184,14 @@ module _ (c : Scene) (held : Option Shape) (m : State) (h : Sees c held m) where
     by : (b : Bool) → (is_movl op && is_last_result t) ≡ b → cond b (deeds.ends (act.Save i)) (Err NotInstr) ≡ Ok d → Did d (storing (Some x) v k)
     by false q e = absurd (err_ok _ d e)
     by true q e =
-        let size_is = at ∙ long (left (is_movl op) (is_last_result t) q) in
+        let size_is = at ∙ long (first_true (is_movl op) (is_last_result t) q) in
         ended (act.Save i) d (storing (Some x) v k) (inl aim.2)
         (record {
           place = x.location;
           conditions = k;
           there = (subst (λ y. StandsAt m (operand_in c.program (filling_at c i)) y x.location) size_is aim.0, aim.1);
           is = stored_there x v k x.location Long refl size_is
-              ∙ ap (λ n. putting m x.location Long n k) (is ∙ ap (worth c) (last_is t (right (is_movl op) (is_last_result t) q)));
+              ∙ ap (λ n. putting m x.location Long n k) (is ∙ ap (worth c) (last_is t (second_true (is_movl op) (is_last_result t) q)));
         }) e
 
   -- ---- what is computed
@@ -388,26 +379,18 @@ module _ (c : Scene) (held : Option Shape) (m : State) (h : Sees c held m) where
     by false true is e = absurd (err_ok _ d e)
     by false false is e = (is, refl, ok_same u d e)
 
-  or_right : (a b : Bool) → (a || b) ≡ false → b ≡ false
-  or_right true b e = cc
-  or_right false b e = e
-
   spelled : (fs : List Form) → AreShort fs → (is_lost c held ≡ true → list_any (spells_symbol c.roles) fs ≡ false) → AllByRecursion (MayStand c held) fs
   spelled [] short may = tt
   spelled (f ∷ fs) short may = (
-    record { short = short.0; may = λ lost. or_left (spells_symbol c.roles f) (list_any (spells_symbol c.roles) fs) (may lost) },
-    spelled fs short.1 (λ lost. or_right (spells_symbol c.roles f) (list_any (spells_symbol c.roles) fs) (may lost)),
+    record { short = short.0; may = λ lost. first_false (spells_symbol c.roles f) (list_any (spells_symbol c.roles) fs) (may lost) },
+    spelled fs short.1 (λ lost. second_false (spells_symbol c.roles f) (list_any (spells_symbol c.roles) fs) (may lost)),
   )
-    where
-      or_left : (a b : Bool) → (a || b) ≡ false → a ≡ false
-      or_left true b e = cc
-      or_left false b e = refl
 
   may_spell : (fs : List Form) (held : Option Shape) (first : Bool) → (first || (c.setting.is_reused && is_some held && list_any (spells_symbol c.roles) fs)) ≡ false →
       is_lost c held ≡ true → list_any (spells_symbol c.roles) fs ≡ false
   may_spell fs None first e lost = cc
   may_spell fs (Some t) first e lost =
-      let r : (c.setting.is_reused && true && list_any (spells_symbol c.roles) fs) ≡ false = or_right first _ e in
+      let r : (c.setting.is_reused && true && list_any (spells_symbol c.roles) fs) ≡ false = second_false first _ e in
       subst (λ b. (b && true && list_any (spells_symbol c.roles) fs) ≡ false) lost r
 
   -- the operands are taken, and then the instruction acts

@@ -1,6 +1,7 @@
 -- A template divides at most once, and a statement has a line.
-use Rattle.std.proofs.Common.{◌≡◌, ℕ, suc, ◌≤◌, ◌&&◌, ◌||◌, Bool, true, false, cond, not, Option, Some, None, Result, Ok, Err, List, [], ◌∷◌, ◌++◌, length, refl, sym, ap, subst, ◌∙◌, arith}
+use Rattle.std.proofs.Common.{◌≡◌, ℕ, suc, ◌≤◌, ◌&&◌, Bool, true, false, cond, not, Option, Some, None, Result, Ok, Err, List, [], ◌∷◌, ◌++◌, length, refl, sym, ap, subst, ◌∙◌, arith}
 use Rattle.std.proofs.lemmas.Bool.{true≢false}
+use Rattle.gg_base.proofs.Facts.{first_false}
 use Rattle.md_reader_pieces.specs.declared.piece.Piece.{Piece}
 use Rattle.md_reader_pieces.specs.declared.piece.Line.{Line}
 use Rattle.md_reader.specs.declared.types.Kind.{Kind}
@@ -33,7 +34,7 @@ use Rattle.vax_templates.specs.Deeds.{computed, acted}
 use Rattle.vax_templates.specs.Judging.{has_some, is_disordered, with_reads, checked, operated, instruction_did}
 use Rattle.vax_templates.specs.Judging.{returned, did_behind, read, line_did}
 use Rattle.vax_templates.specs.Found as found_
-use Rattle.vax_templates.specs.Progress.{Progress, start, progressed, at_line, kept, judged, lines_judged}
+use Rattle.vax_templates.specs.Progress.{Progress, start, at_line, kept, judged, lines_judged}
 use Rattle.vax_templates.specs.GiveLines.{given_by, given_line, shape_read, shape_given}
 use Rattle.vax_templates.specs.Dropped.{first_dropped, none_dropped}
 use Rattle.vax_templates.specs.Found.{with_divisors, ended, template_found, found}
@@ -98,10 +99,6 @@ module _ (s : Setting) (holes : List Hole) (is_first : Bool) (zero' : Option Sha
   none_some [] e = refl
   none_some (d ∷ ds) e = absurd (true≢false e)
 
-  left_false : (a b : Bool) → (a || b) ≡ false → a ≡ false
-  left_false true b e = absurd (true≢false e)
-  left_false false b e = refl
-
   behind_first : (first : Bool) (ds : List Shape) → (not first && has_some ds) ≡ false → first ≡ false → ds ≡ []
   behind_first true ds e f = absurd (true≢false f)
   behind_first false ds e f = none_some ds e
@@ -110,7 +107,7 @@ module _ (s : Setting) (holes : List Hole) (is_first : Bool) (zero' : Option Sha
   ordered_so fs x d h =
       if_ok Ordered (with_reads x d).missized (Err WrongSize) (cond (is_disordered s holes is_first zero' fs d) (Err Order) (Ok (with_reads x d))) (λ e. tt)
       (λ e. if_ok Ordered (is_disordered s holes is_first zero' fs d) (Err Order) (Ok (with_reads x d)) (λ f. tt)
-      (λ f. record { once = h; never = behind_first is_first d.divisors (left_false (not is_first && has_some d.divisors) _ f) }))
+      (λ f. record { once = h; never = behind_first is_first d.divisors (first_false (not is_first && has_some d.divisors) _ f) }))
 
   operated_ordered : (op : Op) (fs : List Form) → EachOk Ordered (operated s holes is_first zero' op fs)
   unfolding operated

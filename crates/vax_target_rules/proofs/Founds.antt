@@ -1,8 +1,8 @@
 -- What it says of a template that it has an effect: how its lines were judged, and that what they read stands in the effect.
-use Rattle.std.proofs.Common.{◌≡◌, ℕ, ◌≤◌, ◌++◌, Bool, true, false, cond, List, [], ◌∷◌, length, Option, Some, None, Result, Ok, Err, refl, sym, ap, subst, ◌∙◌, arith}
-use Rattle.std.specs.Prelude.{◌||◌, ◌&&◌}
+use Rattle.std.proofs.Common.{◌≡◌, ℕ, ◌++◌, Bool, true, false, cond, List, [], ◌∷◌, Option, Some, None, Ok, refl, sym, subst}
+use Rattle.std.specs.Prelude.{◌||◌}
 use Rattle.std.specs.List.{AllByRecursion, list_any, list_all}
-use Rattle.gg_base.specs.declared.size.Size.{Size}
+use Rattle.std.proofs.lemmas.Bool.{and_parts}
 use Rattle.gg_base.proofs.Facts.{err_ok, ok_same}
 use Rattle.md_reader_pieces.specs.declared.piece.Line.{Line}
 use Rattle.md_reader.specs.declared.types.Kind.{Kind}
@@ -16,20 +16,16 @@ use Rattle.term_core.proofs.Alike.{term_same}
 use Rattle.sel_terms.specs.Effects.{ActShape, EffectShape}
 use Rattle.sel_terms.specs.Effects as act
 use Rattle.sel_terms_meaning.specs.Meaning.{terms_of_act}
-use Rattle.sel_target.specs.declared.fault.TemplateKind.{TemplateKind}
-use Rattle.sel_target.specs.Meaning.{Fault}
 use Rattle.sel_target.specs.Values.{View, IsReadWhere}
 use Rattle.sel_target.specs.EffectTerms.{terms_of}
 use Rattle.vax_templates.specs.declared.setting.Hole.{Hole}
 use Rattle.vax_templates.specs.declared.setting.Setting.{Setting}
 use Rattle.vax_templates.specs.Settings.{holes_of, setting_of}
-use Rattle.vax_templates.specs.Standing.{◌>>=◌}
-use Rattle.vax_templates.specs.Deeds.{Last}
 use Rattle.vax_templates.specs.Progress.{Progress, start, at_line, lines_judged}
 use Rattle.vax_templates.specs.GiveLines.{given_by, given_line}
 use Rattle.vax_templates.specs.Dropped.{contains, act_contains, effect_contains, first_dropped, none_dropped}
 use Rattle.vax_templates.specs.Found.{with_divisors, checked, ended, template_found, found}
-use Rattle.vax_target_operands.proofs.Binds.{Chained, chained}
+use Rattle.vax_target_operands.proofs.Binds.{chained}
 use Rattle.vax_target_runs.proofs.Law.{at_line_is}
 
 -- how a template was judged
@@ -123,14 +119,10 @@ module _ (every : Bool) (v : View) where
       either_true (act_contains e.act part) (list_any (contains part) e.divisors) (Safe part) is
       (λ x. act_contained e.act part x (front_safe (terms_of_act e.act) e.divisors h)) (λ x. any_contained e.divisors part x (back_safe (terms_of_act e.act) e.divisors h))
 
-  both : (a b : Bool) → (a && b) ≡ true → (a ≡ true) × (b ≡ true)
-  both true b e = (refl, e)
-  both false b e = cc
-
   all_contained : (e : EffectShape) (ts : List Shape) → list_all (effect_contains e) ts ≡ true → AllSafe (terms_of e) → AllSafe ts
   all_contained e [] is h = tt
   all_contained e (t ∷ ts) is h =
-      let b = both (effect_contains e t) (list_all (effect_contains e) ts) is in (effect_contained e t b.0 h, all_contained e ts b.1 h)
+      let b = and_parts (effect_contains e t) (list_all (effect_contains e) ts) is in (effect_contained e t b.0 h, all_contained e ts b.1 h)
 
   abbrev EachSafe : List (ℕ × List Shape) → Type 0
   EachSafe rs = AllByRecursion (λ (r : ℕ × List Shape). AllSafe r.1) rs

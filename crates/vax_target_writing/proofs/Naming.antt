@@ -1,5 +1,5 @@
 -- A line of a rule names a label or a function only where the rule has one, and its name can be spelled.
-use Rattle.std.proofs.Common.{◌≡◌, ℕ, zero, suc, ◌+◌, ◌%◌, ◌^◌, ◌<◌, ◌≤◌, ◌==◌, Bool, true, false, cond, ◌&&◌, ◌||◌, Option, Some, None, List, [], ◌∷◌, ◌++◌, length, refl, sym, ap}
+use Rattle.std.proofs.Common.{◌≡◌, ℕ, zero, suc, ◌+◌, ◌%◌, ◌^◌, ◌<◌, ◌≤◌, ◌==◌, Bool, true, false, cond, ◌||◌, Option, Some, None, List, [], ◌∷◌, ◌++◌, length, refl, sym, ap}
 use Rattle.std.proofs.Common.{subst, ◌∙◌, arith, slice_get}
 use Rattle.std.specs.Prelude.{nat_le, codes}
 use Rattle.std.specs.Fmt.{decimal}
@@ -9,7 +9,7 @@ use Rattle.std.proofs.lemmas.Bool.{le-leb, and_from, false≢true}
 use Rattle.std.proofs.lemmas.Fmt.{decimal_by_steps, length-decimal-le}
 use Rattle.std.proofs.lemmas.List.Folds.{list_all-append}
 use Rattle.std.proofs.lemmas.Option.{none-some, same_Some}
-use Rattle.gg_base.proofs.Facts.{second_true}
+use Rattle.gg_base.proofs.Facts.{second_true, first_true}
 use Rattle.tree_core.specs.declared.token.Tok.{Tok}
 use Rattle.tree_core.specs.declared.token.Tok.TheVariants as tok
 use Rattle.tree_core.specs.declared.token.AttKind.{AttKind}
@@ -243,10 +243,7 @@ module _ (q : TreeProgram) (classes : List Class) where
 label_allowed : (register : Bool) (right : List Sym) (ps : List Piece) → pieces_fit register right ps ≡ true → list_any is_label_piece ps ≡ true →
     (any_symbol is_branch right || any_symbol is_jump right) ≡ true
 label_allowed register right [] fit e = absurd (cc)
-label_allowed register right (piece.Label ∷ ps) fit e = first (any_symbol is_branch right || any_symbol is_jump right) (pieces_fit register right ps) fit where
-  first : (a b : Bool) → (a && b) ≡ true → a ≡ true
-  first true b e = refl
-  first false b e = absurd (cc)
+label_allowed register right (piece.Label ∷ ps) fit e = first_true (any_symbol is_branch right || any_symbol is_jump right) (pieces_fit register right ps) fit
 label_allowed register right (piece.Bytes w ∷ ps) fit e = label_allowed register right ps fit e
 label_allowed register right (piece.Hole i ∷ ps) fit e = label_allowed register right ps (second_true (piece_fits register right (piece.Hole i)) (pieces_fit register right ps) fit) e
 label_allowed register right (piece.Callee ∷ ps) fit e = label_allowed register right ps (second_true (any_symbol is_call right) (pieces_fit register right ps) fit) e
@@ -255,10 +252,7 @@ label_allowed register right (piece.Count ∷ ps) fit e = label_allowed register
 callee_allowed : (register : Bool) (right : List Sym) (ps : List Piece) → pieces_fit register right ps ≡ true → list_any is_count_piece ps ≡ true →
     any_symbol is_call right ≡ true
 callee_allowed register right [] fit e = absurd (cc)
-callee_allowed register right (piece.Count ∷ ps) fit e = first (any_symbol is_call right) (pieces_fit register right ps) fit where
-  first : (a b : Bool) → (a && b) ≡ true → a ≡ true
-  first true b e = refl
-  first false b e = absurd (cc)
+callee_allowed register right (piece.Count ∷ ps) fit e = first_true (any_symbol is_call right) (pieces_fit register right ps) fit
 callee_allowed register right (piece.Bytes w ∷ ps) fit e = callee_allowed register right ps fit e
 callee_allowed register right (piece.Hole i ∷ ps) fit e = callee_allowed register right ps (second_true (piece_fits register right (piece.Hole i)) (pieces_fit register right ps) fit) e
 callee_allowed register right (piece.Callee ∷ ps) fit e = callee_allowed register right ps (second_true (any_symbol is_call right) (pieces_fit register right ps) fit) e
