@@ -2,6 +2,7 @@
 use Rattle.std.proofs.Common.{◌≡◌, ℕ, zero, suc, List, [], ◌∷◌, ◌++◌, Option, Some, None, refl, sym, ap, ◌∙◌, subst}
 use Rattle.std.specs.Prelude.{slice_get}
 use Rattle.std.specs.List.{AllByRecursion as All}
+use Rattle.gg_base.proofs.Facts.{all_append}
 use Rattle.tree_core.specs.declared.tree.Leaf.{Leaf}
 use Rattle.tree_core.specs.declared.program.TreeItem.{TreeItem}
 use Rattle.tree_core.specs.declared.program.TreeItem.TheVariants as tree_item
@@ -34,10 +35,6 @@ module _ (q : TreeProgram) (ok : IsSelectable q) (d : Content) (fit : IsFit vax 
   abbrev Fine : CodeItem → Type 0
   Fine x = undefined_at area code x ≡ None
 
-  fine_append : (xs ys : List CodeItem) → All Fine xs → All Fine ys → All Fine (xs ++ ys)
-  fine_append [] ys h k = k
-  fine_append (x ∷ xs) ys h k = (h.0, fine_append xs ys h.1 k)
-
   instrs_fine : (is : List Instr) → All (λ (i : Instr). undefined_in area code i ≡ None) is → All Fine (code_items is)
   instrs_fine [] h = tt
   instrs_fine (i ∷ is) h = (h.0, instrs_fine is h.1)
@@ -59,7 +56,7 @@ module _ (q : TreeProgram) (ok : IsSelectable q) (d : Content) (fit : IsFit vax 
     body_fine used most is body sub (nothing u) = tt
     body_fine used most is body sub (label u m l js rest h) = (refl, body_fine u most js rest (behind q ok d fit n g here (tree_item.Label l) js sub) h)
     body_fine used most is body sub (tree u k m w js instrs rest one h) =
-        fine_append (code_items instrs) rest (tree_fine w (sub w (0, refl)) instrs k one)
+        all_append Fine (code_items instrs) rest (tree_fine w (sub w (0, refl)) instrs k one)
         (body_fine _ most js rest (behind q ok d fit n g here (tree_item.Root w) js sub) h)
 
     function_fine : (part : List CodeItem) → IsSelectedFunction vax d q g part → All Fine part
@@ -70,8 +67,8 @@ module _ (q : TreeProgram) (ok : IsSelectable q) (d : Content) (fit : IsFit vax 
             refl,
             (
               refl,
-              fine_append (code_items (room_code s.words)) (s.body ++ code_items end_code) (room_fine s.words)
-                  (fine_append s.body (code_items end_code) (body_fine g.locals s.words g.items s.body (λ w at. at) s.selected) (refl, (refl, tt))),
+              all_append Fine (code_items (room_code s.words)) (s.body ++ code_items end_code) (room_fine s.words)
+                  (all_append Fine s.body (code_items end_code) (body_fine g.locals s.words g.items s.body (λ w at. at) s.selected) (refl, (refl, tt))),
             ),
           ),
         )
@@ -80,7 +77,7 @@ module _ (q : TreeProgram) (ok : IsSelectable q) (d : Content) (fit : IsFit vax 
   functions_fine gs part of none = tt
   functions_fine gs part of (more g hs front rest one others) =
       let at = of 0 g refl in
-      fine_append front rest (function_fine at.0 g at.1 front one) (functions_fine hs rest (λ k h e. of (suc k) h e) others)
+      all_append Fine front rest (function_fine at.0 g at.1 front one) (functions_fine hs rest (λ k h e. of (suc k) h e) others)
 
   none_undefined : (xs : List CodeItem) → All Fine xs → undefined_label xs area code ≡ None
   none_undefined [] h = refl

@@ -1,11 +1,11 @@
 -- The run of a program's code begins where the run of its trees begins, and follows it.
-use Rattle.std.proofs.Common.{◌≡◌, ℕ, zero, suc, Bool, true, false, cond, List, [], ◌∷◌, length, Option, Some, None, refl, sym, ap, subst, ◌∙◌, arith}
+use Rattle.std.proofs.Common.{◌≡◌, ℕ, suc, Bool, true, false, cond, List, [], ◌∷◌, length, Option, Some, None, refl, sym, ap, subst, ◌∙◌, arith}
 use Rattle.std.specs.Prelude.{slice_get, codes}
 use Rattle.std.specs.List.{find}
 use Rattle.std.specs.Str.{bytes_eq}
 use Rattle.std.proofs.lemmas.List.{length-replicate}
 use Rattle.std.proofs.lemmas.Slice.Eq.{bytes_eq-Decides}
-use Rattle.std.proofs.lemmas.Option.{same_Some}
+use Rattle.std.proofs.lemmas.Option.{same_Some, none-some}
 use Rattle.std.proofs.lemmas.Bool.{false≢true}
 use Rattle.gg_base.specs.Follows.{Forward, Follows}
 use Rattle.gg_base.proofs.Following.{follows}
@@ -96,11 +96,7 @@ module _ (program : TreeProgram) (c : Code) (h : IsCompiled program c) (input : 
   begins_main : Begins program.objects c.items h.main em.frame [] first (blank c input) 0 None
   begins_main =
       begins_with program.objects c.items h.main em.frame (blank c input) can (omega arith) refl 0 None (omega arith) [] [] [] (opening program.objects) input refl
-      (λ i v is. absurd (empty i v is)) h.labelled h.area refl nobody
-    where
-      empty : (i v : ℕ) → slice_get [] i ≡ Some v → ⊥
-      empty zero v e = cc
-      empty (suc i) v e = cc
+      (λ i v is. absurd (none-some v is)) h.labelled h.area refl nobody
 
   stands : Stands program c.items first begins_main.state
   stands =

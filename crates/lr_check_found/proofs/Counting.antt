@@ -4,6 +4,7 @@ use Rattle.std.proofs.Common.{inl, inr, arith, true≢false}
 use Rattle.std.specs.Prelude.{AllPairs, slice_index_or, count_by, if◌then◌else◌}
 use Rattle.std.proofs.lemmas.List.Sums.{sum_by-cons}
 use Rattle.std.proofs.lemmas.Option.{get_or_from_slice_get, same_Some, none-some}
+use Rattle.std.proofs.lemmas.List.{get_or_default}
 use Rattle.tree_core.specs.declared.token.Tok.TheVariants as tok
 use Rattle.md_reader.specs.declared.types.Sym.{Sym}
 use Rattle.lr_tables.proofs.Members.{In, In-Contains, Contains-In}
@@ -64,12 +65,7 @@ Apart (x ∷ xs) = ((z : Tuple) → In z xs → x ≡ z → ⊥) × Apart xs
 pairs : (xs : List Tuple) → Apart xs → AllPairs (λ (x y : Tuple). x ≡ y → ⊥) xs
 pairs [] h i j d lt le = absurd (omega (arith, le))
 pairs (x ∷ xs) h zero zero d lt le = absurd (omega (arith, lt))
-pairs (x ∷ xs) h zero (suc j) d lt le = h.0 (get_or xs j d) (Contains-In (get_or xs j d) xs (j, omega (arith, le), get_or_same xs j d (omega (arith, le))))
-  where
-    get_or_same : (ys : List Tuple) (k : ℕ) (d : Tuple) → k < length ys → get_or ys k (get_or ys k d) ≡ get_or ys k d
-    get_or_same [] k d lt = absurd (omega (arith, lt))
-    get_or_same (y ∷ ys) zero d lt = refl
-    get_or_same (y ∷ ys) (suc k) d lt = get_or_same ys k d (omega (arith, lt))
+pairs (x ∷ xs) h zero (suc j) d lt le = h.0 (get_or xs j d) (Contains-In (get_or xs j d) xs (j, omega (arith, le), get_or_default xs j (get_or xs j d) d (omega (arith, le))))
 pairs (x ∷ xs) h (suc i) zero d lt le = absurd (omega (arith, lt))
 pairs (x ∷ xs) h (suc i) (suc j) d lt le = pairs xs h.1 i j d (omega (arith, lt)) (omega (arith, le))
 

@@ -2,7 +2,7 @@
 use Rattle.std.proofs.Common.{◌≡◌, ◌⊎◌, ℕ, zero, suc, ◌≤◌, ◌<◌, List, [], ◌∷◌, Some, length, map, slice_get, refl, sym, ap, ◌∙◌, subst, inl, inr, ⊎_elim, arith}
 use Rattle.std.specs.Option.{option_map}
 use Rattle.std.proofs.lemmas.List.{length-map}
-use Rattle.std.proofs.lemmas.Option.{slice_get-map, same_Some}
+use Rattle.std.proofs.lemmas.Option.{slice_get-map, same_Some, none-some}
 use Rattle.md_reader.specs.declared.types.Rule.{Rule}
 use Rattle.md_reader.specs.declared.types.Sym.{Sym}
 use Rattle.lr_tables.specs.declared.item.Item.{Item}
@@ -16,10 +16,6 @@ use Rattle.lr_tables.proofs.Members.{In, slice_get-In, In-slice_get, map-In}
 use Rattle.lr_tables.proofs.Closing.{kernel_valid, set_valid, valid_set, set_empty}
 use Rattle.lr_tables.proofs.Order.{kernel_in, kernel_sorted, set_kernel, sorted_same}
 use Rattle.lr_tables.proofs.Found.{Apart, Reached, found_reached, found_apart, found_complete, head_in}
-
-nothing_at : {X : Type 0} (k : ℕ) (x : X) → slice_get [] k ≡ Some x → ⊥
-nothing_at zero x e = cc
-nothing_at (suc k) x e = cc
 
 -- a list without one of its elements
 without : {X : Type 0} (x : X) (ys : List X) → In x ys → List X
@@ -48,7 +44,7 @@ pigeons (x ∷ xs) ys h f =
     omega (arith, rest, l)
 
 apart_get : (ks : List (List Item)) (j k : ℕ) (x : List Item) → Apart ks → j < k → slice_get ks j ≡ Some x → slice_get ks k ≡ Some x → ⊥
-apart_get [] j k x h lt e f = nothing_at j x e
+apart_get [] j k x h lt e f = absurd (none-some x e)
 apart_get (y ∷ ks) zero zero x h lt e f = omega arith
 apart_get (y ∷ ks) zero (suc k) x h lt e f = h.0 (subst (λ z. In z ks) (sym (same_Some y x e)) (slice_get-In x ks k f))
 apart_get (y ∷ ks) (suc j) zero x h lt e f = omega arith

@@ -4,7 +4,7 @@ use Rattle.std.proofs.Common.{replicate, refl, sym, ap, ◌∙◌, subst, inl, i
 use Rattle.std.specs.Prelude.{◌==◌}
 use Rattle.std.proofs.lemmas.Bool.{eqb-true, eq-eqb}
 use Rattle.std.proofs.lemmas.List.{length-replicate}
-use Rattle.std.proofs.lemmas.Option.{slice_get_within, same_Some}
+use Rattle.std.proofs.lemmas.Option.{slice_get_within, same_Some, none-some}
 use Rattle.tree_core.specs.declared.token.Tok.{Tok}
 use Rattle.tree_core.specs.declared.token.Tok.TheVariants as tok
 use Rattle.md_reader.specs.declared.types.Rule.{Rule}
@@ -225,15 +225,11 @@ module _ (t : ℕ) (firsts : List Bool) where
           (λ x. inl x) (marked_set m d c a)
       first false e o a = inl a
 
-  nothing : (k : ℕ) (X : Sym) → slice_get [] k ≡ Some X → ⊥
-  nothing zero X e = cc
-  nothing (suc k) X e = cc
-
   within_there : (w : List Sym) (o : Option Sym) (m : List Bool) (c j : ℕ) (X : Sym) → slice_get (lead o w) j ≡ Some (grammar_symbol.Class c) → slice_get (lead o w) (suc j) ≡ Some X
       → code.may_begin t firsts X ≡ true → c < length m → Marked (code.within t firsts o w m) c
   unfolding lead
-  within_there [] None m c j X e f h lt = absurd (nothing j (grammar_symbol.Class c) e)
-  within_there [] (Some Y) m c j X e f h lt = absurd (nothing j X f)
+  within_there [] None m c j X e f h lt = absurd (none-some (grammar_symbol.Class c) e)
+  within_there [] (Some Y) m c j X e f h lt = absurd (none-some X f)
   within_there (Z ∷ w) None m c j X e f h lt =
       within_there w (Some Z) (code.marked_if (code.may_begin t firsts Z) None m) c j X e f h (subst (λ n. c < n) (sym (length-mark (code.may_begin t firsts Z) None m)) lt)
   within_there (Z ∷ w) (Some Y) m c zero X e f h lt =

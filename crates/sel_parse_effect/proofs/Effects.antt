@@ -7,7 +7,7 @@ use Rattle.std.proofs.lemmas.Option.{none-some, same_Some}
 use Rattle.gg_base.specs.declared.size.Size.{Size}
 use Rattle.gg_base.specs.declared.size.Size.TheVariants.{Byte, Word, Long}
 use Rattle.gg_base.specs.Sizes.{bytes_of}
-use Rattle.gg_base.proofs.Facts.{all_append}
+use Rattle.gg_base.proofs.Facts.{all_append, second_false}
 use Rattle.tree_core.specs.declared.tree.Att.{Att}
 use Rattle.tree_core.specs.declared.tree.Att.TheVariants as att
 use Rattle.tree_core.specs.declared.token.Tok.{Tok}
@@ -523,14 +523,10 @@ module _ (every : Bool) (v : View) (known : ℕ → Bool) (is_known : (i : ℕ) 
 -- no divisor is zero
 no_zero : (v : View) (ds : List Shape) → divides_by_zero (term_state v) ds ≡ false → All (λ (x : Shape). value v x ≡ 0 → ⊥) ds
 no_zero v [] e = tt
-no_zero v (x ∷ xs) e = ((λ z. first (value v x == 0) refl z e), no_zero v xs (second (value v x == 0) e)) where
+no_zero v (x ∷ xs) e = ((λ z. first (value v x == 0) refl z e), no_zero v xs (second_false (value v x == 0) (divides_by_zero (term_state v) xs) e)) where
   first : (b : Bool) → (value v x == 0) ≡ b → value v x ≡ 0 → (b || divides_by_zero (term_state v) xs) ≡ false → ⊥
   first true is z h = (cc)
   first false is z h = absurd (let g : (value v x == 0) ≡ (0 == 0) = ap (λ n. n == 0) z in let w : false ≡ true = sym is ∙ g in (cc))
-
-  second : (b : Bool) → (b || divides_by_zero (term_state v) xs) ≡ false → divides_by_zero (term_state v) xs ≡ false
-  second true h = absurd (cc)
-  second false h = h
 
 pub divides_none : (v : View) (e : EffectShape) → divides_by_zero (term_state v) e.divisors ≡ false → DividesByNone v e
 divides_none v e h = no_zero v e.divisors h

@@ -3,9 +3,8 @@ use Rattle.std.proofs.Common.{◌≡◌, ℕ, zero, suc, ◌-◌, ◌<◌, ◌�
 use Rattle.std.proofs.Common.{arith, slice_get}
 use Rattle.std.specs.Prelude.{IsSome, nat_lt, map}
 use Rattle.std.specs.List.{AllByRecursion as All}
-use Rattle.std.proofs.lemmas.Bool.Decides.{nat_tests}
 use Rattle.std.proofs.lemmas.Option.{same_Some, none-some}
-use Rattle.std.proofs.lemmas.Bool.{and_parts}
+use Rattle.std.proofs.lemmas.Bool.{and_parts, ltb-true, lt-ltb}
 use Rattle.gg_base.specs.declared.size.Size.{Size}
 use Rattle.gg_base.specs.declared.size.Size.TheVariants.{Byte, Word, Long}
 use Rattle.tree_core.specs.declared.token.Tok.{Tok}
@@ -202,14 +201,8 @@ some_there (Some n) h e = cc
 
 module _ {O I S F : Type 0} (of : Meaning O I S F) (law : IsLawful of) (q : TreeProgram) (d : Content) (first : ℕ) (f : Extent) (fs : List Extent) (t : State) (m : S)
     (begins : Begins of q first f fs t m) where
-  less : (k n : ℕ) → k < n → nat_lt k n ≡ true
-  less k n lt = grind (arith, nat_tests)
-
-  not_less : (k n : ℕ) → nat_lt k n ≡ true → k < n
-  not_less k n e = grind (arith, nat_tests)
-
   local_is : (k : ℕ) → k < f.locals → (frame_sight of f t m).locals k ≡ of.reads (of.local k) Long m
-  local_is k lt = ap (λ b. cond b (of.reads (of.local k) Long m) None) (less k f.locals lt)
+  local_is k lt = ap (λ b. cond b (of.reads (of.local k) Long m) None) (lt-ltb k f.locals lt)
 
   local_seen : (k : ℕ) → k < f.locals → IsSome ((frame_sight of f t m).locals k)
   local_seen k lt =
@@ -357,7 +350,7 @@ module _ {O I S F : Type 0} (of : Meaning O I S F) (law : IsLawful of) (q : Tree
       bounded k n e = by (nat_lt k f.locals) refl e
         where
           by : (b : Bool) → nat_lt k f.locals ≡ b → cond b (of.reads (of.local k) Long m) None ≡ Some n → k < f.locals
-          by true h g = not_less k f.locals h
+          by true h g = ltb-true k f.locals h
           by false h g = absurd (none-some n g)
 
   local_sees : (k n : ℕ) → (frame_sight of f t m).locals k ≡ Some n → of.reads (of.local k) Long m ≡ Some n

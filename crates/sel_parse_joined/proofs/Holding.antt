@@ -5,7 +5,7 @@ use Rattle.std.specs.List.{AllByRecursion as All}
 use Rattle.std.specs.Int.{bit_at}
 use Rattle.std.proofs.lemmas.Bool.Decides.{nat_tests}
 use Rattle.std.proofs.lemmas.Nat.Bits.{bit_at-pow_same, bit_at-pow_other}
-use Rattle.gg_base.proofs.Facts.{true_or_false}
+use Rattle.std.proofs.lemmas.Bool.{eqb-true, eqb-false}
 use Rattle.tree_core.specs.declared.token.Tok.{Tok}
 use Rattle.tree_core.specs.declared.token.Tok.TheVariants as tok
 use Rattle.tree_core.specs.declared.tree.Att.{Att}
@@ -50,19 +50,13 @@ module _ {O I S F : Type 0} (of : Meaning O I S F) (law : IsLawful of) (q : Tree
   -- ---- a register alone
 
   not_equal : (r v : ℕ) → (r == v) ≡ false → v ≡ r → ⊥
-  not_equal r v e f = true_or_false (r == v) (is v f) e
-    where
-      is : (v : ℕ) → v ≡ r → (r == v) ≡ true
-      is v f = grind (arith, nat_tests)
-
-  is_equal : (r v : ℕ) → (r == v) ≡ true → r ≡ v
-  is_equal r v e = grind (arith, nat_tests)
+  not_equal r v e f = eqb-false r v e (sym f)
 
   bit_same : (r v : ℕ) → (r == v) ≡ (bit_at (2 ^ r) v == 1)
   bit_same r v = by (r == v) refl
     where
       by : (b : Bool) → (r == v) ≡ b → (r == v) ≡ (bit_at (2 ^ r) v == 1)
-      by true e = e ∙ sym (ap (λ k. bit_at (2 ^ r) k == 1) (sym (is_equal r v e)) ∙ ap (λ k. k == 1) (bit_at-pow_same r))
+      by true e = e ∙ sym (ap (λ k. bit_at (2 ^ r) k == 1) (sym (eqb-true r v e)) ∙ ap (λ k. k == 1) (bit_at-pow_same r))
       by false e = e ∙ sym (ap (λ k. k == 1) (bit_at-pow_other r v (not_equal r v e)))
 
   register_agrees : (r : ℕ) → r < 12 → Agrees (attr.Reg r)

@@ -25,6 +25,7 @@ use Rattle.sel_parse_desk.specs.Spills as computed_spills
 use Rattle.sel_parse_joined.proofs.Turning.{turned_get, turned_set, any_turned, all_at, all_more, map_turned, map_get, map_set, map_any, map_first}
 use Rattle.sel_parse_joined.proofs.Turning.{attributes_any, counted_back, last_turned, last_in, lowest_same}
 use Rattle.sel_parse_joined.proofs.Holding.{entry, Agrees, AllAgree}
+use mathlib.Core.Bool.{or-false}
 
 -- ---- outcomes
 
@@ -128,13 +129,9 @@ module _ {O I S F : Type 0} (of : Meaning O I S F) (law : IsLawful of) (q : Tree
       ∙ ap (λ b. b || list_any (λ v. v == w) (let_go es)) (one (computed_entries.word_of of e.attr) ∙ h.0.word w le)
       ∙ ap (λ b. attr_touches of e.attr (WordAt w) || b) (words_gone w le es h.1)
     where
-      or_none : (b : Bool) → (b || false) ≡ b
-      or_none true = refl
-      or_none false = refl
-
       one : (o : Option ℕ) → list_any (λ v. v == w) (computed_spills.let_go o) ≡ is_word o w
       one None = refl
-      one (Some k) = or_none (k == w)
+      one (Some k) = or-false (k == w)
 
   -- ---- what is free
 

@@ -2,8 +2,8 @@
 use Rattle.std.proofs.Common.{◌≡◌, ℕ, ◌-◌, ◌<◌, ◌≤◌, List, [], ◌∷◌, ◌++◌, length, take, Some, None, Bool, true, false, refl, ap, ◌∙◌, subst, arith, length-append}
 use Rattle.std.specs.Prelude.{cond, count_ones, nat_lt, Ok}
 use Rattle.std.specs.List.{AllByRecursion as All}
-use Rattle.std.proofs.lemmas.Bool.Decides.{nat_tests}
 use Rattle.std.proofs.lemmas.Option.{none-some}
+use Rattle.std.proofs.lemmas.Bool.{ltb-true}
 use Rattle.gg_base.specs.declared.size.Size.TheVariants.{Long}
 use Rattle.tree_core.specs.declared.token.Tok.{Tok}
 use Rattle.tree_core.specs.declared.token.Tok.TheVariants as tok
@@ -93,11 +93,8 @@ module _ {O I S F : Type 0} (of : Meaning O I S F) (law : IsLawful of) (q : Tree
     area = refl;
   }
     where
-      less : (k n : ℕ) → nat_lt k n ≡ true → k < n
-      less k n e = grind (arith, nat_tests)
-
       by : (k n : ℕ) (b : Bool) → nat_lt k f.locals ≡ b → cond b (of.reads (of.local k) Long m) None ≡ Some n → k < f.locals
-      by k n true h g = less k f.locals h
+      by k n true h g = ltb-true k f.locals h
       by k n false h g = absurd (none-some n g)
 
   sees : Sees of q d first f fs t (frame_sight of f t m) m m

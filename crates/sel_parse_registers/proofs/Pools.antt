@@ -9,9 +9,8 @@ use Rattle.std.proofs.lemmas.Bool.Decides.{nat_tests}
 use Rattle.std.proofs.lemmas.Grind.{reverse_onto}
 use Rattle.std.proofs.lemmas.Nat.{ones-le}
 use Rattle.std.proofs.lemmas.Nat.Bits.{bit_at-suc, bit_at_lowest}
-use Rattle.std.proofs.lemmas.Bool.{eqb-true, true≢false}
+use Rattle.std.proofs.lemmas.Bool.{eqb-true, true≢false, eqb-false}
 use Rattle.std.proofs.lemmas.Option.{none-some, same_Some}
-use Rattle.gg_base.proofs.Facts.{true_or_false}
 use Rattle.sel_target.specs.Symbols.{lowest, behind_one, first_that}
 use Rattle.sel_parse_selected.specs.Spills.{later_of, last_that}
 use Rattle.sel_parse_slots.proofs.Counts.{tick, tick_or, count, total, total_append}
@@ -30,10 +29,7 @@ tick_implied true c h = (let e = ap tick (h refl) in omega (arith, e))
 tick_implied false c h = omega arith
 
 pub apart_of : (v r : ℕ) → (v == r) ≡ false → r ≡ v → ⊥
-apart_of v r e g = true_or_false (v == r) (same g) e
-  where
-    same : r ≡ v → (v == r) ≡ true
-    same g = grind (arith, nat_tests)
+apart_of v r e g = eqb-false v r e (sym g)
 
 -- ---- counts of ranges
 

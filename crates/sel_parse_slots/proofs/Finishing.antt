@@ -6,9 +6,9 @@ use Rattle.std.specs.List.{AllByRecursion as All, list_any}
 use Rattle.std.specs.Int.{bit_at}
 use Rattle.std.proofs.lemmas.Nat.Bits.{bit_at-pow_other}
 use Rattle.std.proofs.lemmas.Option.{same_Some, none-some}
+use Rattle.std.proofs.lemmas.Bool.{eqb-false}
 use Rattle.sel_parse_moves.proofs.Performs.{fits_stmt}
 use Rattle.gg_base.specs.declared.size.Size.TheVariants.{Byte, Word, Long}
-use Rattle.gg_base.proofs.Facts.{true_or_false}
 use Rattle.tree_core.specs.declared.token.Tok.{Tok}
 use Rattle.tree_core.specs.declared.token.Sort.{Sort}
 use Rattle.tree_core.specs.declared.token.Sort.TheVariants as sort
@@ -136,10 +136,7 @@ module _ {O I S F : Type 0} (of : Meaning O I S F) (law : IsLawful of) (q : Tree
       omega (arith, a, b)
     where
       other : (v : ℕ) → (r == v) ≡ false → v ≡ r → ⊥
-      other v e f = true_or_false (r == v) (is v f) e
-        where
-          is : (v : ℕ) → v ≡ r → (r == v) ≡ true
-          is v f = grind (arith, Rattle.std.proofs.lemmas.Bool.Decides.nat_tests)
+      other v e f = eqb-false r v e (sym f)
 
       same : (v : ℕ) → tick (touches of (of.register r) (RegAt v)) ≤ tick (r == v)
       same v = by (r == v) refl

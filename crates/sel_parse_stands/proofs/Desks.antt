@@ -5,7 +5,7 @@ use Rattle.std.specs.Prelude.{not, ◌&&◌, ◌||◌, if◌then◌else◌, slic
 use Rattle.std.specs.Int.{bit_at}
 use Rattle.std.proofs.lemmas.Bool.Decides.{nat_tests}
 use Rattle.std.proofs.lemmas.Option.{same_Some, none-some}
-use Rattle.std.proofs.lemmas.Bool.{not-true}
+use Rattle.std.proofs.lemmas.Bool.{not-true, eqb-false}
 use Rattle.gg_base.proofs.Facts.{first_true, second_true, true_or_false}
 use Rattle.gg_base.specs.declared.size.Size.TheVariants.{Long}
 use Rattle.tree_core.specs.declared.program.TreeProgram.{TreeProgram}
@@ -297,10 +297,7 @@ module _ {O I S F : Type 0} (of : Meaning O I S F) (law : IsLawful of) (q : Tree
         where
           here : (b : Bool) → (n == k) ≡ b → (n ≡ k) ⊎ (n ≡ k → ⊥)
           here true g = inl (grind (arith, nat_tests))
-          here false g = inr (λ h. apart_numbers n k g h)
-            where
-              apart_numbers : (n k : ℕ) → (n == k) ≡ false → n ≡ k → ⊥
-              apart_numbers n k g h = grind (arith, nat_tests)
+          here false g = inr (λ h. eqb-false n k g h)
 
       slots : (j u : ℕ) (k : Option Kind) → u < 1024 → slice_get desk.symbols j ≡ Some (record { kind = k; attr = attr.InSlot u })
           → slice_get (slice_set desk.symbols i (entry_in_slot of e w)) j ≡ Some (record { kind = k; attr = attr.InSlot u })

@@ -3,6 +3,7 @@ use Rattle.std.proofs.Common.{◌≡◌, ℕ, zero, suc, ◌+◌, ◌<◌, ◌�
 use Rattle.std.proofs.lemmas.List.{get_or_push, get_or_append_left, get_or_past}
 use Rattle.std.specs.Prelude.{◌==◌, min, max, slice_index_or, if◌then◌else◌}
 use Rattle.std.proofs.lemmas.Bool.Decides.{nat_tests}
+use Rattle.std.proofs.lemmas.Bool.{cases_lt}
 use Rattle.md_reader.specs.declared.types.Class.{Class}
 use Rattle.md_reader.specs.declared.types.Rule.{Rule}
 use Rattle.md_reader.specs.declared.types.Restriction.{Restriction}
@@ -72,15 +73,12 @@ module _ (classes : List Class) (rule : Rule) where
   same_behind k i h = ap (λ (x : Fact). x.same_as) (get_or_past (facts_below classes rule k) i _ (subst (λ n. n ≤ i) (sym (facts_count k)) h))
 
   pub facts_settled : (k : ℕ) → AreSettled (facts_below classes rule k)
-  facts_settled k i = elim (order_of i k) [
+  facts_settled k i = elim (cases_lt i k) [
     | inl h ↦ (let e : same_as (facts_below classes rule k) i ≡ least_alike rule.restrictions i = same_within k i _ h in
         let l = least_lesser rule.restrictions i in
         ap (same_as (facts_below classes rule k)) e ∙ same_within k (least_alike rule.restrictions i) _ (omega arith) ∙ least_again rule.restrictions i ∙ sym e)
     | inr h ↦ ap (same_as (facts_below classes rule k)) (same_behind k i h)
   ]
-    where
-      order_of : (m n : ℕ) → (m < n) ⊎ (n ≤ m)
-      order_of m n = grind arith
 
 pub saved_settled : (k : Kind) → AreSettled (saved_facts k)
 saved_settled k zero = refl

@@ -45,6 +45,7 @@ use Rattle.sel_terms_trees.specs.Effects.{IsKnown}
 use Rattle.term_core_accesses.specs.Accesses.{divides_well, Safe}
 use Rattle.sel_terms_meaning.specs.Meaning.{AllSafe, divides_by_zero}
 use Rattle.sel_terms_trees.proofs.Worths.{ill_left, ill_right, none_joined, some_first, some_second, safe_joined, weak, all_weak, div_none, div_some, left_shift, right_shift}
+use mathlib.Core.Bool.{or-false}
 
 module _ (objects : List Object) (s : Sight) (all : List Sense) (m : State) where
   -- a part has the number; nothing divides by zero, and all accesses lie in the area
@@ -309,11 +310,7 @@ module _ (objects : List Object) (s : Sight) (all : List Sense) (m : State) wher
           record { divides = none_of x y [] h k refl; worth = ap (λ n. binary op n (value m b)) h.worth ∙ ap (binary op x) k.worth; safe = (h.safe, k.safe); divisors = safe_of x y [] h k tt }
 
       divisor_is : (y : ℕ) (c : Bool) → value m b ≡ y → (y == 0) ≡ c → divides_by_zero m (b ∷ []) ≡ c
-      divisor_is y c e f = ap (λ (n : ℕ). (n == 0) || false) e ∙ ap (λ (d : Bool). d || false) f ∙ last c
-        where
-          last : (c : Bool) → (c || false) ≡ c
-          last true = refl
-          last false = refl
+      divisor_is y c e f = ap (λ (n : ℕ). (n == 0) || false) e ∙ ap (λ (d : Bool). d || false) f ∙ or-false c
 
       -- a zero divisor
       own_zero : (x y : ℕ) → IsWorth p x → IsWorth q y → (y == 0) ≡ true → divides_well m (Binary binary_op.Div a b) ≡ false

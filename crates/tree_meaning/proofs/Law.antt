@@ -1,9 +1,9 @@
 -- A run of trees has one end.
 use Rattle.std.proofs.Common.{◌≡◌, inl, inr, ℕ, zero, suc, ◌≤◌, List, Option, Some, None, refl, ap, arith}
 use Rattle.gg_base.specs.declared.run.End.TheVariants as ends
-use Rattle.gg_base.specs.Runs.{OneEnd, Outcome, byte_first, one_first}
+use Rattle.gg_base.specs.Runs.{OneEnd, Outcome, byte_first}
 use Rattle.gg_base.specs.Follows.{IsBroken, NeverBroken}
-use Rattle.gg_base.proofs.Lasting.{one_end_of, emits_grow}
+use Rattle.gg_base.proofs.Lasting.{one_end_of, emits_grow, counts_grow}
 use Rattle.gg_base.specs.Lasting.{Grows, Lasts}
 use Rattle.tree_core.specs.declared.program.TreeProgram.{TreeProgram}
 use Rattle.tree_core.specs.Trees.{grown}
@@ -40,10 +40,6 @@ module _ (p : TreeProgram) where
   all_spent n (over e) h = absurd (not_spent e h)
   all_spent zero (tree_at w s) e = refl
   all_spent (suc n) (tree_at w s) e = ap suc (carried_kept (λ o q. o.end ≡ ends.Spent → o.number ≡ n) (λ b o q h. h) (run p n) (run p n) (all_spent n) (tree_step p s (grown w)) e)
-
-  counts_grow : (n : ℕ) (o q : Outcome) → Grows n o q → Grows (suc n) (one_first o) (one_first q)
-  counts_grow n o q (inl e) = inl (ap one_first e)
-  counts_grow n o q (inr h) = inr (h.0, h.1, ap suc h.2)
 
   grows : (n : ℕ) (x : Next) → Grows n (run p n x) (run p (suc n) x)
   grows n (over e) = inl refl

@@ -1,4 +1,5 @@
 -- The bits of a set are the registers that are named.
+use mathlib.Core.Bool.{or-false}
 use Rattle.std.proofs.Common.{◌≡◌, ℕ, ◌^◌, Bool, true, false, cond, eqb, ltb, ◌&&◌, ◌||◌, max, bit_or, List, [], ◌∷◌, Option, Some, None, refl, sym, ap, ◌∙◌, ◌++◌}
 use Rattle.std.proofs.Math.Bool.{or_assoc}
 use Rattle.std.specs.Int.{bit_at}
@@ -39,12 +40,8 @@ operand_named o = either (named_bits (base_register o.base)) (named_bits o.index
 shift : (x y z : Bool) → (x || (y || z)) ≡ (x || y || z)
 shift x y z = sym (or_assoc x y z)
 
-pub or_false : (x : Bool) → (x || false) ≡ x
-or_false true = refl
-or_false false = refl
-
 one_more : (os : List Operand) (o : Operand) (n : ℕ) → operands_name (os ++ o ∷ []) n ≡ (operands_name os n || operand_names o n)
-one_more [] o n = or_false (operand_names o n)
+one_more [] o n = or-false (operand_names o n)
 one_more (p ∷ os) o n = ap (λ (b : Bool). operand_names p n || b) (one_more os o n) ∙ shift (operand_names p n) (operands_name os n) (operand_names o n)
 
 pub none_named : IsSetOf 0 (operands_name [])

@@ -1,5 +1,6 @@
 -- The bits of a mask are the registers that a body names.
-use Rattle.std.proofs.Common.{◌≡◌, ℕ, zero, suc, ◌+◌, ◌^◌, ◌<◌, ◌≤◌, Bool, true, false, min, bit_and, bit_or, ltb, leb, ◌&&◌, ◌||◌, List, [], ◌∷◌, ◌++◌, refl, sym, ap, ◌∙◌, arith}
+use mathlib.Core.Bool.{or-false}
+use Rattle.std.proofs.Common.{◌≡◌, ℕ, zero, suc, ◌+◌, ◌^◌, ◌<◌, Bool, true, false, min, bit_and, bit_or, ltb, leb, ◌&&◌, ◌||◌, List, [], ◌∷◌, ◌++◌, refl, sym, ap, ◌∙◌, arith}
 use Rattle.std.proofs.Math.Bool.{or_assoc}
 use Rattle.std.proofs.Math.Dec.{lit<}
 use Rattle.std.proofs.lemmas.Bool.{le-ltb, and_right}
@@ -8,7 +9,7 @@ use Rattle.std.proofs.lemmas.Nat.{and_le_r}
 use Rattle.std.specs.Int.{bit_at}
 use Rattle.vax_core.specs.declared.code.CodeItem.{CodeItem}
 use Rattle.vax_core.specs.Registers.{bit, IsSetOf}
-use Rattle.vax_core.proofs.RegisterLaws.{either, or_false}
+use Rattle.vax_core.proofs.RegisterLaws.{either}
 use Rattle.vax_frames.specs.Frames.{item_names, body_names, is_kept, IsMaskOf}
 
 min_bits : (x y : Bool) → min (bit x) (bit y) ≡ bit (y && x)
@@ -18,7 +19,7 @@ min_bits false true = refl
 min_bits false false = refl
 
 one_more : (xs : List CodeItem) (x : CodeItem) (n : ℕ) → body_names (xs ++ x ∷ []) n ≡ (body_names xs n || item_names x n)
-one_more [] x n = or_false (item_names x n)
+one_more [] x n = or-false (item_names x n)
 one_more (y ∷ xs) x n = ap (λ (b : Bool). item_names y n || b) (one_more xs x n) ∙ sym (or_assoc (item_names y n) (body_names xs n) (item_names x n))
 
 pub none_named : IsSetOf 0 (λ n. false)

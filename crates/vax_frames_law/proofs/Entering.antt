@@ -245,12 +245,8 @@ module _ (m : State) (can : CanCall m) (mask count : ℕ) (back : Option ℕ) (f
               ∙ same_above (reg m Sp + 4 * i) (omega arith) ∙ stand i v is;
           is_local = λ k v is. absurd (none-some v is);
           local = λ k v is. absurd (none-some v is);
-          pushed = λ i v is. absurd (empty i v is);
+          pushed = λ i v is. absurd (none-some v is);
         }
-      where
-        empty : (i v : ℕ) → slice_get [] i ≡ Some v → ⊥
-        empty zero v e = cc
-        empty (suc i) v e = cc
 
     pub callee_agrees : (objects : List Object) (es : List Extent) (callers : List Activation) (area input : List ℕ) (place : ℕ) → AreLabelled objects m → m.area ≡ area → m.input ≡ input
         → Hold (stack_with m count) m.frames es callers (reg m Sp + 4 * count)

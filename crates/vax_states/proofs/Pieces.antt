@@ -10,6 +10,7 @@ use Rattle.vax_machine_live.specs.Control.{overlaps, in_control}
 use Rattle.tree_meaning.specs.State.{Activation}
 use Rattle.vax_states.specs.Stack.{long_at, Extent, word_of, argument_of, Holds, Hold, nobody, caller, SameFrom}
 use Rattle.vax_machine_lists.proofs.Longwords.{number-with, number-above, number-below}
+use mathlib.Core.Bool.{or-false}
 
 -- ---- one store
 
@@ -96,11 +97,7 @@ hold_end stack frames es xs low (caller outer all f e rest_e a rest low' high eq
     omega (arith, up, down, end)
 
 pub control_last : (outer : List Frame) (f : Frame) (a k : ℕ) → in_control (outer ++ f ∷ []) a k ≡ (in_control outer a k || overlaps f a k)
-control_last [] f a k = by (overlaps f a k)
-  where
-    by : (b : Bool) → (b || false) ≡ b
-    by true = refl
-    by false = refl
+control_last [] f a k = or-false (overlaps f a k)
 control_last (g ∷ outer) f a k = ap (λ (b : Bool). overlaps g a k || b) (control_last outer f a k) ∙ by (overlaps g a k) (in_control outer a k) (overlaps f a k)
   where
     by : (x y z : Bool) → (x || (y || z)) ≡ ((x || y) || z)

@@ -92,10 +92,7 @@ pub set_plainly : (m : State) (r : Reg) (v : ℕ) → reg_number r < 12 → regi
 unfolding register_set
 set_plainly m r v lt = by (reg_number r == 14) refl where
   by : (b : Bool) → (reg_number r == 14) ≡ b → cond (b && nat_lt v 2139095040) (Err stack_full) (Ok (with_reg m r v)) ≡ Ok (with_reg m r v)
-  by true e = absurd (let is : reg_number r ≡ 14 = equal (reg_number r) 14 e in omega (arith, lt, is))
-    where
-      equal : (a b : ℕ) → (a == b) ≡ true → a ≡ b
-      equal a b e = eqb-true a b e
+  by true e = absurd (let is : reg_number r ≡ 14 = eqb-true (reg_number r) 14 e in omega (arith, lt, is))
   by false e = refl
 
 module _ (c : Scene) (held : Option Shape) (m : State) (h : Sees c held m) where

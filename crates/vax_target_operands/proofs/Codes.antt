@@ -1,7 +1,7 @@
 -- What the condition codes say of numbers that were compared.
 use Rattle.std.proofs.Common.{◌≡◌, ℕ, ◌+◌, ◌-◌, ◌^◌, ◌<◌, ◌≤◌, ◌==◌, ◌⊎◌, inl, inr, Bool, true, false, cond, refl, sym, ap, ◌∙◌, arith, eq-eqb}
 use Rattle.std.specs.Prelude.{nat_lt, nat_le, not, ◌||◌}
-use Rattle.std.proofs.lemmas.Bool.{leb-true, le-leb, lt-leb, lt-ltb, le-ltb}
+use Rattle.std.proofs.lemmas.Bool.{leb-true, le-leb, lt-leb, lt-ltb, le-ltb, eqb-true}
 use Rattle.std.proofs.lemmas.Bool.Decides.{nat_tests}
 use Rattle.gg_base.specs.declared.size.Size.{Size}
 use Rattle.gg_base.specs.declared.size.Size.TheVariants.{Byte, Word, Long}
@@ -25,9 +25,7 @@ not_lt : (x y : ℕ) → not (nat_lt x y) ≡ nat_le y x
 not_lt x y = grind (arith, nat_tests)
 
 eq_eq : (a b x y : ℕ) → (a ≡ b → x ≡ y) → (x ≡ y → a ≡ b) → (a == b) ≡ (x == y)
-eq_eq a b x y f g = same_bool (a == b) (x == y) (λ e. eq-eqb x y (f (equal a b e))) (λ e. eq-eqb a b (g (equal x y e))) where
-  equal : (n k : ℕ) → (n == k) ≡ true → n ≡ k
-  equal n k e = grind (arith, nat_tests)
+eq_eq a b x y f g = same_bool (a == b) (x == y) (λ e. eq-eqb x y (f (eqb-true a b e))) (λ e. eq-eqb a b (g (eqb-true x y e)))
 
 -- ---- numbers of a size as longwords
 

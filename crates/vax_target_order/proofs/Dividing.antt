@@ -1,7 +1,7 @@
 -- A template divides at most once, and a statement has a line.
 use Rattle.std.proofs.Common.{◌≡◌, ℕ, suc, ◌≤◌, ◌&&◌, Bool, true, false, cond, not, Option, Some, None, Result, Ok, Err, List, [], ◌∷◌, ◌++◌, length, refl, sym, ap, subst, ◌∙◌, arith}
 use Rattle.std.proofs.lemmas.Bool.{true≢false}
-use Rattle.gg_base.proofs.Facts.{first_false}
+use Rattle.gg_base.proofs.Facts.{first_false, err_ok}
 use Rattle.md_reader_pieces.specs.declared.piece.Piece.{Piece}
 use Rattle.md_reader_pieces.specs.declared.piece.Line.{Line}
 use Rattle.md_reader.specs.declared.types.Kind.{Kind}
@@ -204,9 +204,6 @@ module _ (s : Setting) (holes : List Hole) where
 
   -- ---- a statement has a line
 
-  no_ok : {A E : Type 0} (x : A) (e : E) → Err e ≡ Ok x → ⊥
-  no_ok x e is = cc
-
   pieces_nothing : (o : Option Form) → EachOk (λ (x : ActShape). ⊥) (shape_read o >>= shape_given s holes (Some kind.Nothing))
   unfolding shape_given
   pieces_nothing None = tt
@@ -225,7 +222,7 @@ module _ (s : Setting) (holes : List Hole) where
     by : (r : Result ActShape TemplateKind) → EachOk (λ (x : ActShape). ⊥) r →
         (at_line (given_line [] g) r >>= λ (deed : ActShape). found_.checked start (with_divisors start deed)) ≡ Ok e → ⊥
     by (Ok x) h is = h
-    by (Err k) h is = no_ok e _ is
+    by (Err k) h is = err_ok _ e is
 
   some_line : (ls : List Line) (g : Give) (e : EffectShape) → template_found s holes (Some kind.Nothing) ls g ≡ Ok e → 1 ≤ length ls
   some_line [] g e is = absurd (no_lines g e is)

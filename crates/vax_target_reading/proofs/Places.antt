@@ -2,7 +2,7 @@
 use Rattle.std.proofs.Common.{◌≡◌, ℕ, ◌+◌, ◌*◌, ◌%◌, ◌<◌, ◌==◌, ◌&&◌, Bool, true, false, cond, Option, Some, None, List, length, refl, sym, ap, subst, ◌∙◌, arith, slice_get}
 use Rattle.std.specs.Prelude.{nat_le, is_some, IsSome}
 use Rattle.std.specs.Option.{option_and_then}
-use Rattle.std.proofs.lemmas.Bool.{false≢true, le-leb}
+use Rattle.std.proofs.lemmas.Bool.{false≢true, le-leb, and_from}
 use Rattle.std.proofs.lemmas.Option.{none-some}
 use Rattle.gg_base.specs.declared.size.Size.{Size}
 use Rattle.gg_base.specs.declared.size.Size.TheVariants.{Long}
@@ -80,16 +80,10 @@ own_spells_none b (Some r) e = absurd (false≢true e)
 is_own_word : (k : ℕ) → k < 1024 → is_own_place (home k) ≡ true
 is_own_word k lt = ap (λ (o : Option ℕ). is_some o) (home_word k lt)
 
-three : (a b c : Bool) → a ≡ true → b ≡ true → c ≡ true → (a && (b && c)) ≡ true
-three true true true e f g = refl
-three true true false e f g = absurd (cc)
-three true false c e f g = absurd (cc)
-three false b c e f g = absurd (cc)
-
 is_own_argument : (i : ℕ) → i < 255 → is_own_place (argument_home (i + 1)) ≡ true
 is_own_argument i lt =
-    three (nat_le 4 (4 * (i + 1))) (nat_le (4 * (i + 1)) 1020) (4 * (i + 1) % 4 == 0) (le-leb 4 (4 * (i + 1)) (omega arith))
-    (le-leb (4 * (i + 1)) 1020 (omega arith)) (is_zero (4 * (i + 1) % 4) (omega arith))
+    and_from (nat_le 4 (4 * (i + 1))) (nat_le (4 * (i + 1)) 1020 && (4 * (i + 1) % 4 == 0)) (le-leb 4 (4 * (i + 1)) (omega arith))
+    (and_from (nat_le (4 * (i + 1)) 1020) (4 * (i + 1) % 4 == 0) (le-leb (4 * (i + 1)) 1020 (omega arith)) (is_zero (4 * (i + 1) % 4) (omega arith)))
 
 pub argument_is : (i : ℕ) → i < 255 → slot_operand tok.Arg (i + 1) ≡ argument_home (i + 1)
 argument_is i lt = ap (λ b. cond b (argument_home (i + 1)) spare) (le-leb (i + 1) 255 (omega arith))

@@ -4,7 +4,7 @@ use Rattle.std.specs.Prelude.{IsSome, is_none, unwrap_or, nat_lt, nat_le, slice_
 use Rattle.std.specs.Option.{option_map}
 use Rattle.std.proofs.lemmas.Bool.{eqb-true, lt-ltb}
 use Rattle.std.proofs.lemmas.Option.{none-some, same_Some}
-use Rattle.gg_base.proofs.Facts.{first_true, second_true, not_zero, one_less, the_number}
+use Rattle.gg_base.proofs.Facts.{first_true, second_true, not_zero, one_less, the_number, none_is}
 use Rattle.gg_base.specs.declared.size.Size.{Size}
 use Rattle.gg_base.specs.declared.size.Size.TheVariants.{Long}
 use Rattle.gg_base.specs.Arithmetic.{add32}
@@ -80,15 +80,9 @@ module _ (c : Scene) (m : State) (i : ℕ) (labelled : AreLabelled c.program.obj
   abbrev HasTokenHome : Tok → Att → Type 0
   HasTokenHome t a = (o : Operand) → token_operand vax t a ≡ Some o → IsSome (names o Long m)
 
-  none_index : (o : Operand) → is_none o.index ≡ true → o.index ≡ None
-  none_index o e = by o.index e where
-    by : (x : Option Reg) → is_none x ≡ true → x ≡ None
-    by None e = refl
-    by (Some r) e = cc
-
   address_means : (o : Operand) → vax.fits kind.Ea o ≡ true → names o Long m ≡ Some (worth c (Symbol i)) → Names m o (worth c (Symbol i))
   address_means o fits e =
-      let none = none_index o (first_true (is_none o.index) _ fits) in
+      let none = none_is o.index (first_true (is_none o.index) _ fits) in
       let r = mapped (moved m o.index Long) (named m o.base) (worth c (Symbol i)) e in
       record { plain = none; named_so = r.1 ∙ ap (λ (x : ℕ). Some x) (sym (ap (λ x. moved m x Long r.0) none) ∙ r.2) }
 

@@ -3,7 +3,7 @@ use Rattle.std.proofs.Common.{◌≡◌, ◌⊎◌, inl, inr, ⊎_elim, ℕ, ◌
 use Rattle.std.proofs.Common.{length, refl, sym, ap, subst, ◌∙◌, arith, option_map}
 use Rattle.std.specs.Prelude.{nat_le, is_some}
 use Rattle.std.specs.Option.{option_and_then}
-use Rattle.std.proofs.lemmas.Bool.{le-leb, lt-leb, cases_lt, false≢true}
+use Rattle.std.proofs.lemmas.Bool.{le-leb, lt-leb, cases_lt, false≢true, eqb-false, eqb-true, and_from, leb-true}
 use Rattle.std.proofs.lemmas.Bool.Decides.{nat_tests}
 use Rattle.gg_base.specs.declared.size.Size.{Size}
 use Rattle.gg_base.specs.declared.size.Size.TheVariants.{Byte, Word, Long}
@@ -163,28 +163,14 @@ module _ (m : State) (w : ℕ) (f : IsFrameWord m w) where
     two_more true false c e = absurd (false≢true e)
     two_more false b c e = absurd (false≢true e)
 
-    is_le : (a b : ℕ) → nat_le a b ≡ true → a ≤ b
-    is_le a b e = grind (arith, nat_tests)
-
-    is_equal : (a b : ℕ) → (a == b) ≡ true → a ≡ b
-    is_equal a b e = grind (arith, nat_tests)
-
-    not_equal : (a b : ℕ) → (a == b) ≡ false → a ≡ b → ⊥
-    not_equal a b e f = grind (arith, nat_tests)
-
     by_word : (n : ℕ) → is_some (word_below n) ≡ true → is_word (word_below n) w ≡ false → (4 ≤ n) × (n ≤ 4096) × (n % 4 ≡ 0) × (n / 4 - 1 ≡ w → ⊥)
     by_word n some other =
         let t = all_three (nat_le 4 n) (nat_le n 4096) (n % 4 == 0) (n / 4 - 1) some in (
-          is_le 4 n t.0,
-          is_le n 4096 t.1,
-          is_equal (n % 4) 0 t.2,
-          not_equal (n / 4 - 1) w (ap (λ b. is_word (cond b (Some (n / 4 - 1)) None) w) (sym (three (nat_le 4 n) (nat_le n 4096) (n % 4 == 0) t.0 t.1 t.2)) ∙ other),
-        ) where
-          three : (a b c : Bool) → a ≡ true → b ≡ true → c ≡ true → (a && (b && c)) ≡ true
-          three true true true e g h = refl
-          three true true false e g h = absurd (cc)
-          three true false c e g h = absurd (cc)
-          three false b c e g h = absurd (cc)
+          leb-true 4 n t.0,
+          leb-true n 4096 t.1,
+          eqb-true (n % 4) 0 t.2,
+          eqb-false (n / 4 - 1) w (ap (λ b. is_word (cond b (Some (n / 4 - 1)) None) w) (sym (and_from (nat_le 4 n) (nat_le n 4096 && (n % 4 == 0)) t.0 (and_from (nat_le n 4096) (n % 4 == 0) t.1 t.2))) ∙ other),
+        )
 
     behind_fp : (offset n : ℕ) → n ≡ neg32 offset → 4 ≤ n → n ≤ 4096 → 2139095040 ≤ reg m Fp → reg m Fp < 2 ^ 32 → add32 offset (reg m Fp) ≡ reg m Fp - n
     behind_fp offset n is low high from to = omega (arith, is, low, high, from, to)
@@ -201,8 +187,8 @@ module _ (m : State) (w : ℕ) (f : IsFrameWord m w) where
     argument_apart : (name : Option (List ℕ)) (offset : ℕ) (y : Size) → is_argument name offset ≡ true → Apart (add32 (resolved_of m.layout name offset) (reg m Ap)) y
     argument_apart None offset y e =
         let t = two_more (nat_le 4 offset) (nat_le offset 1020) (offset % 4 == 0) e in
-        let least = is_le 4 offset t.0 in
-        let most = is_le offset 1020 t.1 in
+        let least = leb-true 4 offset t.0 in
+        let most = leb-true offset 1020 t.1 in
         let sum : add32 offset (reg m Ap) ≡ reg m Ap + offset = omega (arith, most, f.top) in
         inr (omega (arith, sum, least, f.high, f.far))
     argument_apart (Some name) offset y e = absurd (false≢true e)

@@ -1,7 +1,6 @@
 -- An operand that stands at an address names it.
 use Rattle.std.proofs.Common.{◌≡◌, ℕ, ◌^◌, ◌<◌, ◌==◌, Bool, true, false, cond, Option, Some, None, Result, Ok, refl, sym, ap, subst, ◌∙◌, arith, option_map}
-use Rattle.std.specs.Prelude.{nat_lt}
-use Rattle.std.proofs.lemmas.Bool.Decides.{nat_tests}
+use Rattle.std.proofs.lemmas.Bool.{lt-ltb}
 use Rattle.gg_base.specs.declared.size.Size.{Size}
 use Rattle.gg_base.specs.declared.size.Size.TheVariants.{Byte, Word, Long}
 use Rattle.gg_base.specs.Arithmetic.{add32, mul32}
@@ -36,7 +35,7 @@ use Rattle.vax_templates.specs.HoleTerms.{constant_of, number_term, absolute_ter
 use Rattle.vax_templates.specs.Judging.{is_operand}
 use Rattle.vax_templates.specs.Filled.{register_in, addr_in, number_addr, operand_in, deferred_in, filled_base, with_index, filled}
 use Rattle.vax_target_meaning.specs.Reading as reading
-use Rattle.vax_target_meaning.specs.Reading.{longword, displaced as displaced_by, is_own, named, names, reads}
+use Rattle.vax_target_meaning.specs.Reading.{longword, displaced as displaced_by, is_own, named, names}
 use Rattle.vax_target_operands.specs.Scenes.{Scene, worth, role_at, filling_at, Means, Sees}
 use Rattle.vax_target_operands.specs.Places.{BaseIsShort}
 use Rattle.vax_target_operands.proofs.Binds.{chained}
@@ -44,9 +43,7 @@ use Rattle.vax_target_operands.proofs.Holes.{area_bytes, memory_read, number_is,
 use Rattle.vax_target_operands.proofs.Forms.{displaced_is}
 
 pub is_longword : (n : ℕ) → n < 2 ^ 32 → longword n ≡ Some n
-is_longword n lt = ap (λ b. cond b (Some n) None) (below n (2 ^ 32) lt) where
-  below : (n k : ℕ) → n < k → nat_lt n k ≡ true
-  below n k lt = grind (arith, nat_tests)
+is_longword n lt = ap (λ b. cond b (Some n) None) (lt-ltb n (2 ^ 32) lt)
 
 module _ (c : Scene) (m : State) (h : Sees c None m) where
   abbrev F : Base → Operand
