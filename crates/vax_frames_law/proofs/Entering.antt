@@ -4,7 +4,7 @@ use Rattle.std.proofs.Common.{refl, sym, ap, subst, ◌∙◌, arith, get_or-set
 use Rattle.std.specs.Prelude.{slice_get, slice_set, nat_le}
 use Rattle.std.specs.Int.RustNames.{count_ones}
 use Rattle.std.proofs.lemmas.Bool.{le-ltb, lt-leb}
-use Rattle.std.proofs.lemmas.List.{set-set, length-drop}
+use Rattle.std.proofs.lemmas.List.{set-set}
 use Rattle.std.proofs.lemmas.Nat.{ones-le}
 use Rattle.std.proofs.lemmas.Option.{none-some}
 use lib.Count.{ones_step}
@@ -35,6 +35,7 @@ use Rattle.vax_frames_law.specs.Calling.{IsMask}
 use Rattle.vax_states.proofs.Pieces.{stored_there, stored_below, low_fp, fp_high, holds_kept, hold_kept}
 use Rattle.vax_states.proofs.Touching.{stack_touched, stack_written}
 use Rattle.vax_states.proofs.Standing.{high_top, free_below}
+use Rattle.vax_states.proofs.Popping.{dropped}
 
 plain_set : (m : State) (y : ℕ) → 2139095040 ≤ y → register_set m Sp y ≡ Ok (with_reg m Sp y)
 unfolding register_set
@@ -185,34 +186,6 @@ pub record SameMemory (m n : State) : Type 0 where
   pub stack : n.stack ≡ m.stack
   pub frames : n.frames ≡ m.frames
   pub input : n.input ≡ m.input
-
-get_drop : {A : Type 0} (xs : List A) (n i : ℕ) (v : A) → slice_get (drop n xs) i ≡ Some v → slice_get xs (n + i) ≡ Some v
-get_drop xs zero i v e = let z : 0 + i ≡ i = omega arith in ap (λ (k : ℕ). slice_get xs k) z ∙ e
-get_drop [] (suc n) zero v e = absurd cc
-get_drop [] (suc n) (suc i) v e = absurd cc
-get_drop (x ∷ xs) (suc n) i v e = let z : suc n + i ≡ suc (n + i) = omega arith in ap (λ (k : ℕ). slice_get (x ∷ xs) k) z ∙ get_drop xs n i v e
-
--- arguments that are taken off the stack
-pub dropped : (stack : List ℕ) (f : Frame) (e : Extent) (a : Activation) (low high count : ℕ) → Holds stack f e a low high → count ≤ length a.pushed
-    → Holds stack f e (record a { pushed = drop count a.pushed }) (low + 4 * count) high
-dropped stack f e a low high count h le =
-    let size = length-drop count a.pushed in
-    record {
-      words = omega (arith, h.words, size, le);
-      control = h.control;
-      saved = h.saved;
-      top = h.top;
-      end = h.end;
-      aligned = h.aligned;
-      locals = h.locals;
-      few = h.few;
-      mask = h.mask;
-      count = h.count;
-      argument = h.argument;
-      is_local = h.is_local;
-      local = h.local;
-      pushed = λ i v is. let z : low + 4 * count + 4 * i ≡ low + 4 * (count + i) = omega arith in ap (λ (x : ℕ). long_at stack x) z ∙ h.pushed (count + i) v (get_drop a.pushed count i v is);
-    }
 
 module _ (m : State) (can : CanCall m) (mask count : ℕ) (back : Option ℕ) (few : count < 256) (is_mask : IsMask mask) where
   pub sp_in_stack : reg m Sp ≤ 2139095040 + length m.stack

@@ -3,3 +3,4 @@ pub mod Touching
 pub mod Keeping
 pub mod Standing
 pub mod Law
+pub mod Popping

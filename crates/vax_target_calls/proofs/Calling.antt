@@ -38,6 +38,7 @@ use Rattle.vax_machine_lists.specs.Instructions.{Course, ends, comes, performed}
 use Rattle.vax_machine_lists.specs.Instructions as lists
 use Rattle.vax_states.specs.Agreeing.{HasRoom}
 use Rattle.vax_states.proofs.Standing.{register_kept}
+use Rattle.vax_states.proofs.Popping.{put_acts, set_up, agrees_result, sp_high, agrees_popped, top_read}
 use Rattle.vax_templates.specs.FilledLines.{callee_in, callee_of_att, first_callee, callee_among, function_name, call_of}
 use Rattle.vax_target_meaning.specs.Running.{course_of}
 use Rattle.vax_target_meaning.specs.Vax.{vax, stands}
@@ -47,7 +48,7 @@ use Rattle.vax_target_statements.proofs.Acts.{c, did, IsDeed, statement_ends, ag
 use Rattle.vax_target_statements.proofs.Deeds.{Steps}
 use Rattle.vax_target_statements.proofs.Controls.{token_is}
 use Rattle.vax_target_calls.specs.Laws.{CallsDo}
-use Rattle.vax_target_calls.proofs.Services.{call_instr, call_is, putchar_is, getchar_is, put_acts, set_up, agrees_result, sp_high, agrees_popped, top_read, input_agrees}
+use Rattle.vax_target_calls.proofs.Services.{call_instr, call_is, putchar_is, getchar_is, input_agrees}
 
 -- ---- the callee
 
