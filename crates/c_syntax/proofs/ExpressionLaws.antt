@@ -6,7 +6,6 @@ use Rattle.c_tokens.specs.declared.marks.Mark.TheVariants as marks
 use Rattle.c_phrases.specs.declared.operator.BinaryOperator.{BinaryOperator}
 use Rattle.c_phrases.specs.declared.operator.BinaryOperator.TheVariants as binaries
 use Rattle.c_phrases.specs.declared.tree.Expr.{Expr}
-use Rattle.c_phrases.specs.declared.tree.Expr.TheBlock.{hidden-the_row-Expr-0, items_hidden-the_row-Expr-0}
 use Rattle.c_phrases.specs.declared.tree.Expr.TheVariants.{Call}
 use Rattle.c_phrases.specs.Classes.{Placed, sign}
 use Rattle.c_phrases.specs.Phrases.{AnExp, name, number, str, paren, call, index, step_after, step_before, prefix}
@@ -24,7 +23,7 @@ use Rattle.c_phrases.specs.Shapes.{exp, exp_list}
 use Rattle.c_phrases.specs.Fronts.{Quiet, mark_strength}
 use Rattle.c_phrases.specs.Takes.{NoBinary}
 use Rattle.c_phrases.specs.Fits.{IsSome}
-use Rattle.c_phrases.proofs.Rows.{exps_row_is}
+use Rattle.c_phrases.proofs.Rows.{exp_call}
 use Rattle.c_syntax.proofs.Stops.{quiet_unjoined}
 use Rattle.c_syntax_goals.proofs.PhraseLaws.{lower, binary_strength, level_top, quieter, limit_low}
 use Rattle.c_syntax_goals.specs.Goals.{Want, CallTail}
@@ -33,16 +32,13 @@ use Rattle.c_syntax.specs.Reads.{IsPart, IsRead, IsMore, Ready, ArgumentsSoFar, 
 
 -- a call's arguments as a list
 
-pub call_is : (n : List ℕ) (at o : ℕ) (list : Vec Expr Global) → exp (Call n at o list) ≡ call n at o (exp_list list.items)
-call_is n at o list = ap (call n at o) (exps_row_is _ (hidden-the_row-Expr-0 list) ∙ ap exp_list (items_hidden-the_row-Expr-0 list))
-
 pub call_as : (n m : ℕ) (f : List ℕ) (at o : ℕ) (ts : List Placed) (list : Vec Expr Global) (rest : List Placed) → IsPart n ts (call f at o (exp_list list.items)) rest m
     → IsPart n ts (exp (Call f at o list)) rest m
-call_as n m f at o ts list rest h = subst (λ (x : AnExp). IsPart n ts x rest m) (sym (call_is f at o list)) h
+call_as n m f at o ts list rest h = subst (λ (x : AnExp). IsPart n ts x rest m) (sym (exp_call f at o list)) h
 
 pub call_led : (n m : ℕ) (f : List ℕ) (at o : ℕ) (ts : List Placed) (list : Vec Expr Global) (rest : List Placed)
     → Leads (Want (CallTail f at)) n ts (call f at o (exp_list list.items)) m rest → Leads (Want (CallTail f at)) n ts (exp (Call f at o list)) m rest
-call_led n m f at o ts list rest h = subst (λ (x : AnExp). Leads (Want (CallTail f at)) n ts x m rest) (sym (call_is f at o list)) h
+call_led n m f at o ts list rest h = subst (λ (x : AnExp). Leads (Want (CallTail f at)) n ts x m rest) (sym (exp_call f at o list)) h
 
 -- one more at the end
 abbrev pub exps_end : SomeExps → AnExp → SomeExps

@@ -8,7 +8,6 @@ use Rattle.std.proofs.lemmas.List.{drop_more, nil_from_length}
 use Rattle.std.proofs.lemmas.Option.{slice_get_read, slice_get_past}
 use Rattle.std.specs.Prelude.{nat_lt}
 use Rattle.c_phrases.specs.declared.tree.Expr.{Expr}
-use Rattle.c_phrases.specs.declared.tree.Expr.TheBlock.{hidden-the_row-Expr-0, items_hidden-the_row-Expr-0}
 use Rattle.c_phrases.specs.declared.tree.Expr.TheVariants as exprs
 use Rattle.c_types.specs.declared.types.CType.{CType}
 use Rattle.c_types.specs.declared.fault.TypeFault.{TypeFault}
@@ -26,15 +25,12 @@ use Rattle.c_typed_scope.specs.declared.entry.Signature.{Signature}
 use Rattle.c_typed_scope.specs.Answers.{Turns}
 use Rattle.c_phrases.specs.Phrases.{call}
 use Rattle.c_phrases.specs.Shapes.{exp, exp_list}
-use Rattle.c_phrases.proofs.Rows.{exps_row_is}
+use Rattle.c_phrases.proofs.Rows.{exp_call}
 use Rattle.c_typed_scope.specs.Scopes.{Scope}
 use Rattle.c_typed_scope.specs.Layout.{Area}
 use Rattle.c_typed_expressions.specs.Phrases.{first}
 use Rattle.c_typed_expressions.specs.Calls.{count, callee_of, called, unfit}
 use Rattle.c_typed_expressions.specs.Expressions.{callee, type_exp, type_exps}
-
-pub exp_call : (n : List ℕ) (at opened : ℕ) (es : Vec Expr) → exp (exprs.Call n at opened es) ≡ call n at opened (exp_list es.items)
-exp_call n at opened es = ap (call n at opened) (exps_row_is _ (hidden-the_row-Expr-0 es) ∙ ap exp_list (items_hidden-the_row-Expr-0 es))
 
 pub count_is : (es : List Expr) → count (exp_list es) ≡ length es
 count_is [] = refl
