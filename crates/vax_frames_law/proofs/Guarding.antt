@@ -8,7 +8,7 @@ use Rattle.std.proofs.lemmas.List.{same_from_push}
 use Rattle.std.proofs.lemmas.Option.{same_Some, none-some}
 use Rattle.gg_base.specs.declared.size.Size.TheVariants.{Byte, Long}
 use Rattle.gg_base.specs.Arithmetic.{sub32}
-use Rattle.gg_base.proofs.Facts.{err_ok}
+use Rattle.gg_base.proofs.Facts.{err_ok, ok_same}
 use Rattle.vax_core.specs.declared.register.Reg.TheVariants.{Fp, Sp}
 use Rattle.vax_core.specs.declared.code.Instr.{Instr}
 use Rattle.vax_core.specs.declared.code.CodeItem.{CodeItem}
@@ -38,7 +38,6 @@ use Rattle.vax_machine_lists.specs.Instructions.{Ending, Comes, Goes, Calls, Ret
 use Rattle.vax_machine_lists.proofs.Placed.{Where, there, where_of, ending_there, performed_there}
 use Rattle.vax_machine_lists.proofs.Joining.{OneStep, one_performed}
 use Rattle.vax_machine.specs.Loading.{blank}
-use Rattle.vax_machine.proofs.Room.{same_state}
 use Rattle.vax_frames_law.specs.Guarding.{has, may_pass, IsGuarded, IsIntact, AreIntact, outermost, inner, KeepsRegisters, StepsKeep, ReturnsRestore, CallsSave, RunsBeginIntact}
 use Rattle.vax_machine_lists.specs.Kept.{Same, KeptAt}
 use Rattle.vax_machine_lists.proofs.Registers.{same, trans, register_kept, frames_kept}
@@ -161,7 +160,7 @@ entered_makes k m n ap_at top mask entry back h there done = by (nat_le 4096 (le
 
     by : (b : Bool) → cond b (Err stack_full) (Ok made) ≡ Ok n → Makes k n back
     by true e = absurd (err_ok stack_full n e)
-    by false e = makes n (same_state made n e)
+    by false e = makes n (ok_same made n e)
 
 room_makes : (k : State) (t : Result State Stop) (n : State) (ap_at top mask entry : ℕ) (back : Option ℕ) → AllAfter k t → slice_get k.items entry ≡ Some (item_kind.Mask mask)
     → (t >>= λ (x : State). entered x ap_at top mask (entry + 1) back) ≡ Ok n → Makes k n back

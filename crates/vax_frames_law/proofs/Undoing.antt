@@ -5,7 +5,7 @@ use Rattle.std.specs.Prelude.{slice_get, slice_index, slice_set, nat_lt, nat_le,
 use Rattle.std.specs.Int.RustNames.{count_ones}
 use Rattle.gg_base.specs.declared.size.Size.TheVariants.{Byte, Long}
 use Rattle.gg_base.specs.Arithmetic.{add32, sub32, mul32}
-use Rattle.gg_base.proofs.Facts.{err_ok}
+use Rattle.gg_base.proofs.Facts.{err_ok, ok_same}
 use Rattle.vax_core.specs.declared.register.Reg.TheVariants.{Ap, Fp, Sp}
 use Rattle.vax_machine_live.specs.declared.frame.Frame.{Frame}
 use Rattle.vax_machine.specs.declared.turn.Stop.{Stop}
@@ -15,7 +15,6 @@ use Rattle.vax_machine.specs.State.{State, reg, with_reg, cleared, frame, bad_co
 use Rattle.vax_machine.specs.Memory.{touched, read, written, register_set, with_number_at}
 use Rattle.vax_machine.specs.Labels.{next_item}
 use Rattle.vax_machine.specs.Calls.{pushed, reserved, all_reserved, entry_mask, entered, framed, called, back_to, left, returned}
-use Rattle.vax_machine.proofs.Room.{same_state}
 use Rattle.vax_frames_law.specs.Undoing.{Notes, CallsNote, ReturnsUndo}
 use Rattle.vax_frames_law.proofs.Returning.{innermost_of, some_acts}
 
@@ -139,7 +138,7 @@ entered_notes m k n at top mask behind back low size is done = by (nat_le 4096 (
 
     by : (b : Bool) → cond b (Err stack_full) (Ok made) ≡ Ok n → Notes m n back
     by true e = absurd (err_ok stack_full n e)
-    by false e = notes n (same_state made n e)
+    by false e = notes n (ok_same made n e)
 
 room_notes : (m : State) (t : Result State Stop) (n : State) (at top mask behind : ℕ) (back : Option ℕ) → After m t → length m.registers ≡ 15 → at ≡ sub32 (reg m Sp) 4
     → (t >>= λ (x : State). entered x at top mask behind back) ≡ Ok n → Notes m n back

@@ -1,8 +1,9 @@
 -- How a data area grows as its items are laid out.
 use Rattle.std.proofs.Common.{◌≡◌, ℕ, ◌+◌, ◌<◌, ◌≤◌, List, [], ◌∷◌, ◌++◌, length, drop, get_or, true, refl, sym, ap, ◌∙◌, arith, append_assoc, length-append}
-use Rattle.std.proofs.lemmas.List.{drop_more, length-replicate}
+use Rattle.std.proofs.lemmas.List.{length-replicate}
 use Rattle.std.proofs.lemmas.Bool.{and_parts}
 use Rattle.std.specs.List.{list_all}
+use Rattle.gg_base.proofs.Facts.{front_is}
 use Rattle.vax_core.specs.Valid.{is_area_item}
 use Rattle.vax_core.specs.declared.code.AreaItem.{AreaItem}
 use Rattle.vax_core.specs.declared.code.AreaItem.TheVariants as areas
@@ -16,7 +17,7 @@ end_grows (item ∷ rest) at = omega (arith, end_grows rest (at + size_at item a
 pub ends_inside : (items : List AreaItem) (i at : ℕ) (item : AreaItem) → i < length items → item ≡ get_or items i item → end_from (drop i items) at ≡ end_from items 65536 → at
     + size_at item at ≤ end_from items 65536
 ends_inside items i at item lt is h =
-    let front : drop i items ≡ item ∷ drop (i + 1) items = drop_more items i item lt ∙ ap (λ x. x ∷ drop (i + 1) items) (sym is) in
+    let front = front_is items i item lt is in
     let e : end_from (drop (i + 1) items) (at + size_at item at) ≡ end_from items 65536 = sym (ap (λ (l : List AreaItem). end_from l at) front) ∙ h in
     omega (arith, e, end_grows (drop (i + 1) items) (at + size_at item at))
 
@@ -38,9 +39,6 @@ length-item_bytes layout (areas.Long a) at = refl
 length-item_bytes layout (areas.Space n) at = length-zeros n
 
 -- one item more is laid out
-pub front_is : (items : List AreaItem) (i : ℕ) (item : AreaItem) → i < length items → item ≡ get_or items i item → drop i items ≡ item ∷ drop (i + 1) items
-front_is items i item lt is = drop_more items i item lt ∙ ap (λ x. x ∷ drop (i + 1) items) (sym is)
-
 pub bytes_more : (layout items : List AreaItem) (i at size : ℕ) (item : AreaItem) (old new total : List ℕ) → drop i items ≡ item ∷ drop (i + 1) items → size ≡ size_at item at → new ≡ old
     ++ item_bytes layout item at
     → old ++ bytes_from layout (drop i items) at ≡ total → new ++ bytes_from layout (drop (i + 1) items) (at + size) ≡ total

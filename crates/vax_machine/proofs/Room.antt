@@ -5,7 +5,7 @@ use Rattle.std.specs.Prelude.{nat_lt, nat_le, ◌&&◌, ◌||◌}
 use Rattle.std.proofs.lemmas.Bool.{ltb-true, ltb-false, and_parts, leb-true, or_parts, false_from_ne_true}
 use Rattle.gg_base.specs.declared.size.Size.TheVariants.{Long}
 use Rattle.gg_base.specs.Arithmetic.{sub32}
-use Rattle.gg_base.proofs.Facts.{err_ok}
+use Rattle.gg_base.proofs.Facts.{err_ok, ok_same}
 use Rattle.vax_core.specs.declared.register.Reg.TheVariants.{Sp}
 use Rattle.vax_machine_live.specs.declared.frame.Frame.{Frame}
 use Rattle.vax_machine_live.specs.Control.{overlaps, in_control}
@@ -49,9 +49,6 @@ record Reserved (m n : State) (count : ℕ) : Type 0 where
   high : 0 < count → reg m Sp ≤ 2147483648
   free : (address : ℕ) → reg n Sp ≤ address → address < reg m Sp → in_control m.frames address 1 ≡ false
 
-pub same_state : (m n : State) → ◌≡◌ {A = Result State Stop} (Ok m) (Ok n) → m ≡ n
-same_state m n e = cc
-
 -- sp as it was set
 set_sp : (m n : State) (v : ℕ) → IsWhole m → register_set m Sp v ≡ Ok n → (2139095040 ≤ v) × (n ≡ with_reg m Sp v)
 unfolding register_set
@@ -59,7 +56,7 @@ set_sp m n v whole e = by (nat_lt v 2139095040) refl e
   where
     by : (b : Bool) → nat_lt v 2139095040 ≡ b → cond b (Err stack_full) (Ok (with_reg m Sp v)) ≡ Ok n → (2139095040 ≤ v) × (n ≡ with_reg m Sp v)
     by true h e = absurd (err_ok stack_full n e)
-    by false h e = (ltb-false v 2139095040 h, sym (same_state (with_reg m Sp v) n e))
+    by false h e = (ltb-false v 2139095040 h, sym (ok_same (with_reg m Sp v) n e))
 
 sp_is : (m : State) (v : ℕ) → IsWhole m → reg (with_reg m Sp v) Sp ≡ v
 sp_is m v whole =
@@ -109,7 +106,7 @@ one_by m k sp (Ok n) whole low fits is set done = by (touched n sp Long) refl do
         let s = set_sp m n sp whole set in
         let lowered : sp + 4 ≡ reg m Sp = omega (arith, is, low, fits, s.0) in
         let t : Touchable m.frames sp = touchable (with_reg m Sp sp) sp r (still_whole m sp whole) s.0 (ap (λ (x : State). touched x sp Long) (sym s.1) ∙ touch) in
-        let is_k : with_reg m Sp sp ≡ k = sym s.1 ∙ same_state n k done in
+        let is_k : with_reg m Sp sp ≡ k = sym s.1 ∙ ok_same n k done in
         subst (λ (x : State). Reserved m x 1) is_k (record {
           frames = refl;
           whole = still_whole m sp whole;
@@ -149,7 +146,7 @@ all_by m n count (Ok k) whole low fits one done rest =
     further m k n count r (rest k r.whole r.low (omega (arith, lowered, fits)) done)
 
 all_are : (count : ℕ) (m n : State) → IsWhole m → 2139095040 ≤ reg m Sp → reg m Sp < 4294967296 → all_reserved count m ≡ Ok n → Reserved m n count
-all_are zero m n whole low fits e = subst (λ (x : State). Reserved m x 0) (same_state m n e) none
+all_are zero m n whole low fits e = subst (λ (x : State). Reserved m x 0) (ok_same m n e) none
   where
     none : Reserved m m 0
     none = record {

@@ -1,5 +1,6 @@
 use Rattle.std.proofs.Common.{arith}
-use Rattle.vax_machine.proofs.LayoutLaws.{ends_inside, front_is, bytes_more, end_more, valid_more, long_more}
+use Rattle.gg_base.proofs.Facts.{front_is}
+use Rattle.vax_machine.proofs.LayoutLaws.{ends_inside, bytes_more, end_more, valid_more, long_more}
 use Rattle.vax_machine.specs.Area.{bytes_from, end_from}
 use Rattle.vax_machine.proofs.area.Laid.area_bytes.Goals as goal
 
