@@ -1,9 +1,9 @@
 -- What a rule looks like that the toy machine takes.
 use Rattle.std.proofs.Common.{◌≡◌, ℕ, List, [], ◌∷◌, Option, Some, None, Bool, true, false, refl, sym, ap, ◌∙◌}
-use Rattle.std.specs.Prelude.{Result, Ok, Err}
+use Rattle.std.specs.Prelude.{Ok, Err}
 use Rattle.std.proofs.lemmas.Option.{none-some, same_Some}
 use Rattle.std.proofs.lemmas.Bool.{false≢true}
-use Rattle.gg_base.proofs.Facts.{err_ok}
+use Rattle.gg_base.proofs.Facts.{err_ok, ok_same}
 use Rattle.md_reader_pieces.specs.declared.piece.Line.{Line}
 use Rattle.md_reader.specs.declared.types.Class.{Class}
 use Rattle.md_reader.specs.declared.types.Give.{Give}
@@ -11,7 +11,6 @@ use Rattle.md_reader.specs.declared.types.Give.TheVariants as give
 use Rattle.md_reader.specs.declared.types.Rule.{Rule}
 use Rattle.md_reader.specs.Patterns.{kind_at}
 use Rattle.sel_terms.specs.Effects.{EffectShape}
-use Rattle.sel_target.specs.Meaning.{Fault}
 use Rattle.sel_toy_machine.specs.declared.form.Form.{Form}
 use Rattle.sel_toy_machine.specs.Forms.{form_of, shape_of}
 use Rattle.sel_toy_machine.specs.Templates.{or_fault, fault_at, where_true, gives_register, gives_nothing, found_form, found_line, found_shape, found_rule, effect}
@@ -20,9 +19,6 @@ use Rattle.sel_toy_machine.specs.Templates.{or_fault, fault_at, where_true, give
 pub data Taken (classes : List Class) (rule : Rule) (e : EffectShape) : Type 0 where
   by_line : (l : Line) (f : Form) → rule.lines ≡ l ∷ [] → form_of l.pieces ≡ Some f → found_form classes rule f ≡ Some e → Taken classes rule e
   by_shape : (l : Line) → rule.lines ≡ [] → rule.give ≡ give.Shape l → found_shape classes rule.right (kind_at classes rule.left) (shape_of l.pieces) ≡ Some e → Taken classes rule e
-
-ok_same : (x y : EffectShape) → ◌≡◌ {A = Result EffectShape Fault} (Ok x) (Ok y) → x ≡ y
-ok_same x y h = cc
 
 pub or_ok : (line : ℕ) (o : Option EffectShape) (e : EffectShape) → or_fault line o ≡ Ok e → o ≡ Some e
 or_ok line None e h = absurd (err_ok (fault_at line) e h)
