@@ -1,6 +1,7 @@
 -- A declaration or statement of a slice, and those behind it.
-use Rattle.std.proofs.Common.{◌≡◌, ◌<◌, ◌≤◌, ◌+◌, ◌-◌, suc, ℕ, List, ◌∷◌, length, take, drop, get_or, map, arith, ap, sym, ◌∙◌, length-drop}
-use Rattle.std.proofs.Math.Seq.{take-length, drop-cons}
+use Rattle.std.proofs.Common.{◌≡◌, ◌<◌, ◌≤◌, ◌+◌, ◌-◌, ℕ, List, ◌∷◌, length, take, drop, get_or, map, arith, ap, sym, ◌∙◌, length-drop}
+use Rattle.std.proofs.Math.Seq.{take-length}
+use Rattle.gg_base.proofs.Facts.{front_is}
 use Rattle.c_program.specs.declared.statement.Declaration.{Declaration}
 use Rattle.c_program.specs.declared.statement.Action.{Action}
 use Rattle.c_program.specs.Statements.{declaration, act, acts, SomeActions}
@@ -13,18 +14,13 @@ use Rattle.c_lower_code.proofs.Rows.{declare_goes, two_assoc}
 slice_is : {A : Type 0} (n : ℕ) (xs : List A) → take (length xs - n) (drop n xs) ≡ drop n xs
 slice_is n xs = ap (λ k. take k (drop n xs)) (sym (length-drop n xs)) ∙ take-length (drop n xs)
 
-split_is : {A : Type 0} (xs : List A) (i : ℕ) (x : A) → i < length xs → x ≡ get_or xs i x → drop i xs ≡ x ∷ drop (i + 1) xs
-split_is xs i x lt is =
-    let next : suc i ≡ i + 1 = omega arith in
-    drop-cons xs i x lt ∙ ap (λ y. y ∷ drop (suc i) xs) (sym is) ∙ ap (λ n. x ∷ drop n xs) next
-
 module _ (size count : ℕ) where
   pub declare_on : (w one next whole : Emitted) (xs : List Declaration) (i : ℕ) (d : Declaration) (rest : SomeActions) → i < length xs → d ≡ get_or xs i d
       → two_done w (declare size count (map declaration (drop i xs)) rest w.labels) ≡ whole
       → one ≡ one_declared size count (declaration d) (map declaration (take (length xs - (i + 1)) (drop (i + 1) xs))) rest w.labels → next ≡ two_done w one
       → two_done next (declare size count (map declaration (drop (i + 1) xs)) rest next.labels) ≡ whole
   declare_on w one next whole xs i d rest lt at so is put =
-      let split = split_is xs i d lt at in
+      let split = front_is xs i d lt at in
       let back = slice_is (i + 1) xs in
       declare_goes size count w one next whole (declaration d) (map declaration (drop (i + 1) xs)) rest
       (sym (ap (λ x. two_done w (declare size count (map declaration x) rest w.labels)) split) ∙ so)
@@ -43,7 +39,7 @@ module _ (size count : ℕ) where
       → one ≡ lower size count (act a) (acts (take (length xs - (i + 1)) (drop (i + 1) xs))) lb lc w.labels → next ≡ two_done w one
       → two_done next (lower_row size count (acts (drop (i + 1) xs)) lb lc next.labels) ≡ whole
   row_goes w one next whole xs i a lb lc lt at so is put =
-      let split = split_is xs i a lt at in
+      let split = front_is xs i a lt at in
       let back = slice_is (i + 1) xs in
       row_on w one next whole (drop (i + 1) xs) a lb lc
       (sym (ap (λ x. two_done w (lower_row size count (acts x) lb lc w.labels)) split) ∙ so)
