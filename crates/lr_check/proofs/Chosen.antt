@@ -1,6 +1,7 @@
 -- The loop over the candidates.
 use Rattle.std.proofs.Common.{◌≡◌, ℕ, ◌+◌, ◌≤◌, ◌<◌, List, ◌∷◌, Some, None, Bool, true, false, cond, length, get_or, drop, slice_get, sym, ap, ◌∙◌, subst}
-use Rattle.std.proofs.lemmas.List.{drop_more, drop_all}
+use Rattle.std.proofs.lemmas.List.{drop_all}
+use Rattle.gg_base.proofs.Facts.{front_is}
 use Rattle.md_reader.specs.declared.types.Rule.{Rule}
 use Rattle.lr_tables.specs.declared.types.Choice.{Choice}
 use Rattle.lr_tables.specs.declared.types.Choice.TheVariants as choice
@@ -15,7 +16,7 @@ module _ (rules : List Rule) (nodes : List Node) (cs : List Choice) (start : Lis
 
   here : (x : Choice) → i < length cs → x ≡ get_or cs i x → chosen rules nodes (x ∷ drop (i + 1) cs) s ≡ chosen rules nodes cs start
   here x lt e =
-      let there : drop i cs ≡ x ∷ drop (i + 1) cs = drop_more cs i x lt ∙ ap (λ (y : Choice). y ∷ drop (i + 1) cs) (sym e) in
+      let there = front_is cs i x lt e in
       sym (ap (λ (y : List Choice). chosen rules nodes y s) there) ∙ inv
 
   at : (x y : Choice) → i < length cs → x ≡ get_or cs i x → x ≡ y → chosen rules nodes (y ∷ drop (i + 1) cs) s ≡ chosen rules nodes cs start
