@@ -1,8 +1,7 @@
 -- Tables meet what the laws ask of an automaton.
-use Rattle.std.proofs.Common.{◌≡◌, ℕ, suc, ◌<◌, List, [], ◌∷◌, ◌++◌, Option, Some, Contains, length, slice_get, reverse, refl, sym, ap, ◌∙◌, subst}
+use Rattle.std.proofs.Common.{◌≡◌, ℕ, ◌<◌, Some, Contains, length, slice_get, reverse, sym, subst}
 use Rattle.tree_core.specs.declared.token.Tok.TheVariants as tok
 use Rattle.md_reader.specs.declared.types.Rule.{Rule}
-use Rattle.md_reader.specs.declared.types.Sym.{Sym}
 use Rattle.md_reader.specs.declared.types.Sym.TheVariants as grammar_symbol
 use Rattle.md_reader.specs.Valid.{IsRule, IsValid}
 use Rattle.lr_tables.specs.Statements.{stmt_of}
@@ -10,7 +9,7 @@ use Rattle.lr_tables.specs.Grammar.{IsGrammar}
 use Rattle.lr_tables.specs.View.{TableView}
 use Rattle.lr_tables.specs.Leads.{actions_at}
 use Rattle.lr_tables.specs.Promises.{IsNumbered}
-use Rattle.lr_tables.proofs.Law.{candidates}
+use Rattle.lr_tables.proofs.Law.{candidates, leads_on, stands_from}
 use Rattle.lr_tables.proofs.Validity.{is_grammar, rule_at}
 use Rattle.lr_check_sets.specs.Automaton.{Production}
 use Rattle.lr_check_sets.specs.Items.{IsAutomatonOf, HasNoEnd, HasNoEmpty}
@@ -20,7 +19,7 @@ use Rattle.lr_check_sets.specs.Exact.{TablesMeetLaws}
 use Rattle.lr_check_sets.specs.Table.{production, productions, candidates_at, automaton_of}
 use Rattle.lr_check_sets.proofs.Links.{of_productions}
 use Rattle.lr_check_sets.proofs.Patterned.{tree_of}
-use Rattle.lr_check_sets.proofs.Rows.{leads_on, stands_from, item_before, stands, are_candidates, leads, slice_at}
+use Rattle.lr_check_sets.proofs.Rows.{item_before, stands, are_candidates, leads, slice_at}
 
 module _ (t : TableView) (v : IsValid t.content) (b : IsNumbered t) where
   grammar : IsGrammar t.content.rules (stmt_of t.content.classes) (length t.content.classes)

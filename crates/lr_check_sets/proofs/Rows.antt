@@ -1,13 +1,8 @@
 -- The automaton of tables is that of the description's rules.
-use Rattle.std.proofs.Common.{◌≡◌, ◌⊎◌, ℕ, zero, suc, ◌+◌, ◌≤◌, ◌<◌, List, [], ◌∷◌, ◌++◌, Option, Some, None, Contains, length, get_or, map, drop, slice_get, refl, sym, ap, ◌∙◌}
+use Rattle.std.proofs.Common.{◌≡◌, ◌⊎◌, ℕ, zero, suc, ◌+◌, List, [], ◌∷◌, ◌++◌, Option, Some, None, Contains, length, get_or, map, drop, slice_get, refl, sym, ap, ◌∙◌}
 use Rattle.std.proofs.Common.{subst, inl, inr, ⊎_elim, arith}
-use Rattle.std.specs.Prelude.{AllPairs, position}
-use Rattle.std.specs.List.{range_with_len}
-use Rattle.std.specs.Option.{option_map}
-use Rattle.std.proofs.lemmas.List.FromFn.{get_or-map-range_with_len, length-map-range_with_len}
-use Rattle.std.proofs.lemmas.List.{get_or_past}
-use Rattle.std.proofs.lemmas.Option.{slice_get-map, slice_get_within, slice_get-get_or, get_or_from_slice_get, same_Some, none-some}
-use Rattle.std.proofs.lemmas.Bool.{cases_lt}
+use Rattle.std.specs.Prelude.{AllPairs}
+use Rattle.std.proofs.lemmas.Option.{slice_get_within, slice_get-get_or, get_or_from_slice_get, same_Some, none-some}
 use Rattle.tree_core.specs.declared.token.Tok.{Tok}
 use Rattle.tree_core.specs.declared.token.Tok.TheVariants as tok
 use Rattle.md_reader.specs.declared.types.Rule.{Rule}
@@ -17,28 +12,19 @@ use Rattle.md_reader.specs.State.{Content}
 use Rattle.lr_tables.specs.declared.item.Item.{Item}
 use Rattle.lr_tables.specs.declared.types.Choice.{Choice}
 use Rattle.lr_tables.specs.declared.types.Choice.TheVariants as choice
-use Rattle.lr_tables.specs.Symbols.{symbol_number}
-use Rattle.lr_tables.specs.Items.{next, start, advanced, right_at, right_of}
+use Rattle.lr_tables.specs.Items.{right_at, right_of}
 use Rattle.lr_tables.specs.Grammar.{IsGrammar}
-use Rattle.lr_tables.specs.Sets.{chains, item_set, moved}
-use Rattle.lr_tables.specs.Kernels.{kernel_at}
-use Rattle.lr_tables.specs.Numbering.{same_kernel, found}
-use Rattle.lr_tables.specs.Rows.{target_of, targets_of, row_of}
 use Rattle.lr_tables.specs.View.{RowView, TableView}
 use Rattle.lr_tables.specs.Built.{IsRows}
-use Rattle.lr_tables.specs.Leads.{target_in, target_at, actions_at, Leads, nowhere, further}
+use Rattle.lr_tables.specs.Leads.{Leads, nowhere, further}
 use Rattle.lr_tables.specs.Candidates.{StandsBefore, MayReduce, GoesFirst, Candidates, accepts, shifts, reduces}
 use Rattle.lr_tables.specs.Candidates as tables
-use Rattle.lr_tables.proofs.Members.{In, In-Contains, Contains-In}
-use Rattle.lr_tables.proofs.Closing.{set_valid, valid_set, moved_there, moved_only}
-use Rattle.lr_tables.proofs.Found.{position_there, position_is, found_complete, head_in, in_some, symbol_within}
-use Rattle.lr_tables.proofs.Loops.{target_some}
-use Rattle.lr_tables.proofs.Law.{leads_kernel, candidates}
-use Rattle.lr_check_sets.specs.Automaton.{Production, Candidate, shift, reduce, Automaton, walk, go_from, size_of}
+use Rattle.lr_tables.proofs.Members.{In, In-Contains}
+use Rattle.lr_check_sets.specs.Automaton.{Production, Candidate, reduce, walk, go_from, size_of}
 use Rattle.lr_check_sets.specs.Items as model
-use Rattle.lr_check_sets.specs.Items.{AreCandidates, the_shift, the_reductions, AreReductions, IsLongestFirst, IsAutomatonOf}
-use Rattle.lr_check_sets.specs.Table.{production, productions, reduced_by, candidates_of, candidates_at, automaton_of}
-use Rattle.lr_check_sets.proofs.Links.{drop_whole, Is, is_next, is_rest, is_of, in_productions, To, to, From, from}
+use Rattle.lr_check_sets.specs.Items.{AreCandidates, the_shift, the_reductions, AreReductions, IsLongestFirst}
+use Rattle.lr_check_sets.specs.Table.{production, productions, reduced_by, candidates_of, automaton_of}
+use Rattle.lr_check_sets.proofs.Links.{drop_whole, is_next, is_rest, is_of, in_productions, to, from}
 
 -- the productions of rules by number
 abbrev pub rule_of : Option Rule → List Production
@@ -102,69 +88,6 @@ pub at_contains : {X : Type 0} (xs : List X) (k : ℕ) (x : X) → slice_get xs 
 at_contains xs k x e = (k, slice_get_within xs k x e, get_or_from_slice_get xs k x x e)
 
 module _ (rules : List Rule) (stmt classes : ℕ) (g : IsGrammar rules stmt classes) (content : Content) (rows : List RowView) (b : IsRows rules stmt classes rows) where
-  -- the row of a state
-  row_at : (q : ℕ) (k : List Item) → slice_get (found rules stmt classes (length rows)) q ≡ Some k → slice_get rows q ≡ Some (row_of rules stmt classes (found rules stmt classes (length rows)) k)
-  row_at q k e = ap (λ (x : List RowView). slice_get x q) b.each ∙ (slice_get-map (row_of rules stmt classes (found rules stmt classes (length rows)))
-      (found rules stmt classes (length rows)) q ∙ ap (option_map (row_of rules stmt classes (found rules stmt classes (length rows)))) e)
-
-  -- where a kernel's row leads
-  target_is : (k : List Item) (s : ℕ) → s < 40 + classes → get_or (row_of rules stmt classes (found rules stmt classes (length rows)) k).targets s None ≡ target_of
-      (found rules stmt classes (length rows)) (moved rules stmt s (item_set rules stmt classes (chains rules) k))
-  unfolding row_of targets_of
-  target_is k s lt = get_or-map-range_with_len (λ (m : ℕ). target_of (found rules stmt classes (length rows)) (moved rules stmt m (item_set rules stmt classes (chains rules) k))) 0
-      (40 + classes) s s None lt (omega arith)
-
-  target_past : (k : List Item) (s : ℕ) → 40 + classes ≤ s → get_or (row_of rules stmt classes (found rules stmt classes (length rows)) k).targets s None ≡ None
-  unfolding row_of targets_of
-  target_past k s le =
-      let F = λ (m : ℕ). target_of (found rules stmt classes (length rows)) (moved rules stmt m (item_set rules stmt classes (chains rules) k)) in
-      let l : length (map F (range_with_len 0 (40 + classes))) ≡ 40 + classes = length-map-range_with_len F 0 (40 + classes) in
-      get_or_past (map F (range_with_len 0 (40 + classes))) s None (omega (arith, l, le))
-
-  target_kernel : (k : List Item) (p : ℕ) → target_of (found rules stmt classes (length rows)) k ≡ Some p → (0 < length k) × (slice_get (found rules stmt classes (length rows)) p ≡ Some k)
-  target_kernel [] p e = absurd (none-some p e)
-  target_kernel (i ∷ k) p e = (omega arith, position_is (found rules stmt classes (length rows)) (i ∷ k) p e)
-
-  -- a state over a symbol, from the state of a stack
-  over : (a : List Sym) (q p : ℕ) (X : Sym) → slice_get (found rules stmt classes (length rows)) q ≡ Some (kernel_at rules stmt classes a) →
-      target_at (record { content = content; rows = rows }) q X ≡ Some p →
-      (0 < length (kernel_at rules stmt classes (X ∷ a))) × (slice_get (found rules stmt classes (length rows)) p ≡ Some (kernel_at rules stmt classes (X ∷ a)))
-  over a q p X at e =
-      let k = kernel_at rules stmt classes a in
-      let f : get_or (row_of rules stmt classes (found rules stmt classes (length rows)) k).targets (symbol_number X) None ≡ Some p = ap (λ (o : Option RowView). target_in o (symbol_number X))
-      (sym (row_at q k at)) ∙ e in
-      ⊎_elim
-      (λ lt. target_kernel (kernel_at rules stmt classes (X ∷ a)) p (sym (target_is k (symbol_number X) lt) ∙ f))
-      (λ ge. absurd (none-some p (sym (target_past k (symbol_number X) ge) ∙ f)))
-      (cases_lt (symbol_number X) (40 + classes))
-
-  -- where an item stands before the symbol, the state leads on
-  pub leads_on : (a : List Sym) (q : ℕ) (X : Sym) → Leads (record { content = content; rows = rows }) a q → StandsBefore rules stmt a X →
-      (p : ℕ) × (target_at (record { content = content; rows = rows }) q X ≡ Some p)
-  leads_on a q X l s =
-      let k = kernel_at rules stmt classes a in
-      let next_kernel = kernel_at rules stmt classes (X ∷ a) in
-      let at : slice_get (found rules stmt classes (length rows)) q ≡ Some k = leads_kernel rules stmt classes g content rows b l in
-      let there : In (advanced s.item) next_kernel = moved_there rules stmt classes g X (item_set rules stmt classes (chains rules) k) s.item (valid_set rules stmt classes g s.valid) s.before in
-      let some : 0 < length next_kernel = in_some next_kernel (advanced s.item) there in
-      let p : (n : ℕ) × (position (same_kernel next_kernel) (found rules stmt classes (length rows)) ≡ Some n) = position_there (found rules stmt classes (length rows)) next_kernel
-      (found_complete rules stmt classes g (length rows) (let m = b.many in omega (arith, m)) (X ∷ a) some) in
-      let lt : symbol_number X < 40 + classes = symbol_within rules stmt classes g s.item X s.before in (
-        p.0,
-        ap (λ (o : Option RowView). target_in o (symbol_number X)) (row_at q k at) ∙
-            (target_is k (symbol_number X) lt ∙ (target_some (found rules stmt classes (length rows)) next_kernel some ∙ p.1)),
-      )
-
-  pub stands_from : (a : List Sym) (q p : ℕ) (X : Sym) → Leads (record { content = content; rows = rows }) a q → target_at (record { content = content; rows = rows }) q X ≡ Some p →
-      StandsBefore rules stmt a X
-  stands_from a q p X l e =
-      let o = over a q p X (leads_kernel rules stmt classes g content rows b l) e in
-      let h : (i : Item) × In i (kernel_at rules stmt classes (X ∷ a)) = head_in (kernel_at rules stmt classes (X ∷ a)) o.0 in
-      let m : (i : Item) × In i (item_set rules stmt classes (chains rules)
-      (kernel_at rules stmt classes a)) × (next rules stmt i ≡ Some X) × (h.0 ≡ advanced i) = moved_only rules stmt classes g X
-      (item_set rules stmt classes (chains rules) (kernel_at rules stmt classes a)) h.0 h.1 in
-      record { item = m.0; valid = set_valid rules stmt classes g a m.0 m.1; before = m.2 }
-
   -- an item before a symbol, over productions
   pub item_before : {a : List Sym} {X : Sym} → StandsBefore rules stmt a X → (r : Production) × ((after : List Sym) × model.Item (productions rules) stmt a r (X ∷ after))
   item_before {a = a} {X = X} s =

@@ -15,20 +15,20 @@ use Rattle.lr_tables.specs.View.{TableView}
 use Rattle.lr_tables.specs.Promises.{IsNumbered}
 use Rattle.lr_tables.specs.Leads.{actions_at}
 use Rattle.lr_tables.specs.Candidates.{StandsBefore, AreReductions, Candidates, accepts, shifts, reduces}
-use Rattle.lr_tables.proofs.Law.{candidates}
+use Rattle.lr_tables.proofs.Law.{candidates, leads_on}
 use Rattle.lr_tables.proofs.Validity.{is_grammar}
 use Rattle.lr_check_sets.specs.Automaton as model
 use Rattle.lr_check_sets.specs.Automaton.{shift, reduce, walk, Free, IsTable}
 use Rattle.lr_check_sets.specs.Bound.{Within, accepted, steps}
 use Rattle.lr_check_sets.specs.Table.{production, productions, candidates_of, candidates_at, automaton_of}
 use Rattle.lr_check_sets.specs.Exact.{MeetsLaws}
-use Rattle.lr_check_sets.proofs.Rows.{rules_of, candidates_are, leads, leads_on}
+use Rattle.lr_check_sets.proofs.Rows.{rules_of, candidates_are, leads}
 use Rattle.lr_check_sets.proofs.Tables.{table_of_items}
 use Rattle.lr_check_sets.proofs.Meeting.{tables_meet_laws}
 use Rattle.lr_check.specs.declared.sample.Outcome.{Outcome}
 use Rattle.lr_check.specs.Tree.{Token}
 use Rattle.lr_check.specs.Parse as parse
-use Rattle.lr_check.specs.Parse.{Part, symbols, coming, asked, Takes, nothing, unrestricted, answered_yes, answered_no, Reduction, Ends}
+use Rattle.lr_check.specs.Parse.{Part, symbols, coming, Takes, nothing, unrestricted, answered_yes, answered_no, Reduction, Ends}
 use Rattle.lr_check.proofs.Only.{reductions_same, not_shifted}
 use Rattle.lr_check.proofs.Parts.{symbols_used}
 use Rattle.lr_check_law.proofs.Law.{toks, coming-is, is_first, asks_more}

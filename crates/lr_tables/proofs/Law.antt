@@ -192,7 +192,7 @@ module _ (rules : List Rule) (stmt classes : ℕ) (g : IsGrammar rules stmt clas
   leads_kernel (further {a = a} {q = q} {p = p} {X = X} l e) = (over a q p X (leads_kernel l) e).1
 
   -- where an item stands before the symbol, the state leads on
-  leads_on : (a : List Sym) (q : ℕ) (X : Sym) → Leads (record { content = content; rows = rows }) a q → StandsBefore rules stmt a X → (p : ℕ)
+  pub leads_on : (a : List Sym) (q : ℕ) (X : Sym) → Leads (record { content = content; rows = rows }) a q → StandsBefore rules stmt a X → (p : ℕ)
       × (target_at (record { content = content; rows = rows }) q X ≡ Some p)
   leads_on a q X l s =
       let k = kernel_at rules stmt classes a in
@@ -208,7 +208,7 @@ module _ (rules : List Rule) (stmt classes : ℕ) (g : IsGrammar rules stmt clas
             ∙ (target_is k (symbol_number X) lt ∙ (target_some (found rules stmt classes (length rows)) next_kernel some ∙ p.1)),
       )
 
-  stands_from : (a : List Sym) (q p : ℕ) (X : Sym) → Leads (record { content = content; rows = rows }) a q → target_at (record { content = content; rows = rows }) q X ≡ Some p
+  pub stands_from : (a : List Sym) (q p : ℕ) (X : Sym) → Leads (record { content = content; rows = rows }) a q → target_at (record { content = content; rows = rows }) q X ≡ Some p
       → StandsBefore rules stmt a X
   stands_from a q p X l e =
       let o = over a q p X (leads_kernel l) e in
