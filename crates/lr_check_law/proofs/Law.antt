@@ -1,9 +1,8 @@
 -- Where the parse ends for all answers, the parse with answers accepts, and no stack comes twice without a shift between.
-use Rattle.std.proofs.Common.{◌≡◌, ℕ, zero, suc, ◌+◌, ◌-◌, ◌<◌, List, [], ◌∷◌, ◌++◌, Option, Some, None, Bool, true, false, Contains, length, map, drop, slice_get, refl}
+use Rattle.std.proofs.Common.{◌≡◌, ℕ, zero, suc, ◌+◌, ◌-◌, ◌<◌, List, [], ◌∷◌, Option, Some, None, Bool, true, false, Contains, length, map, drop, slice_get, refl}
 use Rattle.std.proofs.Common.{sym, ap, ◌∙◌, subst, inl, inr, arith}
 use Rattle.std.proofs.lemmas.List.{drop-map}
-use Rattle.std.proofs.lemmas.Bool.{eqb-true, false≢true}
-use Rattle.std.specs.Prelude.{◌==◌, if◌then◌else◌}
+use Rattle.std.proofs.lemmas.Bool.{false≢true}
 use Rattle.std.proofs.lemmas.Option.{same_Some}
 use Rattle.gg_base.proofs.Facts.{some_none, head_same, tail_same}
 use Rattle.tree_core.specs.declared.token.Tok.{Tok}
@@ -25,7 +24,7 @@ use Rattle.lr_tables.proofs.Validity.{is_grammar}
 use Rattle.lr_check_sets.specs.Automaton as model
 use Rattle.lr_check_sets.specs.Automaton.{Production, Candidate, shift, reduce, walk, Free, CanBlock, IsTable}
 use Rattle.lr_check_sets.specs.Table.{production, candidates_of, candidates_at, automaton_of, productions}
-use Rattle.lr_check_sets.proofs.Rows.{rule_of, rules_of, candidates_are, leads}
+use Rattle.lr_check_sets.proofs.Rows.{rules_of, candidates_are, leads, is_first, asks_more}
 use Rattle.lr_check_sets.proofs.Tables.{table_of_items}
 use Rattle.lr_check_sets.proofs.Bound.{Path, done, next, circle, no_circle}
 use Rattle.lr_check_sets.proofs.Ends_within.{final, tops}
@@ -68,9 +67,6 @@ record Picks (rules : List Rule) (ns : List ℕ) (s : List Part) : Type 0 where
   free : (n : ℕ) → taken ≡ Some n → (r : Rule) × ((slice_get rules n ≡ Some r) × Free (map reduce (rules_of rules ns)) (reduce (production r)))
 
 module _ (rules : List Rule) where
-  pub is_first : (n : ℕ) (r : Rule) → slice_get rules n ≡ Some r → (ns : List ℕ) → rules_of rules (n ∷ ns) ≡ production r ∷ rules_of rules ns
-  is_first n r e ns = ap (λ (o : Option Rule). rule_of o ++ rules_of rules ns) e
-
   picks_first : (n : ℕ) (ns : List ℕ) (s after : List Part) (r : Rule) → slice_get rules n ≡ Some r → Takes rules s (n ∷ ns) (Some n) after → symbols after ≡ symbols s → Picks rules (n ∷ ns) s
   picks_first n ns s after r e t g = record {
     taken = Some n;
@@ -82,18 +78,11 @@ module _ (rules : List Rule) where
       r,
       (
         subst (λ (x : ℕ). slice_get rules x ≡ Some r) (same_Some n m h) e,
-        subst (λ (l : List Production). Free (map reduce l) (reduce (production r))) (sym (is_first n r e ns))
+        subst (λ (l : List Production). Free (map reduce l) (reduce (production r))) (sym (is_first rules n r e ns))
             (inl refl),
       ),
     );
   }
-
-  pub asks_more : (r : Rule) (j : ℕ) → length r.restrictions ≡ suc j → (production r).asks ≡ true
-  asks_more r j f = by (length r.restrictions == 0) refl
-    where
-      by : (b : Bool) → (length r.restrictions == 0) ≡ b → (if b then false else true) ≡ true
-      by true e = absurd (let z = eqb-true (length r.restrictions) 0 e in omega (arith, z, f))
-      by false e = refl
 
   picks_later : (n : ℕ) (ns : List ℕ) (s : List Part) (r : Rule) → slice_get rules n ≡ Some r → 0 < length r.restrictions → (production r).asks ≡ true → answer (owner_answers s r) ≡ false →
       Picks rules ns (asked s r) → Picks rules (n ∷ ns) s
@@ -102,8 +91,8 @@ module _ (rules : List Rule) where
     after = p.after;
     takes = parse.answered_no r e lt refused p.takes;
     same = p.same ∙ symbols_used (length r.right - 1) s;
-    none = λ h. subst (λ (l : List Production). CanBlock (map reduce l)) (sym (is_first n r e ns)) (asks, p.none h);
-    free = λ m h. let f = p.free m h in (f.0, (f.1.0, subst (λ (l : List Production). Free (map reduce l) (reduce (production f.0))) (sym (is_first n r e ns)) (inr (asks, f.1.1))));
+    none = λ h. subst (λ (l : List Production). CanBlock (map reduce l)) (sym (is_first rules n r e ns)) (asks, p.none h);
+    free = λ m h. let f = p.free m h in (f.0, (f.1.0, subst (λ (l : List Production). Free (map reduce l) (reduce (production f.0))) (sym (is_first rules n r e ns)) (inr (asks, f.1.1))));
   }
 
   picks : (ns : List ℕ) → ((n : ℕ) → In n ns → (r : Rule) × (slice_get rules n ≡ Some r)) → (s : List Part) → Picks rules ns s

@@ -1,8 +1,8 @@
 -- The automaton's steps are the moves over the rules.
-use Rattle.std.proofs.Common.{◌≡◌, ℕ, zero, suc, ◌-◌, ◌<◌, List, [], ◌∷◌, ◌++◌, Option, Some, None, Bool, true, false, length, map, drop, slice_get, refl, sym, ap, ap₂, ◌∙◌, subst, inl, inr, arith}
+use Rattle.std.proofs.Common.{◌≡◌, ℕ, zero, suc, ◌-◌, ◌<◌, List, [], ◌∷◌, Option, Some, None, Bool, true, false, length, map, drop, slice_get, refl, sym, ap, ap₂, ◌∙◌, subst, inl, inr, arith}
 use Rattle.std.specs.Prelude.{◌==◌, if◌then◌else◌}
 use Rattle.std.proofs.lemmas.List.{drop-map}
-use Rattle.std.proofs.lemmas.Bool.{eqb-true, true≢false}
+use Rattle.std.proofs.lemmas.Bool.{true≢false}
 use Rattle.std.proofs.lemmas.Option.{same_Some, none-some}
 use Rattle.gg_base.proofs.Facts.{some_none}
 use Rattle.tree_core.specs.declared.token.Tok.{Tok}
@@ -26,7 +26,7 @@ use Rattle.lr_check_sets.specs.Exact.{MeetsLaws}
 use Rattle.lr_check_sets.specs.Answers as auto
 use Rattle.lr_check_sets.specs.Answers.{Entry, Leaf, Picked, first_answer, other_answers, owner, pick_by, pick, held_reduced}
 use Rattle.lr_check_sets.proofs.Links.{in_productions}
-use Rattle.lr_check_sets.proofs.Rows.{rule_of, rules_of, candidates_are, leads}
+use Rattle.lr_check_sets.proofs.Rows.{rules_of, candidates_are, leads, is_first, asks_more}
 use Rattle.lr_check_sets.proofs.Asks.{by_no, by_none}
 use Rattle.lr_check.specs.Tree.{Token}
 use Rattle.lr_check.specs.Parse as parse
@@ -95,22 +95,12 @@ picked_yes true false r a b rest e f = absurd (true≢false (sym f))
 picked_yes true true r a b rest e f = refl
 
 module _ (rules : List Rule) where
-  is_first : (n : ℕ) (r : Rule) → slice_get rules n ≡ Some r → (ns : List ℕ) → rules_of rules (n ∷ ns) ≡ production r ∷ rules_of rules ns
-  is_first n r e ns = ap (λ (o : Option Rule). rule_of o ++ rules_of rules ns) e
-
   asks_none : (r : Rule) → length r.restrictions ≡ 0 → (production r).asks ≡ false
   asks_none r e = ap (λ n. if n == 0 then false else true) e
 
-  asks_more : (r : Rule) (j : ℕ) → length r.restrictions ≡ suc j → (production r).asks ≡ true
-  asks_more r j f = by (length r.restrictions == 0) refl
-    where
-      by : (b : Bool) → (length r.restrictions == 0) ≡ b → (if b then false else true) ≡ true
-      by true e = absurd (let z = eqb-true (length r.restrictions) 0 e in omega (arith, z, f))
-      by false e = refl
-
   picks_as : (n : ℕ) (ns : List ℕ) (r : Rule) (a : List Entry) (p : Picked) → slice_get rules n ≡ Some r → pick (reduce (production r) ∷ map reduce (rules_of rules ns)) a ≡ p →
       pick (map reduce (rules_of rules (n ∷ ns))) a ≡ p
-  picks_as n ns r a p e h = ap (λ l. pick (map reduce l) a) (is_first n r e ns) ∙ h
+  picks_as n ns r a p e h = ap (λ l. pick (map reduce l) a) (is_first rules n r e ns) ∙ h
 
   taken_first : (n : ℕ) (ns : List ℕ) (r : Rule) (a b : List Entry) → slice_get rules n ≡ Some r → Takes rules (parts a) (n ∷ ns) (Some n) (parts b) →
       pick (reduce (production r) ∷ map reduce (rules_of rules ns)) a ≡ record { taken = Some (reduce (production r)); stack = b } → Picks rules (n ∷ ns) a

@@ -1,8 +1,9 @@
 -- The automaton of tables is that of the description's rules.
 use Rattle.std.proofs.Common.{◌≡◌, ◌⊎◌, ℕ, zero, suc, ◌+◌, List, [], ◌∷◌, ◌++◌, Option, Some, None, Contains, length, get_or, map, drop, slice_get, refl, sym, ap, ◌∙◌}
-use Rattle.std.proofs.Common.{subst, inl, inr, ⊎_elim, arith}
-use Rattle.std.specs.Prelude.{AllPairs}
+use Rattle.std.proofs.Common.{Bool, true, false, subst, inl, inr, ⊎_elim, arith}
+use Rattle.std.specs.Prelude.{AllPairs, ◌==◌, if◌then◌else◌}
 use Rattle.std.proofs.lemmas.Option.{slice_get_within, slice_get-get_or, get_or_from_slice_get, same_Some, none-some}
+use Rattle.std.proofs.lemmas.Bool.{eqb-true}
 use Rattle.tree_core.specs.declared.token.Tok.{Tok}
 use Rattle.tree_core.specs.declared.token.Tok.TheVariants as tok
 use Rattle.md_reader.specs.declared.types.Rule.{Rule}
@@ -43,6 +44,16 @@ candidates_are rules (n ∷ ns) = by (slice_get rules n) (candidates_are rules n
         reduced_by o ++ candidates_of rules (map choice.Reduce ns) ≡ map reduce (rule_of o ++ rules_of rules ns)
     by None e = e
     by (Some r) e = ap (λ (l : List Candidate). reduce (production r) ∷ l) e
+
+pub is_first : (rules : List Rule) (n : ℕ) (r : Rule) → slice_get rules n ≡ Some r → (ns : List ℕ) → rules_of rules (n ∷ ns) ≡ production r ∷ rules_of rules ns
+is_first rules n r e ns = ap (λ (o : Option Rule). rule_of o ++ rules_of rules ns) e
+
+pub asks_more : (r : Rule) (j : ℕ) → length r.restrictions ≡ suc j → (production r).asks ≡ true
+asks_more r j f = by (length r.restrictions == 0) refl
+  where
+    by : (b : Bool) → (length r.restrictions == 0) ≡ b → (if b then false else true) ≡ true
+    by true e = absurd (let z = eqb-true (length r.restrictions) 0 e in omega (arith, z, f))
+    by false e = refl
 
 -- a production of the list, with its rule's number at the same place
 record At (rules : List Rule) (ns : List ℕ) (i : ℕ) (r : Production) : Type 0 where

@@ -22,7 +22,7 @@ use Rattle.lr_check_sets.specs.Automaton.{shift, reduce, walk, Free, IsTable}
 use Rattle.lr_check_sets.specs.Bound.{Within, accepted, steps}
 use Rattle.lr_check_sets.specs.Table.{production, productions, candidates_of, candidates_at, automaton_of}
 use Rattle.lr_check_sets.specs.Exact.{MeetsLaws}
-use Rattle.lr_check_sets.proofs.Rows.{rules_of, candidates_are, leads}
+use Rattle.lr_check_sets.proofs.Rows.{rules_of, candidates_are, leads, is_first, asks_more}
 use Rattle.lr_check_sets.proofs.Tables.{table_of_items}
 use Rattle.lr_check_sets.proofs.Meeting.{tables_meet_laws}
 use Rattle.lr_check.specs.declared.sample.Outcome.{Outcome}
@@ -31,7 +31,7 @@ use Rattle.lr_check.specs.Parse as parse
 use Rattle.lr_check.specs.Parse.{Part, symbols, coming, Takes, nothing, unrestricted, answered_yes, answered_no, Reduction, Ends}
 use Rattle.lr_check.proofs.Only.{reductions_same, not_shifted}
 use Rattle.lr_check.proofs.Parts.{symbols_used}
-use Rattle.lr_check_law.proofs.Law.{toks, coming-is, is_first, asks_more}
+use Rattle.lr_check_law.proofs.Law.{toks, coming-is}
 use Rattle.lr_checked.specs.Accepted.{moves}
 
 module _ (rules : List Rule) where
@@ -52,7 +52,7 @@ module _ (rules : List Rule) where
   takes_free (answered_yes {n = m} {ns = ns} q at lt said) n r e there = free_first m n ns q r at e there
   takes_free (answered_no {n = m} {ns = ns} q at lt said more) n r e there =
       subst (λ l. Free (map reduce l) (reduce (production r))) (sym (is_first rules m q at ns))
-      (inr (asks_more rules q (length q.restrictions - 1) (omega (arith, lt)), takes_free more n r e there))
+      (inr (asks_more q (length q.restrictions - 1) (omega (arith, lt)), takes_free more n r e there))
 
   -- questions leave the symbols
   takes_symbols : {s u : List Part} {ns : List ℕ} {o : Option ℕ} → Takes rules s ns o u → symbols u ≡ symbols s
