@@ -38,19 +38,17 @@ use Rattle.sel_target.specs.TemplateLaws.{GivesShapes}
 use Rattle.vax_core.specs.declared.operand.Operand.{Operand}
 use Rattle.vax_machine.specs.State.{State}
 use Rattle.vax_machine_lists.specs.Instructions.{exec}
-use Rattle.vax_templates.specs.declared.form.Base.TheVariants as base
 use Rattle.vax_templates.specs.declared.form.Form.{Form}
 use Rattle.vax_templates.specs.declared.setting.Hole.{Hole}
 use Rattle.vax_templates.specs.declared.setting.Hole.TheVariants as hole_kind
 use Rattle.vax_templates.specs.declared.setting.Setting.{Setting}
 use Rattle.vax_templates.specs.Settings.{hole_of_token, hole_of_kind, hole_of, holes_of, hole_or_other, hole_at, own_of, setting_of}
-use Rattle.vax_templates.specs.Marks.{at_front}
-use Rattle.vax_templates.specs.Forms.{form_front, base_front, number_spelled, index_front}
 use Rattle.vax_templates.specs.Instructions.{shape_of_pieces}
 use Rattle.vax_templates.specs.HoleTerms.{constant_of}
 use Rattle.vax_templates.specs.Standing.{◌>>=◌}
 use Rattle.vax_templates.specs.GiveLines.{number_given, shape_given, shape_read, given_shape, given_by}
 use Rattle.vax_templates.specs.Filled.{attr_or, attr_at, addr_in, filled_or_spare}
+use Rattle.vax_templates.proofs.Judgements.{hole_front_is}
 use Rattle.vax_target_meaning.specs.Running.{course_of}
 use Rattle.vax_target_meaning.specs.Vax.{vax}
 use Rattle.vax_target_operands.specs.Scenes.{Scene, Sees}
@@ -161,10 +159,6 @@ module _ (q : TreeProgram) (m : State) where
   one_of hole_kind.Saved i t a k e = absurd (err_ok _ t e)
   one_of hole_kind.Relation i t a k e = absurd (err_ok _ t e)
   one_of hole_kind.Other i t a k e = absurd (err_ok _ t e)
-
-hole_front_is : (i : ℕ) → shape_of_pieces (piece.Hole i ∷ []) ≡ Some (record { base = base.Hole i; index = None })
-unfolding form_front base_front number_spelled index_front at_front
-hole_front_is i = refl
 
 form_of : (o : Option Form) (f : Form) → shape_read o ≡ Ok f → o ≡ Some f
 form_of None f e = absurd (err_ok _ f e)

@@ -58,6 +58,7 @@ use Rattle.vax_templates.specs.Judging as judging
 use Rattle.vax_templates.specs.Settings.{hole_at}
 use Rattle.vax_templates.specs.Filled.{numbered, register_in, operand_in, filled}
 use Rattle.vax_templates.specs.FilledLines.{filled_instruction, filled_line, plain_return}
+use Rattle.vax_templates.proofs.Judgements.{read_is}
 use Rattle.vax_target_operands.specs.Scenes.{Scene, worth, filling_at, is_lost, OwnIs, IsOwnRegister, Sees}
 use Rattle.vax_target_operands.specs.Places.{StandsAt, IsHome}
 use Rattle.vax_target_operands.specs.Conditions.{IsGiven, AreNarrow}
@@ -486,10 +487,6 @@ module _ (c : Scene) (held : Option Shape) (m : State) (h : Sees c held m) where
   behind_did is_first (Tested t) i d short k z e reads ends_read some = instruction_did_so is_first (Tested t) i d short k e reads ends_read some
   behind_did is_first (Returning t) i d short k z e reads ends_read some = returned_did t i d z e
   behind_did is_first (Ended deed) i d short k z e reads ends_read some = absurd (err_ok _ d e)
-
-  read_is : (o : Option Instruction) (i : Instruction) → judging.read o ≡ Ok i → o ≡ Some i
-  read_is None i e = absurd (err_ok _ i e)
-  read_is (Some j) i e = ap Some (ok_same j i e)
 
   pub line_did_so : (is_first : Bool) (before : Last) (ps : List Piece) (d : Deed) → CodesMean c m.conditions before → ZeroHolds c m before
       → line_did c.setting c.roles is_first held before ps ≡ Ok d →

@@ -58,6 +58,7 @@ use Rattle.vax_templates.specs.Taking.{cut_term, fetched, pointer_read, addresse
 use Rattle.vax_templates.specs.Taking.{Arguments, no_arguments, last_of, in_front, all_evaluated}
 use Rattle.vax_templates.specs.Filled.{register_in, operand_in, filled}
 use Rattle.vax_templates.specs.Giving.{truncated}
+use Rattle.vax_templates.proofs.Judgements.{statement_of, sized_plain, ok_plain, addressed_plain}
 use Rattle.vax_target_operands.specs.Scenes.{Scene, worth, role_at, OwnIs, IsOwnRegister, Sees}
 use Rattle.vax_target_operands.specs.Places.{StandsAt, IsWhere, IsReadIfAny, CanStand, Stands}
 use Rattle.vax_target_operands.specs.Conditions.{IsNarrow}
@@ -280,10 +281,6 @@ module _ (c : Scene) (held : Option Shape) (m : State) (h : Sees c held m) where
   statement_true true x y e = refl
   statement_true false x y e = absurd (err_ok _ y e)
 
-  statement_of : {A : Type 0} (b : Bool) (x : Result A TemplateKind) (y : A) → cond b x (Err NotInstr) ≡ Ok y → x ≡ Ok y
-  statement_of true x y e = e
-  statement_of false x y e = absurd (err_ok _ y e)
-
   memory_target_is : (o : Own) (a : Shape) (size : Size) (x : Target × Bool) → memory_target o a size ≡ Ok x → (ToMemory size a, false) ≡ x
   memory_target_is own.Nothing a size x e = ok_same _ x e
   memory_target_is own.Register a size x e = ok_same _ x e
@@ -455,14 +452,6 @@ module _ (c : Scene) (held : Option Shape) (m : State) (h : Sees c held m) where
   taken_means accesses.Address w size t l e none reads is = (addressed_means w size t e).1 l none is
   taken_means accesses.Count w size t l e none reads is = absurd (err_ok _ t e)
 
-  -- what is only read has no destination
-  sized_plain : (b : Bool) (x t : Taken) → x.target ≡ None → ◌≡◌ {A = Result Taken TemplateKind} (Ok (cond b x taken_missized)) (Ok t) → t.target ≡ None
-  sized_plain true x t none e = ap (λ (y : Taken). y.target) (sym (ok_same x t e)) ∙ none
-  sized_plain false x t none e = ap (λ (y : Taken). y.target) (sym (ok_same taken_missized t e))
-
-  ok_plain : (x t : Taken) → x.target ≡ None → ◌≡◌ {A = Result Taken TemplateKind} (Ok x) (Ok t) → t.target ≡ None
-  ok_plain x t none e = ap (λ (y : Taken). y.target) (sym (ok_same x t e)) ∙ none
-
   fetched_plain : (w : Where) (size : Size) (t : Taken) → fetched c.setting held w size ≡ Ok t → t.target ≡ None
   unfolding fetched
   fetched_plain (Immediate a) size t e = ok_plain _ t refl e
@@ -475,18 +464,6 @@ module _ (c : Scene) (held : Option Shape) (m : State) (h : Sees c held m) where
   fetched_plain (SavedPlace z i) size t e = sized_plain (same_size z size) _ t refl e
   fetched_plain (Saved i) size t e = absurd (err_ok _ t e)
   fetched_plain (At a p) size t e = ok_plain _ t refl e
-
-  addressed_plain : (w : Where) (size : Size) (t : Taken) → addressed w size ≡ Ok t → t.target ≡ None
-  addressed_plain (Immediate a) size t e = absurd (err_ok _ t e)
-  addressed_plain (Register a) size t e = absurd (err_ok _ t e)
-  addressed_plain OwnRegister size t e = absurd (err_ok _ t e)
-  addressed_plain RegisterZero size t e = absurd (err_ok _ t e)
-  addressed_plain (Value z i) size t e = absurd (err_ok _ t e)
-  addressed_plain (Place z i) size t e = absurd (err_ok _ t e)
-  addressed_plain (Local i) size t e = absurd (err_ok _ t e)
-  addressed_plain (SavedPlace z i) size t e = sized_plain (same_size z size) _ t refl e
-  addressed_plain (Saved i) size t e = absurd (err_ok _ t e)
-  addressed_plain (At a p) size t e = ok_plain _ t refl e
 
   taken_plain : (kind : Access) (w : Where) (size : Size) (t : Taken) → aims kind ≡ false → taken c.setting held kind w size ≡ Ok t → t.target ≡ None
   unfolding taken

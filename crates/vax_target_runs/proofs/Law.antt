@@ -42,6 +42,7 @@ use Rattle.vax_templates.specs.Progress.{Progress, start, kept_or_put, progresse
 use Rattle.vax_templates.specs.Progress.{lines_judged}
 use Rattle.vax_templates.specs.Filled.{register_in, operand_in, deferred_in}
 use Rattle.vax_templates.specs.FilledLines.{filled_instruction, filled_line, plain_return}
+use Rattle.vax_templates.proofs.Judgements.{read_is}
 use Rattle.vax_target_meaning.specs.Vax.{vax}
 use Rattle.vax_target_operands.specs.Scenes.{Scene, worth, role_at, filling_at, is_lost, Means, OwnIs, Holds, Sees}
 use Rattle.vax_target_operands.proofs.Binds.{Chained, chained}
@@ -142,11 +143,6 @@ module _ (c : Scene) where
       let d = chained (judged c.setting c.roles is_first l p) (λ (x : Progress). lines_judged c.setting c.roles false x ls) q e in
       let j = judged_is c.setting c.roles is_first l p d.first d.is in
       absurd (nothing_behind is_first p.own deed l.pieces j.deed (subst (λ x. line_did c.setting c.roles is_first p.own x l.pieces ≡ Ok j.deed) is j.did))
-
-  -- `ret` stands behind a value that is to be returned
-  read_is : (o : Option Instruction) (i : Instruction) → judging.read o ≡ Ok i → o ≡ Some i
-  read_is None i e = absurd (err_ok _ i e)
-  read_is (Some j) i e = ap Some (ok_same j i e)
 
   returns_so : (n : State) → performed plain_return n ≡ ends (Returns n)
   unfolding performed

@@ -11,7 +11,6 @@ use Rattle.tree_core.specs.declared.tree.Att.{Att}
 use Rattle.tree_core.specs.declared.tree.Att.TheVariants as att
 use Rattle.tree_core.specs.declared.program.TreeProgram.{TreeProgram}
 use Rattle.tree_core.specs.Attributes.{attribute_of, is_of_kind}
-use Rattle.md_reader_pieces.specs.declared.piece.Piece.TheVariants as piece
 use Rattle.md_reader_pieces.specs.declared.piece.Line.{Line}
 use Rattle.md_reader.specs.declared.types.Kind.{Kind}
 use Rattle.md_reader.specs.declared.types.Kind.TheVariants as kind
@@ -43,8 +42,6 @@ use Rattle.vax_templates.specs.declared.setting.Opening.{Opening}
 use Rattle.vax_templates.specs.declared.setting.Opening.TheVariants as opening
 use Rattle.vax_templates.specs.declared.setting.Setting.{Setting}
 use Rattle.vax_templates.specs.Settings.{hole_of_token, hole_of_kind, hole_of, holes_of, hole_or_other, hole_at, setting_of}
-use Rattle.vax_templates.specs.Marks.{at_front}
-use Rattle.vax_templates.specs.Forms.{form_front, base_front, number_spelled, index_front}
 use Rattle.vax_templates.specs.Instructions.{shape_of_pieces}
 use Rattle.vax_templates.specs.Standing.{Where, Register, Place, Local, At, where_own, where_hole, where_zero}
 use Rattle.vax_templates.specs.Standing.{where_deferred, at, displaced, pointed, negated, itself, where_base, moved}
@@ -58,6 +55,7 @@ use Rattle.vax_templates.specs.GiveLines.{shape_read, given_shape}
 use Rattle.vax_templates.specs.Dropped.{first_dropped, none_dropped}
 use Rattle.vax_templates.specs.Found.{with_divisors, checked, ended, template_found, found}
 use Rattle.vax_templates.specs.Filled.{attr_or, attr_at, operand_in, filled_base, with_index, filled, filled_or_spare, filled_operand}
+use Rattle.vax_templates.proofs.Judgements.{hole_front_is}
 use Rattle.vax_target_meaning.specs.Vax.{vax}
 use Rattle.vax_target_writing.proofs.Each.{EachOk, bind_each, if_ok, of_ok}
 use Rattle.vax_target_shapes.specs.Laws.{HomesStay, RegistersStay}
@@ -306,10 +304,6 @@ homes_stay q classes rule e size i l hs h taken gives act fit there =
     sym (ap (own_operand vax) (filled_with hs i h there)) ∙ is
 
 -- ---- a register
-
-hole_front_is : (i : ℕ) → shape_of_pieces (piece.Hole i ∷ []) ≡ Some (record { base = base.Hole i; index = None })
-unfolding form_front base_front number_spelled index_front at_front
-hole_front_is i = refl
 
 abbrev IsSymbol : ℕ → ActShape → Type 0
 IsSymbol i a = a ≡ effects.Value (Symbol i)

@@ -1,5 +1,5 @@
 -- A statement that saves the last call's result begins with the token that says so.
-use Rattle.std.proofs.Common.{◌≡◌, ℕ, ◌==◌, Bool, true, false, cond, List, [], ◌∷◌, Option, Some, None, Result, Ok, Err, refl, sym, ap, subst, ◌∙◌}
+use Rattle.std.proofs.Common.{◌≡◌, ℕ, ◌==◌, Bool, true, false, cond, List, [], ◌∷◌, Option, Some, None, Result, Ok, Err, refl, sym, subst, ◌∙◌}
 use Rattle.std.specs.Prelude.{◌&&◌}
 use Rattle.gg_base.specs.declared.size.Size.{Size}
 use Rattle.gg_base.specs.declared.size.Size.TheVariants.{Byte, Word, Long}
@@ -10,7 +10,7 @@ use Rattle.term_core.specs.Shape.{Shape, Constant}
 use Rattle.sel_terms.specs.Effects.{ActShape, StoreHome, StoreAt, Save, Push, Jump, Call, Branch, Return}
 use Rattle.sel_terms.specs.Same.{same_size}
 use Rattle.sel_target.specs.declared.fault.TemplateKind.{TemplateKind}
-use Rattle.sel_target.specs.declared.fault.TemplateKind.TheVariants.{NotInstr, WrongSize, Order}
+use Rattle.sel_target.specs.declared.fault.TemplateKind.TheVariants.{NotInstr}
 use Rattle.vax_core.specs.declared.op.Op.{Op}
 use Rattle.vax_core.specs.declared.op.Access.{Access}
 use Rattle.vax_core.specs.declared.op.Access.TheVariants as accesses
@@ -38,18 +38,19 @@ use Rattle.vax_templates.specs.Standing.{where_indexed, form_where, ◌>>=◌}
 use Rattle.vax_templates.specs.HoleTerms.{constant_of, absolute_term, number_term, own_value, register_term}
 use Rattle.vax_templates.specs.Targets.{Target, ToOwn, ToSlot, ToHome, ToMemory, ToZero, ToSaved, own_target}
 use Rattle.vax_templates.specs.Targets.{memory_target, zero_target, targeted}
-use Rattle.vax_templates.specs.Taking.{Taken, taken_missized, last_result, cut_term, fetched, addressed, written}
+use Rattle.vax_templates.specs.Taking.{Taken, last_result, cut_term, fetched, written}
 use Rattle.vax_templates.specs.Taking.{both, taken, evaluated, Arguments, no_arguments, last_of, in_front}
 use Rattle.vax_templates.specs.Taking.{all_evaluated}
 use Rattle.vax_templates.specs.Giving.{Given, Computes, Divides, Compares, Tests, given}
 use Rattle.vax_templates.specs.Deeds.{Last, Plain, Compared, Tested, Returning, Ended, Deed, leaves, ends_statement}
 use Rattle.vax_templates.specs.Deeds.{is_relation, branches, is_movl, is_last_result, puts, put, divided, computed}
 use Rattle.vax_templates.specs.Deeds.{acted}
-use Rattle.vax_templates.specs.Judging.{in_order, is_disordered, with_reads, checked, operated, instruction_did}
+use Rattle.vax_templates.specs.Judging.{is_disordered, with_reads, checked, operated, instruction_did}
 use Rattle.vax_templates.specs.Judging.{returned, did_behind, line_did}
 use Rattle.vax_templates.specs.Deeds as deeds
 use Rattle.vax_templates.specs.Judging as judging
 use Rattle.vax_templates.specs.Progress.{Progress, judged, lines_judged}
+use Rattle.vax_templates.proofs.Judgements.{statement_of, sized_plain, ok_plain, addressed_plain, in_order_is}
 use Rattle.vax_target_operands.proofs.Binds.{chained, cond_ok}
 use Rattle.vax_target_runs.proofs.Law.{judged_is}
 
@@ -139,10 +140,6 @@ module _ (s : Setting) (roles : List Hole) (held : Option Shape) where
   AimIs (Some (ToSaved i)) = hole_at roles i ≡ hole_kind.Saved
   AimIs t = Unit {0}
 
-  statement_of : {A : Type 0} (b : Bool) (x : Result A TemplateKind) (y : A) → cond b x (Err NotInstr) ≡ Ok y → x ≡ Ok y
-  statement_of true x y e = e
-  statement_of false x y e = absurd (err_ok _ y e)
-
   abbrev AimsIs : Target × Bool → Type 0
   AimsIs x = AimIs (Some x.0)
 
@@ -176,43 +173,24 @@ module _ (s : Setting) (roles : List Hole) (held : Option Shape) where
   targeted_is (Saved i) size x p e = subst AimsIs (ok_same _ x (statement_of s.is_statement _ x e)) p
   targeted_is (At a q) size x p e = memory_aim s.own a size x (statement_of s.is_statement _ x e)
 
-  sized_none : (b : Bool) (x t : Taken) → x.target ≡ None → ◌≡◌ {A = Result Taken TemplateKind} (Ok (cond b x taken_missized)) (Ok t) → t.target ≡ None
-  sized_none true x t none e = ap (λ (y : Taken). y.target) (sym (ok_same x t e)) ∙ none
-  sized_none false x t none e = ap (λ (y : Taken). y.target) (sym (ok_same taken_missized t e))
-
-  ok_none : (x t : Taken) → x.target ≡ None → ◌≡◌ {A = Result Taken TemplateKind} (Ok x) (Ok t) → t.target ≡ None
-  ok_none x t none e = ap (λ (y : Taken). y.target) (sym (ok_same x t e)) ∙ none
-
   last_none : (o : Opening) (z : Option Shape) (size : Size) (t : Taken) → last_result o z size ≡ Ok t → t.target ≡ None
   last_none opening.Return z size t e = absurd (err_ok _ t e)
-  last_none opening.Save None size t e = ok_none _ t refl e
+  last_none opening.Save None size t e = ok_plain _ t refl e
   last_none opening.Save (Some x) size t e = absurd (err_ok _ t e)
   last_none opening.Other z size t e = absurd (err_ok _ t e)
 
   fetched_none : (w : Where) (size : Size) (t : Taken) → fetched s held w size ≡ Ok t → t.target ≡ None
   unfolding fetched
-  fetched_none (Immediate a) size t e = ok_none _ t refl e
-  fetched_none (Register a) size t e = ok_none _ t refl e
-  fetched_none OwnRegister size t e = (let d = chained (own_value s.own held) (cut_term size) t e in ok_none _ t refl d.then_so)
+  fetched_none (Immediate a) size t e = ok_plain _ t refl e
+  fetched_none (Register a) size t e = ok_plain _ t refl e
+  fetched_none OwnRegister size t e = (let d = chained (own_value s.own held) (cut_term size) t e in ok_plain _ t refl d.then_so)
   fetched_none RegisterZero size t e = last_none s.opening held size t e
-  fetched_none (Value z i) size t e = sized_none (same_size z size) _ t refl e
-  fetched_none (Place z i) size t e = sized_none (same_size z size) _ t refl e
-  fetched_none (Local i) size t e = sized_none (same_size Long size) _ t refl e
-  fetched_none (SavedPlace z i) size t e = sized_none (same_size z size) _ t refl e
+  fetched_none (Value z i) size t e = sized_plain (same_size z size) _ t refl e
+  fetched_none (Place z i) size t e = sized_plain (same_size z size) _ t refl e
+  fetched_none (Local i) size t e = sized_plain (same_size Long size) _ t refl e
+  fetched_none (SavedPlace z i) size t e = sized_plain (same_size z size) _ t refl e
   fetched_none (Saved i) size t e = absurd (err_ok _ t e)
-  fetched_none (At a p) size t e = ok_none _ t refl e
-
-  addressed_none : (w : Where) (size : Size) (t : Taken) → addressed w size ≡ Ok t → t.target ≡ None
-  addressed_none (Immediate a) size t e = absurd (err_ok _ t e)
-  addressed_none (Register a) size t e = absurd (err_ok _ t e)
-  addressed_none OwnRegister size t e = absurd (err_ok _ t e)
-  addressed_none RegisterZero size t e = absurd (err_ok _ t e)
-  addressed_none (Value z i) size t e = absurd (err_ok _ t e)
-  addressed_none (Place z i) size t e = absurd (err_ok _ t e)
-  addressed_none (Local i) size t e = absurd (err_ok _ t e)
-  addressed_none (SavedPlace z i) size t e = sized_none (same_size z size) _ t refl e
-  addressed_none (Saved i) size t e = absurd (err_ok _ t e)
-  addressed_none (At a p) size t e = ok_none _ t refl e
+  fetched_none (At a p) size t e = ok_plain _ t refl e
 
   none_is : (t : Taken) → t.target ≡ None → AimIs t.target
   none_is t e = subst AimIs (sym e) tt
@@ -226,7 +204,7 @@ module _ (s : Setting) (roles : List Hole) (held : Option Shape) where
       subst (λ (y : Taken). AimIs y.target) (ok_same _ t x.then_so) (targeted_is w size x.first p x.is)
   taken_is accesses.Write w size t p e =
       let x = chained (targeted s w size) written t e in subst (λ (y : Taken). AimIs y.target) (ok_same _ t x.then_so) (targeted_is w size x.first p x.is)
-  taken_is accesses.Address w size t p e = none_is t (addressed_none w size t e)
+  taken_is accesses.Address w size t p e = none_is t (addressed_plain w size t e)
   taken_is accesses.Count w size t p e = absurd (err_ok _ t e)
 
   evaluated_is : (k : OperandKind) (f : Form) (t : Taken) → evaluated s roles held k f ≡ Ok t → AimIs t.target
@@ -288,13 +266,6 @@ module _ (s : Setting) (roles : List Hole) (held : Option Shape) where
   acted_is (action.Branch t) op x d h e = absurd (err_ok _ d e)
   acted_is action.Call op x d h e = absurd (err_ok _ d e)
   acted_is action.Return op x d h e = absurd (err_ok _ d e)
-
-  in_order_is : (b : Bool) (u d : Deed) → in_order b u ≡ Ok d → u ≡ d
-  in_order_is b u d e = by u.missized b e where
-    by : (x b : Bool) → cond x (Err WrongSize) (cond b (Err Order) (Ok u)) ≡ Ok d → u ≡ d
-    by true b e = absurd (err_ok _ d e)
-    by false true e = absurd (err_ok _ d e)
-    by false false e = ok_same u d e
 
   module _ (is_first : Bool) where
     operated_is : (op : Op) (fs : List Form) (d : Deed) → operated s roles is_first held op fs ≡ Ok d → DeedIs d

@@ -14,7 +14,7 @@ use Rattle.term_core_accesses.specs.Accesses.{is_division, divides_well}
 use Rattle.sel_terms.specs.Effects.{ActShape, StoreAt, StoreHome, Save, Push, Jump, Call, Branch}
 use Rattle.sel_terms.specs.Same.{same_size}
 use Rattle.sel_target.specs.declared.fault.TemplateKind.{TemplateKind}
-use Rattle.sel_target.specs.declared.fault.TemplateKind.TheVariants.{NotInstr, WrongSize, Order}
+use Rattle.sel_target.specs.declared.fault.TemplateKind.TheVariants.{NotInstr}
 use Rattle.sel_target.specs.Values.{View, term_state, IsReadWhere}
 use Rattle.vax_core.specs.declared.op.Op.{Op}
 use Rattle.vax_core.specs.declared.op.Access.{Access}
@@ -55,10 +55,11 @@ use Rattle.vax_templates.specs.Giving.{Given, Computes, Divides, Compares, Tests
 use Rattle.vax_templates.specs.Deeds.{Plain, Compared, Tested, Returning, Ended, Deed, leaves}
 use Rattle.vax_templates.specs.Deeds.{is_relation, is_movl, is_last_result, puts, put, divided, computed}
 use Rattle.vax_templates.specs.Deeds.{acted}
-use Rattle.vax_templates.specs.Judging.{in_order, is_disordered, with_reads, checked, operated, instruction_did}
+use Rattle.vax_templates.specs.Judging.{is_disordered, with_reads, checked, operated, instruction_did}
 use Rattle.vax_templates.specs.Judging.{did_behind, line_did}
 use Rattle.vax_templates.specs.Deeds as deeds
 use Rattle.vax_templates.specs.Judging as judging
+use Rattle.vax_templates.proofs.Judgements.{statement_of, in_order_is}
 use Rattle.vax_target_operands.proofs.Binds.{chained, cond_ok}
 use Rattle.vax_target_lines.specs.Lines.{terms_of_last}
 
@@ -340,10 +341,6 @@ module _ (s : Setting) (roles : List Hole) where
   addressed_plain (Saved i) size t p e = absurd (err_ok _ t e)
   addressed_plain (At a q) size t p e = subst TakenPlain (ok_same _ t e) (record { term_so = p.0; reads_so = pointer_plain q p.1; aim_so = tt })
 
-  statement_of : {A : Type 0} (b : Bool) (x : Result A TemplateKind) (y : A) → cond b x (Err NotInstr) ≡ Ok y → x ≡ Ok y
-  statement_of true x y e = e
-  statement_of false x y e = absurd (err_ok _ y e)
-
   abbrev AimsPlain : Target × Bool → Type 0
   AimsPlain x = AimPlain (Some x.0)
 
@@ -500,13 +497,6 @@ module _ (s : Setting) (roles : List Hole) where
   acted_plain (action.Branch t) op x d h e = absurd (err_ok _ d e)
   acted_plain action.Call op x d h e = absurd (err_ok _ d e)
   acted_plain action.Return op x d h e = absurd (err_ok _ d e)
-
-  in_order_is : (b : Bool) (u d : Deed) → in_order b u ≡ Ok d → u ≡ d
-  in_order_is b u d e = by u.missized b e where
-    by : (x b : Bool) → cond x (Err WrongSize) (cond b (Err Order) (Ok u)) ≡ Ok d → u ≡ d
-    by true b e = absurd (err_ok _ d e)
-    by false true e = absurd (err_ok _ d e)
-    by false false e = ok_same u d e
 
   -- what a first line reads, and the terms of its deed
   pub record LinePlain (d : Deed) : Type 0 where
