@@ -65,6 +65,7 @@ use Rattle.vax_target_operands.specs.Conditions.{IsNarrow}
 use Rattle.vax_target_operands.proofs.Binds.{chained}
 use Rattle.vax_target_operands.proofs.Holes.{stands_same, register_stands, own_held, memory_read}
 use Rattle.vax_target_operands.proofs.Forms.{operands_stand}
+use Rattle.vax_target_operands.proofs.Worths.{cut_is}
 use Rattle.vax_target_lines.specs.Takings.{IsTarget, IsDestination, AreRead, CanAim, IsOfSize, AreOfSize, AtSize, last_size, aims, LastIsWritten, MayStand, Takes, OperandsAreTaken}
 
 -- ---- sizes
@@ -221,14 +222,9 @@ module _ (c : Scene) (held : Option Shape) (m : State) (h : Sees c held m) where
   abbrev Fetches : Location → Size → Taken → Type 0
   Fetches l size t = (machine.fetched m l size ≡ Ok (worth c t.term)) × (t.target ≡ None)
 
-  cut_is : (size : Size) (t : Shape) (n : ℕ) → n ≡ worth c t → low size n ≡ worth c (truncated size t)
-  cut_is Byte t n e = ap (λ x. low Byte x) e
-  cut_is Word t n e = ap (λ x. low Word x) e
-  cut_is Long t n e = e
-
   in_register : (l : Location) (r : Reg) (size : Size) (t : Shape) (x : Taken) → l ≡ locations.Register r → reg m r ≡ worth c t → taken_term (truncated size t) ≡ x → Fetches l size x
   in_register l r size t x is holds e =
-      subst (Fetches l size) e (ap (λ k. machine.fetched m k size) is ∙ ap (λ (n : ℕ). Ok n) (cut_is size t (reg m r) holds), refl)
+      subst (Fetches l size) e (ap (λ k. machine.fetched m k size) is ∙ ap (λ (n : ℕ). Ok n) (cut_is c size t (reg m r) holds), refl)
 
   own_is_register : (o : Own) (t : Shape) → own_value o held ≡ Ok t → o ≡ own.Register
   own_is_register own.Nothing t e = absurd (err_ok _ t e)
@@ -249,7 +245,7 @@ module _ (c : Scene) (held : Option Shape) (m : State) (h : Sees c held m) where
   fetched_means : (w : Where) (size : Size) (t : Taken) (l : Location) → fetched c.setting held w size ≡ Ok t → t.missized ≡ false → AreRead c t.reads → IsWhere c m w size l → Fetches l size t
   unfolding fetched
   fetched_means (Immediate a) size t l e none reads is =
-      subst (Fetches l size) (ok_same (taken_term (truncated size a)) t e) (ap (λ k. machine.fetched m k size) is ∙ ap (λ (n : ℕ). Ok n) (cut_is size a (worth c a) refl), refl)
+      subst (Fetches l size) (ok_same (taken_term (truncated size a)) t e) (ap (λ k. machine.fetched m k size) is ∙ ap (λ (n : ℕ). Ok n) (cut_is c size a (worth c a) refl), refl)
   fetched_means (Register a) size t l e none reads is = in_register l is.register size a t is.is is.holds (ok_same _ t e)
   fetched_means OwnRegister size t l e none reads is =
       let d = chained (own_value c.setting.own held) (cut_term size) t e in
@@ -452,6 +448,7 @@ module _ (c : Scene) (held : Option Shape) (m : State) (h : Sees c held m) where
   taken_means accesses.Address w size t l e none reads is = (addressed_means w size t e).1 l none is
   taken_means accesses.Count w size t l e none reads is = absurd (err_ok _ t e)
 
+  -- what is only read has no destination
   fetched_plain : (w : Where) (size : Size) (t : Taken) → fetched c.setting held w size ≡ Ok t → t.target ≡ None
   unfolding fetched
   fetched_plain (Immediate a) size t e = ok_plain _ t refl e

@@ -1,8 +1,7 @@
 -- An operand with its holes filled stands where its template says.
-use Rattle.std.proofs.Common.{◌≡◌, ℕ, ◌-◌, ◌*◌, ◌%◌, ◌^◌, ◌<◌, ◌==◌, true, false, cond, Option, Some, None, Result, Ok, Err, refl, sym, ap, subst, ◌∙◌, arith}
+use Rattle.std.proofs.Common.{◌≡◌, ℕ, ◌-◌, ◌*◌, ◌%◌, ◌^◌, ◌<◌, ◌==◌, true, false, cond, Option, Some, None, Result, Ok, Err, refl, sym, ap, subst, ◌∙◌}
 use Rattle.std.specs.Prelude.{◌||◌}
 use Rattle.gg_base.specs.declared.size.Size.{Size}
-use Rattle.gg_base.specs.declared.size.Size.TheVariants.{Byte, Word, Long}
 use Rattle.gg_base.specs.Sizes.{bytes_of}
 use Rattle.gg_base.specs.Arithmetic.{add32, mul32, neg32}
 use Rattle.gg_base.proofs.Facts.{first_false, second_false, err_ok, ok_same}
@@ -42,6 +41,7 @@ use Rattle.vax_target_operands.proofs.Binds.{Chained, chained}
 use Rattle.vax_target_operands.proofs.Machine.{named_located, reg_found, imm_found}
 use Rattle.vax_target_operands.proofs.Holes.{BaseStands, plain_stands, rel_found, rel_deferred, constant_known, number_means, constant_address, number_is, absolute_is, register_is}
 use Rattle.vax_target_operands.proofs.Holes.{alone_stands, pointer_read}
+use Rattle.vax_target_operands.proofs.Worths.{scaled_is}
 
 -- ---- what a base finds
 
@@ -189,11 +189,6 @@ module _ (c : Scene) (zero : Option Shape) (m : State) (h : Sees c zero m) where
   place_stands (Saved i) o size b = b
   place_stands (At a p) o size b = record { place = locations.Memory (worth c a); at = plain_stands m o size (locations.Memory (worth c a)) b.0 b.1; is = refl }
 
-  scaled_is : (size : Size) (t : Shape) (n : ℕ) → n ≡ worth c t → mul32 n (bytes_of size) ≡ worth c (scaled size t)
-  scaled_is Byte t n e = (let r : mul32 n 1 ≡ mul32 1 n = omega arith in r) ∙ ap (λ x. mul32 1 x) e
-  scaled_is Word t n e = (let r : mul32 n 2 ≡ mul32 2 n = omega arith in r) ∙ ap (λ x. mul32 2 x) e
-  scaled_is Long t n e = (let r : mul32 n 4 ≡ mul32 4 n = omega arith in r) ∙ ap (λ x. mul32 4 x) e
-
   indexed_stands : (u w : Where) (o : Operand) (t : Shape) (r : Reg) (size : Size) → reg m r ≡ worth c t → moved size u t ≡ Ok w →
       (CanStand c u size → BaseStands c m u o size) → CanStand c w size → Stands c m (record o { index = Some r }) w size
   indexed_stands (Immediate a) w o t r size is e b can = absurd (err_ok _ w e)
@@ -210,7 +205,7 @@ module _ (c : Scene) (zero : Option Shape) (m : State) (h : Sees c zero m) where
       (λ safe. record {
         place = locations.Memory (add32 (worth c a) (mul32 (reg m r) (bytes_of size)));
         at = record { base = locations.Memory (worth c a); found = (b safe).1; is = refl };
-        is = ap (λ x. locations.Memory (add32 (worth c a) x)) (scaled_is size t (reg m r) is);
+        is = ap (λ x. locations.Memory (add32 (worth c a) x)) (scaled_is c size t (reg m r) is);
       }) can
 
   form_stands_by : (b : Base) (index : Option ℕ) (w : Where) (size : Size) → BaseIsShort b → (is_lost c zero ≡ true → (base_spells c.roles b || index_is_operand c.roles index) ≡ false) →

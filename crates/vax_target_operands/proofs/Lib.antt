@@ -5,3 +5,4 @@ pub mod Codes
 pub mod Tables
 pub mod Holes
 pub mod Forms
+pub mod Worths

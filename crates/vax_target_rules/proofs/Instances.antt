@@ -26,15 +26,14 @@ use Rattle.md_reader.specs.declared.types.Give.{Give}
 use Rattle.md_reader.specs.declared.types.Give.TheVariants as give
 use Rattle.md_reader.specs.declared.types.Rule.{Rule}
 use Rattle.md_reader.specs.Patterns.{kind_at}
-use Rattle.term_core.specs.Shape.{Shape, Symbol}
-use Rattle.term_core.proofs.Values.{small}
+use Rattle.term_core.specs.Shape.{Symbol}
 use Rattle.sel_terms.specs.Effects.{EffectShape}
 use Rattle.sel_terms.specs.RuleFacts.{size_of_kind, size_of_symbol, size_of_some, size_at}
 use Rattle.sel_terms.proofs.Facts.{size_behind}
 use Rattle.sel_target.specs.declared.attr.Attr.{Attr}
 use Rattle.sel_target.specs.declared.attr.Attr.TheVariants as attr
 use Rattle.sel_target.specs.Meaning.{Extent}
-use Rattle.sel_target.specs.Values.{View, term_state, address_of, own_operand, token_operand, token_worth}
+use Rattle.sel_target.specs.Values.{View, address_of, own_operand, token_operand, token_worth}
 use Rattle.sel_target.specs.Values as target
 use Rattle.sel_target.specs.EffectTerms.{begins_with_save}
 use Rattle.sel_target.specs.Instances.{hole, InFrame, TokenIsWhole, IsWhole, KindFits, SymFits, Fit, IsResult, Instance}
@@ -56,14 +55,12 @@ use Rattle.vax_target_meaning.specs.Reading.{named, moved, names, reads}
 use Rattle.vax_target_meaning.specs.Vax.{vax}
 use Rattle.vax_target_operands.specs.Scenes.{Scene, worth, role_at, filling_at, IsLocal, Names, IsNumber, IsObject, IsSavedLocal, Means, OwnIs, Sees}
 use Rattle.vax_target_operands.proofs.Machine.{mapped}
+use Rattle.vax_target_operands.proofs.Worths.{worth_small}
 use Rattle.vax_target_rules.specs.Scene.{scene_of, InstancesAreSeen}
 
 -- ---- a symbol and what fills it
 
 module _ (c : Scene) (m : State) (i : ℕ) (labelled : AreLabelled c.program.objects m) where
-  worth_small : (t : Shape) → worth c t < 2 ^ 32
-  worth_small t = small (term_state c.view) t
-
   abbrev token : Tok → Att → Attr Operand
   token t a = attr.Token (record { tok = t; att = a })
 
@@ -134,7 +131,7 @@ module _ (c : Scene) (m : State) (i : ℕ) (labelled : AreLabelled c.program.obj
 
   constant_means : (a : Att) → is_of_kind att_kind.Other a ≡ true → KnowsToken tok.Const a → TokenIsWhole tok.Const a (c.view.symbol i) → IsNumber c (token tok.Const a) (worth c (Symbol i))
   constant_means att.Nothing fits known whole = cc
-  constant_means (att.Number n) fits known whole = record { nameless = refl; is = same_Some n (worth c (Symbol i)) (known whole); low = worth_small (Symbol i) }
+  constant_means (att.Number n) fits known whole = record { nameless = refl; is = same_Some n (worth c (Symbol i)) (known whole); low = worth_small c (Symbol i) }
   constant_means (att.Object object offset) fits known whole = cc
   constant_means (att.Slot k) fits known whole = cc
   constant_means (att.Branch rel label) fits known whole = cc
@@ -207,7 +204,7 @@ module _ (c : Scene) (m : State) (i : ℕ) (labelled : AreLabelled c.program.obj
   class_means (Some kind.Con) (attr.InSlot k) fits known whole homes = absurd fits
   class_means (Some kind.Con) (attr.Value o) fits known whole homes = absurd fits
   class_means (Some kind.Con) (attr.Place o) fits known whole homes = absurd fits
-  class_means (Some kind.Con) (attr.Con n) fits known whole homes = record { nameless = refl; is = same_Some n (worth c (Symbol i)) (known whole); low = worth_small (Symbol i) }
+  class_means (Some kind.Con) (attr.Con n) fits known whole homes = record { nameless = refl; is = same_Some n (worth c (Symbol i)) (known whole); low = worth_small c (Symbol i) }
   class_means (Some kind.Con) (attr.Ea o) fits known whole homes = absurd fits
   class_means (Some kind.Con) (attr.Token l) fits known whole homes = absurd fits
   class_means (Some kind.Con) attr.Nothing fits known whole homes = absurd fits

@@ -7,14 +7,12 @@ use Rattle.gg_base.proofs.Facts.{err_ok, ok_same}
 use Rattle.md_reader_pieces.specs.declared.piece.Line.{Line}
 use Rattle.md_reader_pieces.specs.declared.piece.Piece.{Piece}
 use Rattle.term_core.specs.Shape.{Shape}
-use Rattle.term_core.proofs.Values.{small}
 use Rattle.sel_terms.specs.Effects.{ActShape, Return}
 use Rattle.sel_target.specs.declared.fault.TemplateKind.{TemplateKind}
 use Rattle.sel_target.specs.declared.fault.TemplateKind.TheVariants.{NotInstr}
 use Rattle.sel_target.specs.declared.attr.Attr.{Attr}
 use Rattle.sel_target.specs.declared.attr.Attr.TheVariants as attr
 use Rattle.sel_target.specs.Meaning.{Fault, RegAt, touches}
-use Rattle.sel_target.specs.Values.{term_state}
 use Rattle.sel_target.specs.Instances.{attr_touches}
 use Rattle.vax_core.specs.declared.register.Reg.{Reg}
 use Rattle.vax_core.specs.declared.register.Reg.TheVariants.{R0}
@@ -46,6 +44,7 @@ use Rattle.vax_templates.proofs.Judgements.{read_is}
 use Rattle.vax_target_meaning.specs.Vax.{vax}
 use Rattle.vax_target_operands.specs.Scenes.{Scene, worth, role_at, filling_at, is_lost, Means, OwnIs, Holds, Sees}
 use Rattle.vax_target_operands.proofs.Binds.{Chained, chained}
+use Rattle.vax_target_operands.proofs.Worths.{worth_small}
 use Rattle.vax_target_lines.specs.Takings.{AreRead}
 use Rattle.vax_target_lines.specs.Lines.{CodesMean, ZeroHolds, DoesDeed, with_own, with_last, MayHold, GoesOn, DoesLine, EndIsRead, NoneIsZero}
 use Rattle.vax_target_lines.proofs.Performing.{lines_do}
@@ -144,6 +143,7 @@ module _ (c : Scene) where
       let j = judged_is c.setting c.roles is_first l p d.first d.is in
       absurd (nothing_behind is_first p.own deed l.pieces j.deed (subst (λ x. line_did c.setting c.roles is_first p.own x l.pieces ≡ Ok j.deed) is j.did))
 
+  -- `ret` stands behind a value that is to be returned
   returns_so : (n : State) → performed plain_return n ≡ ends (Returns n)
   unfolding performed
   returns_so n = refl
@@ -181,12 +181,9 @@ module _ (c : Scene) (m : State) (apart : IsApart c) (low : reg_number (register
   holds_kept None n k h = h
   holds_kept (Some t) n k h = h
 
-  worth_small : (t : Shape) → worth c t < 2 ^ 32
-  worth_small t = small (term_state c.view) t
-
   own_step : (o : Option Shape) (n : State) (k : Conditions) → IsSound n → Differs (OwnChanged c o) n (with_conditions (with_own c n o) k)
   own_step None n k s = codes_differ n k s
-  own_step (Some t) n k s = set_differs n (register_in c.own) (worth c t) k s (worth_small t)
+  own_step (Some t) n k s = set_differs n (register_in c.own) (worth c t) k s (worth_small c t)
 
   own_low : (o : Option Shape) (x : ℕ) → OwnChanged c o x → x < 12
   own_low None x e = absurd e
@@ -210,7 +207,7 @@ module _ (c : Scene) (m : State) (apart : IsApart c) (low : reg_number (register
     answered = h.answered;
   }
   sees_own held (Some t) n k may h =
-      let d = set_differs n (register_in c.own) (worth c t) k h.sound (worth_small t) in
+      let d = set_differs n (register_in c.own) (worth c t) k h.sound (worth_small c t) in
       record {
         sound = d.sound;
         area = h.area;
@@ -257,7 +254,7 @@ module _ (c : Scene) (m : State) (apart : IsApart c) (low : reg_number (register
       let first = goes_plain held o l0 (Returning t) n n.conditions r h quiet in
       joined (Changed c (kept_or_put held o) (Returning t)) (λ x. x ≡ 0) (Changed c (kept_or_put held o) (Returning t)) m (with_conditions (with_own c n o) n.conditions)
       (with_conditions (with_reg (with_own c n o) R0 (worth c t)) k) (λ x e. e) (λ x e. inr e) first
-      (again (set_differs (with_conditions (with_own c n o) n.conditions) R0 (worth c t) k first.sound (worth_small t)))
+      (again (set_differs (with_conditions (with_own c n o) n.conditions) R0 (worth c t) k first.sound (worth_small c t)))
     where
       again : Differs (λ x. x ≡ 0) (with_conditions (with_own c n o) n.conditions) (with_conditions (with_reg (with_conditions (with_own c n o) n.conditions) R0 (worth c t)) k) →
           Differs (λ x. x ≡ 0) (with_conditions (with_own c n o) n.conditions) (with_conditions (with_reg (with_own c n o) R0 (worth c t)) k)

@@ -2,9 +2,8 @@
 use Rattle.std.proofs.Common.{◌≡◌, ℕ, ◌^◌, ◌<◌, ◌==◌, Bool, true, false, cond, Option, Some, None, Result, Ok, refl, sym, ap, subst, ◌∙◌, arith, option_map}
 use Rattle.std.proofs.lemmas.Bool.{lt-ltb}
 use Rattle.gg_base.specs.declared.size.Size.{Size}
-use Rattle.gg_base.specs.declared.size.Size.TheVariants.{Byte, Word, Long}
-use Rattle.gg_base.specs.Arithmetic.{add32, mul32}
-use Rattle.gg_base.specs.Sizes.{bytes_of}
+use Rattle.gg_base.specs.declared.size.Size.TheVariants.{Long}
+use Rattle.gg_base.specs.Arithmetic.{add32}
 use Rattle.gg_base.proofs.Facts.{err_ok, ok_same}
 use Rattle.tree_core.specs.Area as trees
 use Rattle.term_core.specs.Shape.{Shape, Symbol, Memory}
@@ -41,6 +40,7 @@ use Rattle.vax_target_operands.specs.Places.{BaseIsShort}
 use Rattle.vax_target_operands.proofs.Binds.{chained}
 use Rattle.vax_target_operands.proofs.Holes.{area_bytes, memory_read, number_is, absolute_is, register_is}
 use Rattle.vax_target_operands.proofs.Forms.{displaced_is}
+use Rattle.vax_target_operands.proofs.Worths.{scaled_is}
 
 pub is_longword : (n : ℕ) → n < 2 ^ 32 → longword n ≡ Some n
 is_longword n lt = ap (λ b. cond b (Some n) None) (lt-ltb n (2 ^ 32) lt)
@@ -182,14 +182,9 @@ module _ (c : Scene) (m : State) (h : Sees c None m) where
   moved_none o size a k =
       ap (λ i. option_map (reading.moved m i size) (named m o.base)) k.plain ∙ ap (option_map (reading.moved m None size)) k.named_so
 
-  scaled_is : (size : Size) (t : Shape) (n : ℕ) → n ≡ worth c t → mul32 n (bytes_of size) ≡ worth c (scaled size t)
-  scaled_is Byte t n e = (let r : mul32 n 1 ≡ mul32 1 n = omega arith in r) ∙ ap (λ x. mul32 1 x) e
-  scaled_is Word t n e = (let r : mul32 n 2 ≡ mul32 2 n = omega arith in r) ∙ ap (λ x. mul32 2 x) e
-  scaled_is Long t n e = (let r : mul32 n 4 ≡ mul32 4 n = omega arith in r) ∙ ap (λ x. mul32 4 x) e
-
   moved_some : (o : Operand) (r : Reg) (size : Size) (a t : Shape) → IsAt o a → reg m r ≡ worth c t → names (record o { index = Some r }) size m ≡ Some (worth c (sum a (scaled size t)))
   moved_some o r size a t k e =
-      ap (option_map (reading.moved m (Some r) size)) k.named_so ∙ ap (λ (x : ℕ). Some (add32 (worth c a) x)) (scaled_is size t (reg m r) e)
+      ap (option_map (reading.moved m (Some r) size)) k.named_so ∙ ap (λ (x : ℕ). Some (add32 (worth c a) x)) (scaled_is c size t (reg m r) e)
 
   -- where an operand stands at an address that can be read, it names it
   abbrev pub NamesAt : Where → Operand → Size → Type 0

@@ -3,7 +3,7 @@ use Rattle.std.proofs.Common.{◌≡◌, ℕ, ◌==◌, Bool, true, false, cond,
 use Rattle.std.specs.Prelude.{IsSome}
 use Rattle.std.proofs.lemmas.Bool.{true≢false}
 use Rattle.gg_base.specs.declared.size.Size.{Size}
-use Rattle.gg_base.specs.declared.size.Size.TheVariants.{Byte, Word, Long}
+use Rattle.gg_base.specs.declared.size.Size.TheVariants.{Long}
 use Rattle.gg_base.specs.Arithmetic.{neg32}
 use Rattle.gg_base.proofs.Facts.{err_ok, ok_same}
 use Rattle.gg_base.specs.Sizes.{low}
@@ -47,14 +47,9 @@ use Rattle.vax_target_operands.specs.Scenes.{Scene, worth, role_at, filling_at, 
 use Rattle.vax_target_operands.specs.Places.{BaseIsShort}
 use Rattle.vax_target_operands.proofs.Binds.{chained}
 use Rattle.vax_target_operands.proofs.Holes.{memory_read, number_is, constant_known, number_means, constant_address}
+use Rattle.vax_target_operands.proofs.Worths.{cut_is}
 use Rattle.vax_target_reading.proofs.Places.{by_names}
 use Rattle.vax_target_shapes.proofs.Naming.{is_longword, in_area, all_mean, NamesAt, form_names}
-
--- the part of a number that is read
-cut_is : (c : Scene) (size : Size) (t : Shape) (n : ℕ) → n ≡ worth c t → low size n ≡ worth c (truncated size t)
-cut_is c Byte t n e = ap (low Byte) e
-cut_is c Word t n e = ap (low Word) e
-cut_is c Long t n e = e
 
 module _ (c : Scene) (m : State) (h : Sees c None m) where
   abbrev F : Base → Operand
