@@ -3,7 +3,7 @@ use Rattle.std.proofs.Common.{◌≡◌, ℕ, ◌++◌, Bool, true, false, cond,
 use Rattle.std.specs.Prelude.{◌||◌}
 use Rattle.std.specs.List.{AllByRecursion, list_any, list_all}
 use Rattle.std.proofs.lemmas.Bool.{and_parts}
-use Rattle.gg_base.proofs.Facts.{err_ok, ok_same}
+use Rattle.gg_base.proofs.Facts.{err_ok, ok_same, either_is}
 use Rattle.md_reader_pieces.specs.declared.piece.Line.{Line}
 use Rattle.md_reader.specs.declared.types.Kind.{Kind}
 use Rattle.md_reader.specs.declared.types.Class.{Class}
@@ -67,10 +67,6 @@ module _ (every : Bool) (v : View) where
   abbrev Safe : Shape → Type 0
   Safe t = IsReadWhere every v t
 
-  either_true : (a b : Bool) (P : Type 0) → (a || b) ≡ true → (a ≡ true → P) → (b ≡ true → P) → P
-  either_true true b P e f g = f refl
-  either_true false b P e f g = g e
-
   itself : (part t : Shape) → Safe t → same_term part t ≡ true → Safe part
   itself part t h e = subst Safe (sym (term_same part t e)) h
 
@@ -78,11 +74,11 @@ module _ (every : Bool) (v : View) where
   contained part (Constant n) e h = itself part (Constant n) h e
   contained part (Symbol i) e h = itself part (Symbol i) h e
   contained part LastResult e h = itself part LastResult h e
-  contained part (Memory z a) e h = either_true (same_term part (Memory z a)) (contains part a) (Safe part) e (itself part (Memory z a) h) (λ x. contained part a x h.0)
-  contained part (Unary op t) e h = either_true (same_term part (Unary op t)) (contains part t) (Safe part) e (itself part (Unary op t) h) (λ x. contained part t x h)
+  contained part (Memory z a) e h = either_is (same_term part (Memory z a)) (contains part a) e (itself part (Memory z a) h) (λ x. contained part a x h.0)
+  contained part (Unary op t) e h = either_is (same_term part (Unary op t)) (contains part t) e (itself part (Unary op t) h) (λ x. contained part t x h)
   contained part (Binary op a b) e h =
-      either_true (same_term part (Binary op a b)) (contains part a || contains part b) (Safe part) e (itself part (Binary op a b) h)
-      (λ y. either_true (contains part a) (contains part b) (Safe part) y (λ x. contained part a x h.0) (λ x. contained part b x h.1))
+      either_is (same_term part (Binary op a b)) (contains part a || contains part b) e (itself part (Binary op a b) h)
+      (λ y. either_is (contains part a) (contains part b) y (λ x. contained part a x h.0) (λ x. contained part b x h.1))
 
   abbrev AllSafe : List Shape → Type 0
   AllSafe ts = AllByRecursion (λ (t : Shape). Safe t) ts
@@ -94,8 +90,8 @@ module _ (every : Bool) (v : View) where
   act_contained (act.PlaceHome z i) part e h = cc
   act_contained (act.PlaceAt z a) part e h = contained part a e h.0
   act_contained (act.StoreHome z i t) part e h = contained part t e h.0
-  act_contained (act.StoreAt z a t) part e h = either_true (contains part a) (contains part t) (Safe part) e (λ x. contained part a x h.0) (λ x. contained part t x h.1.0)
-  act_contained (act.Branch i a b) part e h = either_true (contains part a) (contains part b) (Safe part) e (λ x. contained part a x h.0) (λ x. contained part b x h.1.0)
+  act_contained (act.StoreAt z a t) part e h = either_is (contains part a) (contains part t) e (λ x. contained part a x h.0) (λ x. contained part t x h.1.0)
+  act_contained (act.Branch i a b) part e h = either_is (contains part a) (contains part b) e (λ x. contained part a x h.0) (λ x. contained part b x h.1.0)
   act_contained (act.Push t) part e h = contained part t e h.0
   act_contained act.Call part e h = cc
   act_contained (act.Save i) part e h = cc
@@ -104,7 +100,7 @@ module _ (every : Bool) (v : View) where
 
   any_contained : (ts : List Shape) (part : Shape) → list_any (contains part) ts ≡ true → AllSafe ts → Safe part
   any_contained [] part e h = cc
-  any_contained (t ∷ ts) part e h = either_true (contains part t) (list_any (contains part) ts) (Safe part) e (λ x. contained part t x h.0) (λ x. any_contained ts part x h.1)
+  any_contained (t ∷ ts) part e h = either_is (contains part t) (list_any (contains part) ts) e (λ x. contained part t x h.0) (λ x. any_contained ts part x h.1)
 
   pub front_safe : (xs ys : List Shape) → AllSafe (xs ++ ys) → AllSafe xs
   front_safe [] ys h = tt
@@ -116,7 +112,7 @@ module _ (every : Bool) (v : View) where
 
   effect_contained : (e : EffectShape) (part : Shape) → effect_contains e part ≡ true → AllSafe (terms_of e) → Safe part
   effect_contained e part is h =
-      either_true (act_contains e.act part) (list_any (contains part) e.divisors) (Safe part) is
+      either_is (act_contains e.act part) (list_any (contains part) e.divisors) is
       (λ x. act_contained e.act part x (front_safe (terms_of_act e.act) e.divisors h)) (λ x. any_contained e.divisors part x (back_safe (terms_of_act e.act) e.divisors h))
 
   all_contained : (e : EffectShape) (ts : List Shape) → list_all (effect_contains e) ts ≡ true → AllSafe (terms_of e) → AllSafe ts

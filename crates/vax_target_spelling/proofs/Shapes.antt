@@ -5,7 +5,7 @@ use Rattle.std.specs.List.{list_any}
 use Rattle.gg_base.specs.declared.size.Size.{Size}
 use Rattle.gg_base.specs.declared.size.Size.TheVariants.{Byte, Long}
 use Rattle.gg_base.specs.Arithmetic.{neg32}
-use Rattle.gg_base.proofs.Facts.{not_zero, one_less}
+use Rattle.gg_base.proofs.Facts.{not_zero, one_less, either_is}
 use Rattle.std.proofs.lemmas.Bool.{false≢true, or_left, or_right}
 use Rattle.tree_core.specs.declared.token.Tok.{Tok}
 use Rattle.tree_core.specs.declared.token.Tok.TheVariants as tok
@@ -67,7 +67,6 @@ use Rattle.vax_templates.specs.Filled.{slot_deferred, argument_deferred, operand
 use Rattle.vax_target_meaning.specs.Vax.{vax}
 use Rattle.vax_target_meaning.proofs.Own.{attr_alone}
 use Rattle.vax_target_writing.proofs.Each.{EachOk, bind_each, always_ok, still_ok, of_ok}
-use Rattle.vax_target_writing.proofs.Naming.{either_is}
 use Rattle.vax_target_spelling.proofs.Own.{names_at, base_at, touches_is}
 
 -- ---- operands that touch nothing, and those that touch what a register touches

@@ -9,7 +9,7 @@ use Rattle.std.proofs.lemmas.Bool.{le-leb, and_from, false≢true}
 use Rattle.std.proofs.lemmas.Fmt.{decimal_by_steps, length-decimal-le}
 use Rattle.std.proofs.lemmas.List.Folds.{list_all-append}
 use Rattle.std.proofs.lemmas.Option.{none-some, same_Some}
-use Rattle.gg_base.proofs.Facts.{second_true, first_true}
+use Rattle.gg_base.proofs.Facts.{second_true, first_true, either_is}
 use Rattle.tree_core.specs.declared.token.Tok.{Tok}
 use Rattle.tree_core.specs.declared.token.Tok.TheVariants as tok
 use Rattle.tree_core.specs.declared.token.AttKind.{AttKind}
@@ -261,10 +261,6 @@ callee_allowed register right (piece.Label ∷ ps) fit e =
 
 pieces_of_line : (register : Bool) (right : List Sym) (ps : List Piece) → line_fits register right ps ≡ true → pieces_fit register right ps ≡ true
 pieces_of_line register right ps e = second_true (relation_fits register right (hole_behind (behind_j ps))) (pieces_fit register right ps) e
-
-pub either_is : (a b : Bool) {P : Type 0} → (a || b) ≡ true → (a ≡ true → P) → (b ≡ true → P) → P
-either_is true b e f g = f refl
-either_is false b e f g = g e
 
 pub line_names : (q : TreeProgram) (classes : List Class) (right : List Sym) (hs : List (Attr Operand)) (register : Bool) (ps : List Piece) →
     CanWrite q → Fit vax classes right hs → AreSpelled q hs → line_fits register right ps ≡ true → Names q hs ps
