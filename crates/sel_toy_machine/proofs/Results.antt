@@ -8,6 +8,7 @@ use Rattle.gg_base.specs.declared.size.Size.{Size}
 use Rattle.gg_base.specs.declared.size.Size.TheVariants.{Long}
 use Rattle.gg_base.specs.Arithmetic.{add32, div32}
 use Rattle.gg_base.proofs.Words.{some_quotient}
+use Rattle.gg_base.proofs.Facts.{head_same, nil_cons}
 use Rattle.tree_core.specs.declared.program.TreeProgram.{TreeProgram}
 use Rattle.md_reader_pieces.specs.declared.piece.Line.{Line}
 use Rattle.md_reader.specs.declared.types.Kind.{Kind}
@@ -62,12 +63,6 @@ no_value a t e h = subst NoValue e h
 
 not_value : (a : ActShape) (e : EffectShape) (t : Shape) → undivided a ≡ e → e.act ≡ Value t → NoValue a → ⊥
 not_value a e t is act h = no_value a t (ap (λ (x : EffectShape). x.act) is ∙ act) h
-
-no_divisor : (d : Shape) → [] ≡ d ∷ [] → ⊥
-no_divisor d h = cc
-
-same_divisor : (a b : Shape) → a ∷ [] ≡ b ∷ [] → a ≡ b
-same_divisor a b h = cc
 
 pub value_small : (v : View) (t : Shape) → value v t < 2 ^ 32
 value_small v t = term_small (term_state v) t
@@ -193,40 +188,40 @@ module _ (q : TreeProgram) (f : Extent) (fs : List Extent) (classes : List Class
       run (filled q (Some g) hs res ∷ []) m ≡ traps
   trap_ends (form.Move size i) e d res found is inst zero_is =
       let w = where_is (gives_register rule.give && is_sized classes rule.right size i) (undivided (Value (Symbol i))) e found in
-      absurd (no_divisor d (ap (λ (x : EffectShape). x.divisors) w.1 ∙ is))
+      absurd (nil_cons d [] (ap (λ (x : EffectShape). x.divisors) w.1 ∙ is))
   trap_ends (form.Address i) e d res found is inst zero_is = absurd (none-some e found)
   trap_ends (form.Add i j) e d res found is inst zero_is =
       let w = where_is (gives_register rule.give && (is_sized classes rule.right Long i && is_sized classes rule.right Long j))
       (undivided (Value (Binary binary_op.Add (Symbol i) (Symbol j)))) e found in
-      absurd (no_divisor d (ap (λ (x : EffectShape). x.divisors) w.1 ∙ is))
+      absurd (nil_cons d [] (ap (λ (x : EffectShape). x.divisors) w.1 ∙ is))
   trap_ends (form.Divide i j) e d res found is inst zero_is =
       let u : EffectShape = record { act = Value (Binary binary_op.Div (Symbol i) (Symbol j)); divisors = Symbol j ∷ [] } in
       let w = where_is (gives_register rule.give && (is_sized classes rule.right Long i && is_sized classes rule.right Long j)) u e found in
       let inst' = subst (I false) (sym w.1) inst in
-      let same : Symbol j ≡ d = same_divisor (Symbol j) d (ap (λ (x : EffectShape). x.divisors) w.1 ∙ is) in
+      let same : Symbol j ≡ d = head_same (Symbol j) d [] [] (ap (λ (x : EffectShape). x.divisors) w.1 ∙ is) in
       let s = sized_both i j w.0 in
       let x = known false u inst' Long i s.0 inst'.read.0.0 in
       let y = known false u inst' Long j s.1 inst'.read.0.1 in
       divide_runs (source_at q hs i) (source_at q hs j) (destination_of res) m (value v (Symbol i)) (value v (Symbol j)) x y
       ∙ ap (λ o. followed (divided o (λ z. comes (put_in (destination_of res) z m))) [] (run [])) (no_quotient (value v (Symbol i)) (value v (Symbol j)) (ap (value v) same ∙ zero_is))
   trap_ends (form.Store size i j) e d res found is inst zero_is =
-      absurd (no_divisor d (ap (λ (x : EffectShape). x.divisors) (where_is _ (undivided (StoreHome size i (Symbol j))) e found).1 ∙ is))
+      absurd (nil_cons d [] (ap (λ (x : EffectShape). x.divisors) (where_is _ (undivided (StoreHome size i (Symbol j))) e found).1 ∙ is))
   trap_ends (form.StoreAt size i j) e d res found is inst zero_is =
-      absurd (no_divisor d (ap (λ (x : EffectShape). x.divisors) (where_is _ (undivided (StoreAt size (Symbol i) (Symbol j))) e found).1 ∙ is))
-  trap_ends (form.Push i) e d res found is inst zero_is = absurd (no_divisor d (ap (λ (x : EffectShape). x.divisors) (where_is _ (undivided (Push (Symbol i))) e found).1 ∙ is))
+      absurd (nil_cons d [] (ap (λ (x : EffectShape). x.divisors) (where_is _ (undivided (StoreAt size (Symbol i) (Symbol j))) e found).1 ∙ is))
+  trap_ends (form.Push i) e d res found is inst zero_is = absurd (nil_cons d [] (ap (λ (x : EffectShape). x.divisors) (where_is _ (undivided (Push (Symbol i))) e found).1 ∙ is))
   trap_ends (form.Branch i j k) e d res found is inst zero_is =
-      absurd (no_divisor d (ap (λ (x : EffectShape). x.divisors) (where_is _ (undivided (Branch i (Symbol j) (Symbol k))) e found).1 ∙ is))
-  trap_ends (form.Jump i) e d res found is inst zero_is = absurd (no_divisor d (ap (λ (x : EffectShape). x.divisors) (where_is _ (undivided Jump) e found).1 ∙ is))
-  trap_ends (form.Call i) e d res found is inst zero_is = absurd (no_divisor d (ap (λ (x : EffectShape). x.divisors) (where_is _ (undivided Call) e found).1 ∙ is))
-  trap_ends (form.Return i) e d res found is inst zero_is = absurd (no_divisor d (ap (λ (x : EffectShape). x.divisors) (where_is _ (undivided (Return (Symbol i))) e found).1 ∙ is))
-  trap_ends (form.Save i) e d res found is inst zero_is = absurd (no_divisor d (ap (λ (x : EffectShape). x.divisors) (where_is _ (undivided (Save i)) e found).1 ∙ is))
+      absurd (nil_cons d [] (ap (λ (x : EffectShape). x.divisors) (where_is _ (undivided (Branch i (Symbol j) (Symbol k))) e found).1 ∙ is))
+  trap_ends (form.Jump i) e d res found is inst zero_is = absurd (nil_cons d [] (ap (λ (x : EffectShape). x.divisors) (where_is _ (undivided Jump) e found).1 ∙ is))
+  trap_ends (form.Call i) e d res found is inst zero_is = absurd (nil_cons d [] (ap (λ (x : EffectShape). x.divisors) (where_is _ (undivided Call) e found).1 ∙ is))
+  trap_ends (form.Return i) e d res found is inst zero_is = absurd (nil_cons d [] (ap (λ (x : EffectShape). x.divisors) (where_is _ (undivided (Return (Symbol i))) e found).1 ∙ is))
+  trap_ends (form.Save i) e d res found is inst zero_is = absurd (nil_cons d [] (ap (λ (x : EffectShape). x.divisors) (where_is _ (undivided (Save i)) e found).1 ∙ is))
 
   pub trap_by : (e : EffectShape) (d : Shape) (res : Attr Operand) → Taken classes rule e → I false e → e.divisors ≡ d ∷ [] → value v d ≡ 0 → run (lines_of toy q rule hs res) m ≡ traps
   trap_by e d res (by_line l g lines is found) inst divisors zero_is =
       subst (λ ls. run (map (λ (k : Line). toy.instr q k hs res) ls) m ≡ traps) (sym lines)
       (subst (λ o. run (filled q o hs res ∷ []) m ≡ traps) (sym is) (trap_ends g e d res found divisors inst zero_is))
   trap_by e d res (by_shape l lines gives found) inst divisors zero_is =
-      absurd (no_divisor d (sym (undivided_shape classes rule (kind_at classes rule.left) (shape_of l.pieces) e found) ∙ divisors))
+      absurd (nil_cons d [] (sym (undivided_shape classes rule (kind_at classes rule.left) (shape_of l.pieces) e found) ∙ divisors))
 
 form_divisors : (classes : List Class) (rule : Rule) (g : Form) (e : EffectShape) → found_form classes rule g ≡ Some e → length e.divisors ≤ 1
 form_divisors classes rule (form.Move size i) e h = subst (λ (x : EffectShape). length x.divisors ≤ 1) (where_is _ _ e h).1 (omega arith)
