@@ -6,7 +6,7 @@ use Rattle.std.specs.List.{AllByRecursion, list_any}
 use Rattle.std.proofs.lemmas.Bool.{eqb-true}
 use Rattle.gg_base.specs.declared.size.Size.{Size}
 use Rattle.gg_base.specs.declared.size.Size.TheVariants.{Long}
-use Rattle.gg_base.proofs.Facts.{err_ok, ok_same, second_false, second_true, first_true, first_false}
+use Rattle.gg_base.proofs.Facts.{err_ok, ok_same, second_false, second_true, first_true, first_false, head_same}
 use Rattle.md_reader_pieces.specs.declared.piece.Piece.{Piece}
 use Rattle.term_core.specs.Shape.{Shape, Constant, Symbol, LastResult, Memory, Unary, Binary}
 use Rattle.sel_terms.specs.Effects.{ActShape}
@@ -69,7 +69,7 @@ use Rattle.vax_target_lines.specs.Takings.{IsDestination, AreRead, CanAim, AreOf
 use Rattle.vax_target_lines.specs.Lines.{CodesMean, ZeroHolds, putting, DoesDeed, MayEnd, DoesLine, EndIsRead, NoneIsZero, LinesDo, LinesTrap}
 use Rattle.vax_target_lines.proofs.Rows.{Suits, row_of}
 use Rattle.vax_target_lines.proofs.Short.{AreShort, IsShortLine, instruction_short}
-use Rattle.vax_target_lines.proofs.Takings.{own_place, all_taken, evaluated_plain}
+use Rattle.vax_target_lines.proofs.Takings.{own_place, all_taken, evaluated_plain, no_destination}
 
 -- ---- registers
 
@@ -200,10 +200,6 @@ module _ (c : Scene) (held : Option Shape) (m : State) (h : Sees c held m) where
   no_result (Compares a b) = true
   no_result (Tests t) = true
 
-  no_aim : (dest : Option Destination) → IsDestination c m None dest → dest ≡ None
-  no_aim None a = refl
-  no_aim (Some x) a = absurd a
-
   -- the codes alone
   codes_only : (r : Computed) → storing None r.value r.conditions ≡ comes (with_conditions m r.conditions)
   unfolding machine.stored
@@ -224,7 +220,7 @@ module _ (c : Scene) (held : Option Shape) (m : State) (h : Sees c held m) where
       subst (λ y. Did d (course_of (finished m dest y))) (sym r.is)
       (with_divisor w u.first d _ u.then_so (put_did op to dest t r.result.value r.result.conditions u.first size u.is r.so aim at long))
   computed_did op to (Compares a b) o dest d size e x aim at long plain some =
-      let none = no_aim dest (subst (λ y. IsDestination c m y dest) (plain refl) aim) in
+      let none = no_destination c m dest (subst (λ y. IsDestination c m y dest) (plain refl) aim) in
       subst (λ (y : Deed). Did y (course_of (finished m dest o))) (ok_same (leaves (Compared a b)) d e)
       (record {
         conditions = x.result.conditions;
@@ -234,7 +230,7 @@ module _ (c : Scene) (held : Option Shape) (m : State) (h : Sees c held m) where
         last_may = tt;
       })
   computed_did op to (Tests t) o dest d size e x aim at long plain some =
-      let none = no_aim dest (subst (λ y. IsDestination c m y dest) (plain refl) aim) in
+      let none = no_destination c m dest (subst (λ y. IsDestination c m y dest) (plain refl) aim) in
       subst (λ (y : Deed). Did y (course_of (finished m dest o))) (ok_same (leaves (Tested t)) d e)
       (record {
         conditions = x.result.conditions;
@@ -518,15 +514,12 @@ module _ (c : Scene) (held : Option Shape) (m : State) (h : Sees c held m) where
   no_divisor : (ds : List Shape) (w : Shape) → ds ≡ [] → ds ≡ w ∷ [] → ⊥
   no_divisor ds w a b = let r : [] ≡ w ∷ [] = sym a ∙ b in cc
 
-  same_divisor : (a b : Shape) → a ∷ [] ≡ b ∷ [] → a ≡ b
-  same_divisor a b e = cc
-
   computed_trap : (op : Op) (to : Option Target) (g : Given) (o : Option Computed) (dest : Option Destination) (d : Deed) (w : Shape) →
       computed op to g ≡ Ok d → IsGiven c g o → d.divisors ≡ w ∷ [] → worth c w ≡ 0 → course_of (finished m dest o) ≡ ends (Stops Trapped)
   computed_trap op to (Computes t) o dest d w e x is z = absurd (no_divisor d.divisors w (put_undivided op to t d e) is)
   computed_trap op to (Divides t y) o dest d w e x is z =
       let u = chained (put op to t) (divided y) d e in
-      let same = same_divisor y w (ap (λ (v : Deed). v.divisors) (ok_same (record u.first { divisors = y ∷ [] }) d u.then_so) ∙ is) in
+      let same = head_same y w [] [] (ap (λ (v : Deed). v.divisors) (ok_same (record u.first { divisors = y ∷ [] }) d u.then_so) ∙ is) in
       ap (λ k. course_of (finished m dest k)) (x.traps (ap (worth c) same ∙ z))
   computed_trap op to (Compares a b) o dest d w e x is z = absurd (no_divisor d.divisors w (ap (λ (y : Deed). y.divisors) (sym (ok_same (leaves (Compared a b)) d e))) is)
   computed_trap op to (Tests t) o dest d w e x is z = absurd (no_divisor d.divisors w (ap (λ (y : Deed). y.divisors) (sym (ok_same (leaves (Tested t)) d e))) is)

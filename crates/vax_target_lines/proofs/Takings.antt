@@ -108,6 +108,10 @@ fetched_narrow m (locations.Number x) Long n s lt e = lt
 fetched_narrow m (locations.Register r) size n s lt e = subst (IsNarrow size) (ok_same (low size (reg m r)) n e) (narrow_low size (reg m r) (reg_small m r s))
 fetched_narrow m (locations.Memory a) size n s lt e = read_narrow m size a n s e
 
+pub no_destination : (c : Scene) (m : State) (d : Option Destination) → IsDestination c m None d → d ≡ None
+no_destination c m None a = refl
+no_destination c m (Some d) a = absurd a
+
 -- ---- pointers
 
 module _ (c : Scene) (held : Option Shape) where
@@ -534,10 +538,6 @@ module _ (c : Scene) (held : Option Shape) (m : State) (h : Sees c held m) where
   back_size None size a = a
   back_size (Some d) size a = a
 
-  no_destination : (d : Option Destination) → IsDestination c m None d → d ≡ None
-  no_destination None a = refl
-  no_destination (Some d) a = absurd a
-
   last_of_none : (t : Option Target) → last_of None t ≡ t
   last_of_none None = refl
   last_of_none (Some t) = refl
@@ -577,7 +577,7 @@ module _ (c : Scene) (held : Option Shape) (m : State) (h : Sees c held m) where
   more_taken : (k j : OperandKind) (f : Form) (ks : List OperandKind) (fs : List Form) (n : ℕ) (t : Taken) (r x : Arguments) → t.target ≡ None → IsEvaluated k f t → Takes c m (j ∷ ks) fs n r →
       whole t r ≡ x → Takes c m (k ∷ j ∷ ks) (f ∷ fs) (suc n) x
   more_taken k j f ks fs n t r x none v rest s =
-      let empty = no_destination v.number.destination (subst (λ o. IsDestination c m o v.number.destination) none v.aim) in
+      let empty = no_destination c m v.number.destination (subst (λ o. IsDestination c m o v.number.destination) none v.aim) in
       front_taken k f (j ∷ ks) fs n t r x v rest s
       (subst (λ o. IsDestination c m (last_of o r.target) (machine.last_of v.number.destination rest.numbers.destination)) (sym none)
       (subst (λ d. IsDestination c m (last_of None r.target) (machine.last_of d rest.numbers.destination)) (sym empty)
