@@ -32,9 +32,9 @@ use Rattle.vax_states.specs.Stack.{long_at, Extent, argument_of, Holds, Hold, ca
 use Rattle.vax_machine_lists.specs.Sound.{IsSound}
 use Rattle.vax_states.specs.Agreeing.{AreLabelled, Agrees, HasRoom}
 use Rattle.vax_frames_law.specs.Calling.{IsMask}
-use Rattle.vax_states.proofs.Pieces.{stored_there, stored_below, low_fp, fp_high, holds_kept, hold_kept}
+use Rattle.vax_states.proofs.Pieces.{stored_there, stored_below, holds_kept, hold_kept}
 use Rattle.vax_states.proofs.Touching.{stack_touched, stack_written}
-use Rattle.vax_states.proofs.Standing.{high_top, free_below}
+use Rattle.vax_states.proofs.Standing.{high_top, free_below, fp_low, fp_high_is}
 use Rattle.vax_states.proofs.Popping.{dropped}
 
 plain_set : (m : State) (y : ℕ) → 2139095040 ≤ y → register_set m Sp y ≡ Ok (with_reg m Sp y)
@@ -245,27 +245,21 @@ module _ (m : State) (can : CanCall m) (mask count : ℕ) (back : Option ℕ) (f
 -- ---- a call from a state that stands for a state of the trees
 
 module _ (objects : List Object) (e : Extent) (es : List Extent) (t : Trees) (m : State) (h : Agrees objects e es t m) (room : HasRoom m) where
-  up : h.innermost.fp + 24 ≤ h.high
-  up = fp_high m.stack h.innermost e t.running (reg m Sp) h.high h.running
-
-  down : reg m Sp ≤ h.innermost.fp
-  down = low_fp m.stack h.innermost e t.running (reg m Sp) h.high h.running
-
   pub can_call : CanCall m
   can_call = record {
     sound = h.sound;
     space = room.space;
-    top = omega (arith, up, down, high_top objects e es t m h);
+    top = omega (arith, fp_high_is objects e es t m h, fp_low objects e es t m h, high_top objects e es t m h);
     aligned = omega (arith, h.running.words, h.running.aligned);
     live = room.frame;
-    free = λ a k le. free_below objects e es t m h a k (omega (arith, le, down));
+    free = λ a k le. free_below objects e es t m h a k (omega (arith, le, fp_low objects e es t m h));
   }
 
   pub caller_holds : (new : List ℕ) (count : ℕ) → SameFrom (reg m Sp) m.stack new → count ≤ length t.running.pushed
       → Hold new m.frames (e ∷ es) (record t.running { pushed = drop count t.running.pushed } ∷ t.callers) (reg m Sp + 4 * count)
   caller_holds new count same many =
-      let u = up in
-      let d = down in
+      let u = fp_high_is objects e es t m h in
+      let d = fp_low objects e es t m h in
       caller h.outer m.frames h.innermost e es (record t.running { pushed = drop count t.running.pushed }) t.callers (reg m Sp + 4 * count) h.high h.frames
       (dropped new h.innermost e t.running (reg m Sp) h.high count (holds_kept m.stack h.innermost e t.running (reg m Sp) h.high h.running new same) many)
       (hold_kept m.stack new h.outer es t.callers h.high h.callers (λ a from. same a (omega (arith, u, d, from))))
