@@ -17,7 +17,6 @@ use Rattle.tree_meaning.specs.declared.value.Value.TheVariants.{Number, ZeroDivi
 use Rattle.tree_meaning.specs.State.{Activation}
 use Rattle.tree_meaning.specs.Values.{bind, address_of as object_address}
 use Rattle.c_types.specs.declared.types.CType.{CType}
-use Rattle.c_types.specs.declared.types.CType.TheVariants as types
 use Rattle.c_types.specs.declared.types.Integer.{Integer}
 use Rattle.c_types.specs.declared.types.Integer.TheVariants as ints
 use Rattle.c_types.specs.declared.typed.Variable.{Variable}
@@ -31,11 +30,11 @@ use Rattle.c_types.specs.declared.typed.Moment.{Moment}
 use Rattle.c_types.specs.declared.typed.Moment.TheVariants as moments
 use Rattle.c_types.specs.declared.typed.Direction.{Direction}
 use Rattle.c_types.specs.declared.typed.Direction.TheVariants as directions
-use Rattle.c_types.specs.Types.{size_of, target, integer_size}
 use Rattle.c_types.specs.Constants.{converted, apply_unary, apply, scale, advanced, retreated, distance}
 use Rattle.c_types.specs.Typed.{APlace, VariableAt, PointedBy, ElementBy, AnExpression, Constant, LiteralAt, ArrayAt, ReadOf, SizeofTerm, SizeOf, AddressOf, CallOf, StepOf}
 use Rattle.c_types.specs.Typed.{UnaryOf, CastTo, ConvertTo, ArithmeticOf, CompareOf, BothOf, EitherOf, AdvanceOf, AdvanceByOf, RetreatOf, DistanceOf, ChoiceOf, AssignTo}
 use Rattle.c_types.specs.Typed.{ArithmeticAssignTo, AdvanceAssignTo, RetreatAssignTo, CommaOf, SomeExpressions, NoExpressions, MoreExpressions}
+use Rattle.c_types.proofs.Sizes.{scale_small}
 use Rattle.c_program.specs.Programs.{ARoutine, AProgram}
 use Rattle.c_meaning.specs.declared.store.Spot.{Spot}
 use Rattle.c_meaning.specs.declared.store.Spot.TheVariants.{Memory}
@@ -96,23 +95,6 @@ mul_one y s e h = let one : mul32 y 1 ≡ y = omega arith in sym (ap (mul32 y) e
 
 div_one : (x s : ℕ) → s ≡ 1 → x < 2 ^ 32 → div32 x s ≡ Some x
 div_one x s e h = ap (div32 x) e ∙ grind (arith, nat_tests)
-
--- the size of what is pointed to
-size_small : (t : CType) → size_of t < 2 ^ 32
-unfolding size_of integer_size
-size_small types.Void = omega arith
-size_small (types.Integer ints.Char) = omega arith
-size_small (types.Integer ints.UnsignedChar) = omega arith
-size_small (types.Integer ints.Short) = omega arith
-size_small (types.Integer ints.UnsignedShort) = omega arith
-size_small (types.Integer ints.Int) = omega arith
-size_small (types.Pointer i n) = omega arith
-
-scale_small : (t : CType) → scale t < 2 ^ 32
-unfolding scale
-scale_small types.Void = omega arith
-scale_small (types.Integer i) = omega arith
-scale_small (types.Pointer i n) = size_small (target i n)
 
 module _ (program : TreeProgram) (code : List TreeItem) (callers : List Activation) (size count : ℕ) (scope : ℕ → Type 0) (level : ℕ) (within : (x : ℕ) → scope x → x < size) where
   abbrev MakesOf : (Tree → Tree → Tree) → (ℕ → ℕ → Rest → State → Runs) → Type 0

@@ -2,9 +2,7 @@
 use Rattle.std.proofs.Common.{ℕ, ◌<◌, ◌≤◌, ◌^◌, List, [], ◌∷◌, arith}
 use Rattle.std.specs.Prelude.{Bool, true, false, ◌==◌, if◌then◌else◌}
 use Rattle.gg_base.proofs.Words.{zero_small}
-use Rattle.c_types.specs.declared.types.Integer.TheVariants as ints
 use Rattle.c_types.specs.declared.types.CType.{CType}
-use Rattle.c_types.specs.declared.types.CType.TheVariants as types
 use Rattle.c_types.specs.declared.typed.Variable.{Variable}
 use Rattle.c_types.specs.declared.typed.Variable.TheVariants as variables
 use Rattle.c_types.specs.declared.typed.Direction.{Direction}
@@ -13,7 +11,7 @@ use Rattle.c_types.specs.declared.typed.Moment.{Moment}
 use Rattle.c_types.specs.declared.typed.Moment.TheVariants as moments
 use Rattle.c_types.specs.declared.typed.ArithmeticOperator.TheVariants as ariths
 use Rattle.c_types.specs.Constants.{scale}
-use Rattle.c_types.specs.Types.{integer_size, size_of, target}
+use Rattle.c_types.proofs.Sizes.{scale_small}
 use Rattle.c_sound.specs.Stands.{IsThere}
 use Rattle.c_lower_scheme.specs.Trees.{Tree, Num, Loc, Bin, Item}
 use Rattle.c_lower_scheme.specs.Parts.{Lowered, Where, InLoc, InArg, InMem, Located, Passing, Assignable, over, Destination, InLocal, AsResult}
@@ -23,23 +21,6 @@ use Rattle.c_lower_scheme.specs.Calls.{pushes, called_drop, called_low, passed_a
 use Rattle.c_lower_scheme.specs.Assignments.{ready_so, update_so, store_drop, store_low_at, store_low, must_keep, step_tree, step_ready, step_low}
 use Rattle.c_lower_spelled.proofs.Trees.{IsLong, IsLongItem, AreLong, none, next, behind}
 use Rattle.c_lower_spelled.proofs.Parts.{LongLow, LongEnds, long_saving, long_saved, long_fitted, over_long, due_long, delivered_long}
-
--- sizes are longwords
-size_long : (t : CType) → size_of t < 2 ^ 32
-unfolding size_of integer_size
-size_long types.Void = omega arith
-size_long (types.Integer ints.Char) = omega arith
-size_long (types.Integer ints.UnsignedChar) = omega arith
-size_long (types.Integer ints.Short) = omega arith
-size_long (types.Integer ints.UnsignedShort) = omega arith
-size_long (types.Integer ints.Int) = omega arith
-size_long (types.Pointer i n) = omega arith
-
-scale_long : (t : CType) → scale t < 2 ^ 32
-unfolding scale
-scale_long types.Void = omega arith
-scale_long (types.Integer i) = omega arith
-scale_long (types.Pointer i n) = size_long (target i n)
 
 module _ (objects most : ℕ) where
   abbrev Long : Tree → Type 0
@@ -162,7 +143,7 @@ module _ (objects most : ℕ) where
   module _ (size count : ℕ) where
     pub step_ready_long : (by : Direction) (l : ℕ) (p : Located) → LongFound l p → LongReady l (step_ready size count by p)
     step_ready_long by l p h = update_long _ false (step by) (step_keeps by) l p _ h
-        (due_long objects most (Num (scale p.type)) (scale_long p.type) p.temps p.labels)
+        (due_long objects most (Num (scale p.type)) (scale_small p.type) p.temps p.labels)
 
     pub step_low_long : (m : Moment) (by : Direction) (l : ℕ) (p : Located) → LongFound l p → LongLow objects most l (step_low size count m by p)
     step_low_long moments.Before by l p h =
@@ -171,7 +152,7 @@ module _ (objects most : ℕ) where
         let u : ℕ = next_if b p.temps in
         let place = long_held b p.temps p.place h.place in
         let new : Tree = step_tree size count by p.type (Loc u) in
-        let stored = assign_long p.type s new place (step_keeps by (Loc u) (Num (scale p.type)) tt (scale_long p.type)) in
+        let stored = assign_long p.type s new place (step_keeps by (Loc u) (Num (scale p.type)) tt (scale_small p.type)) in
         record {
           grows = h.grows;
           tree = tt;
@@ -189,20 +170,20 @@ module _ (objects most : ℕ) where
       by false = (lt, h)
 
   pub advance_long : (ty : CType) (v w : Tree) → Long v → Long w → Long (advance ty v w)
-  advance_long ty v w h g = (h, scaled_long (scale ty) w (scale_long ty) g)
+  advance_long ty v w h g = (h, scaled_long (scale ty) w (scale_small ty) g)
 
   pub retreat_long : (ty : CType) (v w : Tree) → Long v → Long w → Long (retreat ty v w)
-  retreat_long ty v w h g = (h, scaled_long (scale ty) w (scale_long ty) g)
+  retreat_long ty v w h g = (h, scaled_long (scale ty) w (scale_small ty) g)
 
   pub advance_by_long : (ty : CType) (v w : Tree) → Long v → Long w → Long (advance_by ty v w)
-  advance_by_long ty v w h g = (scaled_long (scale ty) v (scale_long ty) h, g)
+  advance_by_long ty v w h g = (scaled_long (scale ty) v (scale_small ty) h, g)
 
   pub apart_long : (ty : CType) (v w : Tree) → Long v → Long w → Long (apart ty v w)
   apart_long ty v w h g = by (scale ty == 1)
     where
       by : (b : Bool) → Long (if b then Bin ariths.Subtract v w else Bin ariths.Divide (Bin ariths.Subtract v w) (Num (scale ty)))
       by true = (h, g)
-      by false = ((h, g), scale_long ty)
+      by false = ((h, g), scale_small ty)
 
   -- the trees of arguments
   pub data LongTrees : List Tree → Type 0 where

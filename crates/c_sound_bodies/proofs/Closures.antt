@@ -2,14 +2,11 @@
 use Rattle.std.proofs.Common.{◌≡◌, ℕ, ◌≤◌, ◌<◌, ◌^◌, List, [], ◌∷◌, length, arith}
 use Rattle.c_phrases.specs.Phrases.{AnExp}
 use Rattle.c_types.specs.declared.types.CType.{CType}
-use Rattle.c_types.specs.declared.types.CType.TheVariants as types
-use Rattle.c_types.specs.declared.types.Integer.{Integer}
-use Rattle.c_types.specs.declared.types.Integer.TheVariants as ints
-use Rattle.c_types.specs.Types.{integer_size, size_of}
 use Rattle.c_types.specs.declared.typed.Variable.{Variable}
 use Rattle.c_types.specs.declared.typed.Variable.TheVariants as variables
 use Rattle.c_types.specs.declared.typed.Callee.{Callee}
 use Rattle.c_types.specs.Typed.{AnExpression, SomeExpressions, NoExpressions, MoreExpressions, operand_size}
+use Rattle.c_types.proofs.Sizes.{size_small}
 use Rattle.c_typed_scope.specs.declared.entry.Entry.{Entry}
 use Rattle.c_typed_scope.specs.declared.entry.Signature.{Signature}
 use Rattle.c_typed_scope.specs.Layout.{Area}
@@ -33,20 +30,6 @@ stands_in scope locals parameters objects (variables.Parameter n) h = tt
 stands_in scope locals parameters objects (variables.Global n) h = tt
 stands_in scope locals parameters objects (variables.Static n) h = tt
 
-integer_small : (b : Integer) → integer_size b < 2 ^ 32
-unfolding integer_size
-integer_small ints.Char = omega arith
-integer_small ints.UnsignedChar = omega arith
-integer_small ints.Short = omega arith
-integer_small ints.UnsignedShort = omega arith
-integer_small ints.Int = omega arith
-
-type_small : (t : CType) → size_of t < 2 ^ 32
-unfolding size_of
-type_small types.Void = omega arith
-type_small (types.Integer b) = integer_small b
-type_small (types.Pointer b n) = omega arith
-
 -- a term that fits, whose size is a longword
 abbrev pub IsFit : (ℕ → Type 0) → AnExpression → Type 0
 IsFit scope x = Fits scope x × (operand_size x < 2 ^ 32)
@@ -63,34 +46,34 @@ pub fits_closed : (scope : ℕ → Type 0) (locals parameters known objects : �
     Closed IsToken (IsKnown scope locals parameters known) any_call objects (IsFit scope)
 unfolding operand_size
 fits_closed scope locals parameters known objects = record {
-  number = λ n small. (small, type_small _);
+  number = λ n small. (small, size_small _);
   literal = λ n size l small. (tt, small);
   array = λ t v size k small. (tt, small);
-  variable = λ t v k. (stands_in scope locals parameters known v k, type_small _);
-  pointed = λ t x p. (p.0, type_small _);
-  element = λ t x p. (p.0, type_small _);
-  size_of_term = λ x p. (p.1, type_small _);
-  size = λ t. (type_small t, type_small _);
-  address = λ t p h. (h.0, type_small _);
-  call = λ t f to es takes many all. (fits_all scope es to many all, type_small _);
-  step = λ m by p h. (h.0, type_small _);
-  unary = λ op x p. (p.0, type_small _);
-  cast = λ t x p. (p.0, type_small _);
-  convert = λ t x p. (p.0, type_small _);
-  arithmetic = λ op x y p q. ((p.0, q.0), type_small _);
-  compare = λ rel x y p q. ((p.0, q.0), type_small _);
-  both = λ x y p q. ((p.0, q.0), type_small _);
-  either = λ x y p q. ((p.0, q.0), type_small _);
-  advance = λ t x y p q. ((p.0, q.0), type_small _);
-  advance_by = λ t x y p q. ((p.0, q.0), type_small _);
-  retreat = λ t x y p q. ((p.0, q.0), type_small _);
-  distance = λ t x y p q. ((p.0, q.0), type_small _);
-  choice = λ t z x y o p q. ((o.0, p.0, q.0), type_small _);
-  assign = λ p y a q. ((a.0, q.0), type_small _);
-  arithmetic_assign = λ op p y a q. ((a.0, q.0), type_small _);
-  advance_assign = λ p y a q. ((a.0, q.0), type_small _);
-  retreat_assign = λ p y a q. ((a.0, q.0), type_small _);
-  comma = λ t x y p q. ((p.0, q.0), type_small _);
+  variable = λ t v k. (stands_in scope locals parameters known v k, size_small _);
+  pointed = λ t x p. (p.0, size_small _);
+  element = λ t x p. (p.0, size_small _);
+  size_of_term = λ x p. (p.1, size_small _);
+  size = λ t. (size_small t, size_small _);
+  address = λ t p h. (h.0, size_small _);
+  call = λ t f to es takes many all. (fits_all scope es to many all, size_small _);
+  step = λ m by p h. (h.0, size_small _);
+  unary = λ op x p. (p.0, size_small _);
+  cast = λ t x p. (p.0, size_small _);
+  convert = λ t x p. (p.0, size_small _);
+  arithmetic = λ op x y p q. ((p.0, q.0), size_small _);
+  compare = λ rel x y p q. ((p.0, q.0), size_small _);
+  both = λ x y p q. ((p.0, q.0), size_small _);
+  either = λ x y p q. ((p.0, q.0), size_small _);
+  advance = λ t x y p q. ((p.0, q.0), size_small _);
+  advance_by = λ t x y p q. ((p.0, q.0), size_small _);
+  retreat = λ t x y p q. ((p.0, q.0), size_small _);
+  distance = λ t x y p q. ((p.0, q.0), size_small _);
+  choice = λ t z x y o p q. ((o.0, p.0, q.0), size_small _);
+  assign = λ p y a q. ((a.0, q.0), size_small _);
+  arithmetic_assign = λ op p y a q. ((a.0, q.0), size_small _);
+  advance_assign = λ p y a q. ((a.0, q.0), size_small _);
+  retreat_assign = λ p y a q. ((a.0, q.0), size_small _);
+  comma = λ t x y p q. ((p.0, q.0), size_small _);
 }
 
 is_there : (scope : ℕ → Type 0) (locals parameters known objects : ℕ) → known ≤ objects → (v : Variable) →
