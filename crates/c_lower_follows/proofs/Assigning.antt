@@ -18,7 +18,7 @@ use Rattle.c_lower_scheme.specs.Parts.{Lowered, Where, InLoc, InArg, InMem, Loca
 use Rattle.c_lower_scheme.specs.Places.{held, saving, saved, next_if, integer_of, read_from, assign_to}
 use Rattle.c_lower_scheme.specs.Values.{must}
 use Rattle.c_lower_scheme.specs.Assignments.{ready_so, must_hold, assign_ready, stays, must_keep, update_so, update_ready, postfix_so, postfix}
-use Rattle.c_lower_scheme.proofs.Facts.{leaf_inert}
+use Rattle.c_lower_scheme.proofs.Facts.{leaf_inert, next_grows, must_not}
 use Rattle.c_lower_follows.proofs.Values.{SmallTree}
 use Rattle.c_lower_follows.proofs.Leads.{Leads}
 use Rattle.c_lower_follows.proofs.Steps.{Desk, on, Resolves, resolves_back}
@@ -66,10 +66,6 @@ module _ (program : TreeProgram) (code : List TreeItem) (callers : List Activati
         (cases_eq j u) ∙ s.keeps j szj (⊎_elim (λ lt. inl lt) (λ ge. inr (omega arith)) o);
     same = λ e. let h = s.same (front_nil a b e) in let g = s'.same (back_nil a b e) in (g.0 ∙ h.0, g.1 ∙ h.1);
   }
-
-  must_not : (is : List Item) (a b : Tree) → must size count is a b ≡ false → (is ≡ []) ⊎ (stable size a ≡ true)
-  must_not [] a b e = inl refl
-  must_not (i ∷ is) a b e = inr (not-false (stable size a) e)
 
   -- a place and the value that is assigned to it
   ready_by : (b : Bool) (a : Tree) (is0 : List Item) (ty : CType) (u l t : ℕ) (q : Lowered) (m : RestAt → State → Runs) (n : Rest → State → Runs) → size ≤ t
@@ -128,7 +124,7 @@ module _ (program : TreeProgram) (code : List TreeItem) (callers : List Activati
   assign_by between (InArg x) is0 ty u l t q m n sz does does' = plain_ready (InArg x) (Parameter x) is0 ty u l t q m n (λ d g. refl) (λ v w le h. h) does does'
   assign_by between (InMem a) is0 ty u l t q m n sz does does' =
       ready_by (must_hold size count between q.items q.tree (InMem a)) a is0 ty u l t q m n sz
-      (λ e. must_not q.items a q.tree (or_parts (must size count q.items a q.tree) (between && breaks a) e).0) does does'
+      (λ e. must_not size count q.items a q.tree (or_parts (must size count q.items a q.tree) (between && breaks a) e).0) does does'
 
   pub assign_does : (between : Bool) (p : Located) (q : Lowered) (t : ℕ) (m : RestAt → State → Runs) (n : Rest → State → Runs) → size ≤ t → DoesFound p t m → DoesLow q p.temps n
       → DoesRest (assign_ready size count between p q) t (λ κ. m (λ ty s. n (λ v. κ ty s v)))
@@ -212,10 +208,6 @@ module _ (program : TreeProgram) (code : List TreeItem) (callers : List Activati
       → Below (next_if c u) (f (saved c u w) v)
   made_below f g c u w v made h h' = made.below (next_if c u) (saved c u w) v (below_saved c u (next_if c u) w (omega arith) h') h
 
-  next_le : (c : Bool) (u : ℕ) → u ≤ next_if c u
-  next_le true u = omega arith
-  next_le false u = omega arith
-
   -- a place that stands as it is
   change_plain : (c : Bool) (s : Where) (is0 : List Item) (ty : CType) (p l t : ℕ) (f : Tree → Tree → Tree) (g : CType → ℕ → ℕ → Rest → State → Runs) (q : Lowered)
       (m : RestAt → State → Runs) (n : CType → Rest → State → Runs) → (c ≡ false → q.items ≡ []) → size ≤ t → PurePlace s → MakesIt f (g ty)
@@ -234,12 +226,12 @@ module _ (program : TreeProgram) (code : List TreeItem) (callers : List Activati
       }) t (λ κ. m (λ ty s. read_at ty s (λ x. n ty (λ y. g ty x y (κ ty s)))))
   change_plain c s is0 ty p l t f g q m n none sz pure made more stay does does' =
       let u = q.temps in
-      let up : p ≤ next_if c u = omega (arith, next_le c u, does'.grows) in
+      let up : p ≤ next_if c u = omega (arith, next_grows c u, does'.grows) in
       record {
         grows = omega (arith, does.grows, up);
         fits = more p (next_if c u) up does.fits;
         small = does.small;
-        below_value = made_below f (g ty) c u (read_from ty s) q.tree made (below_more u (next_if c u) q.tree (next_le c u) does'.below)
+        below_value = made_below f (g ty) c u (read_from ty s) q.tree made (below_more u (next_if c u) q.tree (next_grows c u) does'.below)
             (λ e. below_read program code callers size count scope level within s ty (next_if c u) (omega (arith, does.grows, up)) (more p (next_if c u) up does.fits));
         small_value = made.small (saved c u (read_from ty s)) q.tree (small_saved c u (read_from ty s) (small_read program code callers size count scope level within s ty does.small)) does'.small;
         runs = λ k le is κ res st d ag h.
@@ -260,10 +252,10 @@ module _ (program : TreeProgram) (code : List TreeItem) (callers : List Activati
       let u = suc u1 in
       let w : Tree = Indir (integer_of ty) (Loc u1) in
       record {
-        grows = omega (arith, does.grows, does'.grows, next_le c u);
-        fits = omega (arith, next_le c u);
+        grows = omega (arith, does.grows, does'.grows, next_grows c u);
+        fits = omega (arith, next_grows c u);
         small = tt;
-        below_value = made_below f (g ty) c u w q.tree made (below_more u1 (next_if c u) q.tree (omega (arith, next_le c u)) does'.below) (λ e. omega (arith, next_le c u));
+        below_value = made_below f (g ty) c u w q.tree made (below_more u1 (next_if c u) q.tree (omega (arith, next_grows c u)) does'.below) (λ e. omega (arith, next_grows c u));
         small_value = made.small (saved c u w) q.tree (small_saved c u w tt) does'.small;
         runs = λ k le is κ res st d ag h.
             let b : List Item = saving c u w ++ q.items in
@@ -282,8 +274,8 @@ module _ (program : TreeProgram) (code : List TreeItem) (callers : List Activati
             let back = since_change c p p u1 u w [] q.items st1 d1' st1 d1' st2 d2 none (omega arith) does'.grows (omega arith) (since_start size p p [] st1 d1') s2 in
             h st2 d2 ag2 (record {
               keeps = λ j szj o. back.keeps j szj (⊎_elim (λ lt. inl (omega (arith, does.grows))) (λ ge. inr ge) o)
-                  ∙ set_other d1.locals u1 x j (λ e. ⊎_elim (λ lt. omega (arith, does.grows, does'.grows)) (λ ge. omega (arith, next_le c u)) o)
-                  ∙ s1.keeps j szj (⊎_elim (λ lt. inl lt) (λ ge. inr (omega (arith, does'.grows, next_le c u))) o);
+                  ∙ set_other d1.locals u1 x j (λ e. ⊎_elim (λ lt. omega (arith, does.grows, does'.grows)) (λ ge. omega (arith, next_grows c u)) o)
+                  ∙ s1.keeps j szj (⊎_elim (λ lt. inl lt) (λ ge. inr (omega (arith, does'.grows, next_grows c u))) o);
               same = λ e. absurd (not_nil is0 (AssignLoc u1 a) b e);
             }))))));
       }

@@ -20,7 +20,7 @@ use Rattle.c_lower_scheme.specs.Parts.{Lowered, Pair, Emitted, Lowering, due, ov
 use Rattle.c_lower_scheme.specs.Places.{saving, next_if}
 use Rattle.c_lower_scheme.specs.Conditions.{valued, effective, mapped, test}
 use Rattle.c_lower_scheme.specs.Values.{must, join_so, join, binary, joined}
-use Rattle.c_lower_scheme.proofs.Facts.{stable_inert}
+use Rattle.c_lower_scheme.proofs.Facts.{stable_inert, must_not}
 use Rattle.c_sound.specs.Fits.{AreBytes}
 use Rattle.c_lower_follows.proofs.Values.{SmallTree, Small, worth_small}
 use Rattle.c_lower_follows.proofs.Leads.{Leads, leads_wild}
@@ -208,14 +208,10 @@ module _ (program : TreeProgram) (code : List TreeItem) (callers : List Activati
           subst (λ st. Leads k (on (value program q.tree d2) (λ y. κ v y st)) (here is d2)) (sym eq.0) there)));
     }
 
-    must_not : (is : List Item) (a b : Tree) → must size count is a b ≡ false → (is ≡ []) ⊎ (stable size a ≡ true)
-    must_not [] a b e = inl refl
-    must_not (i ∷ is) a b e = inr (not-false (stable size a) e)
-
     two_by : (p q : Lowered) (t : ℕ) (m n : Rest → State → Runs) (b : Bool) → must size count q.items p.tree q.tree ≡ b → size ≤ t → Does p t m → Does q p.temps n
         → DoesTwo (join_so size count b p q) t (λ κ. m (λ x. n (κ x)))
     two_by p q t m n true e sz does does' = two_saved p q t m n sz does does'
-    two_by p q t m n false e sz does does' = ⊎_elim (λ none. two_quiet p q t m n none does does') (λ stays. two_stable p q t m n stays does does') (must_not q.items p.tree q.tree e)
+    two_by p q t m n false e sz does does' = ⊎_elim (λ none. two_quiet p q t m n none does does') (λ stays. two_stable p q t m n stays does does') (must_not size count q.items p.tree q.tree e)
 
     pub two_does : (p q : Lowered) (t : ℕ) (m n : Rest → State → Runs) → size ≤ t → Does p t m → Does q p.temps n → DoesTwo (join size count p q) t (λ κ. m (λ x. n (κ x)))
     two_does p q t m n sz does does' = two_by p q t m n (must size count q.items p.tree q.tree) refl sz does does'

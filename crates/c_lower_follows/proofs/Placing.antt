@@ -248,11 +248,6 @@ module _ (program : TreeProgram) (code : List TreeItem) (callers : List Activati
         address_place k (InMem a) is κ st d h = h
 
     -- the value that is put into a local is converted
-    bind_number : (o : Value) → o ≡ bind o (λ x. Number x)
-    bind_number (Number x) = refl
-    bind_number ZeroDivisor = refl
-    bind_number Wild = refl
-
     int_same : (o : Value) (κ : ℕ → Runs) → on o κ ≡ on o (λ x. κ (kept ints.Int x))
     unfolding kept
     int_same o κ = refl

@@ -1,7 +1,7 @@
 -- Small facts of lowered trees that several laws of lowering cite.
-use Rattle.std.proofs.Common.{◌≡◌, ℕ, suc, List, [], ◌∷◌, length, refl, ap, ◌++◌, map}
-use Rattle.std.specs.Prelude.{true, false, not, ◌&&◌, ◌||◌}
-use Rattle.std.proofs.lemmas.Bool.{not-true, or_from}
+use Rattle.std.proofs.Common.{◌≡◌, ℕ, suc, List, [], ◌∷◌, length, refl, ap, ◌++◌, map, ◌≤◌, arith, ◌⊎◌, inl, inr}
+use Rattle.std.specs.Prelude.{true, false, not, ◌&&◌, ◌||◌, Bool}
+use Rattle.std.proofs.lemmas.Bool.{not-true, or_from, not-false}
 use Rattle.gg_base.proofs.Facts.{first_true, second_true}
 use Rattle.c_program.specs.Programs.{ARoutine}
 use Rattle.c_lower_scheme.specs.Programs.{body_of, lower_all}
@@ -9,6 +9,8 @@ use Rattle.c_lower_scheme.specs.Trees.{Tree, Num, Gaddr, Loc, Arg, Indir, Conv, 
 use Rattle.c_lower_scheme.specs.Spelling.{spelled, spelled_all}
 use Rattle.c_lower_scheme.specs.Calls.{pushes}
 use Rattle.tree_core.specs.declared.program.TreeFn.{TreeFn}
+use Rattle.c_lower_scheme.specs.Places.{next_if}
+use Rattle.c_lower_scheme.specs.Values.{must}
 
 pub all_lowered : (count : ℕ) (gs : List ARoutine) (l : ℕ) → length (lower_all count gs l) ≡ length gs
 all_lowered count [] l = refl
@@ -53,3 +55,11 @@ names_stay count (g ∷ gs) l = ap (λ (ns : List (List ℕ)). g.name ∷ ns) (n
 pub pushes_append : (ws : List Tree) (is js : List Item) → pushes ws (is ++ js) ≡ pushes ws is ++ js
 pushes_append [] is js = refl
 pushes_append (w ∷ ws) is js = pushes_append ws (Push w ∷ is) js
+
+pub next_grows : (c : Bool) (u : ℕ) → u ≤ next_if c u
+next_grows true u = omega arith
+next_grows false u = omega arith
+
+pub must_not : (size count : ℕ) (is : List Item) (a b : Tree) → must size count is a b ≡ false → (is ≡ []) ⊎ (stable size a ≡ true)
+must_not size count [] a b e = inl refl
+must_not size count (i ∷ is) a b e = inr (not-false (stable size a) e)

@@ -17,6 +17,7 @@ use Rattle.c_lower_scheme.specs.Values.{scaled_by, advance, advance_by, retreat,
 use Rattle.c_lower_scheme.specs.Values
 use Rattle.c_lower_scheme.specs.Calls.{pushes, args_count, pass_so, called_drop, called_low, called_deliver}
 use Rattle.c_lower_scheme.specs.Assignments.{ready_so, update_so, postfix_so, store_drop, store_low_at, store_low}
+use Rattle.c_lower_scheme.proofs.Facts.{next_grows}
 use Rattle.c_lower_valid.proofs.Named.{Scene, Names, ItemNames, AllName, names_more, all_more, all_append}
 use Rattle.c_lower_valid.proofs.Orders.{Orderly, IsQuiet, orderly_nil, orderly_append, orderly_more, orderly_call, orderly_saved}
 
@@ -105,10 +106,6 @@ module _ (scene : Scene) where
     pub items : Fine p.temps p.items
     pub place : OkWhere p.temps p.place
     pub value : Ok p.temps p.value
-
-  pub next_grows : (b : Bool) (u : ℕ) → u ≤ next_if b u
-  next_grows true u = omega arith
-  next_grows false u = omega arith
 
   pub fine_saving : (b : Bool) (u : ℕ) (w : Tree) → Ok u w → Fine (next_if b u) (saving b u w)
   fine_saving true u w h = fine_one (suc u) (AssignLoc u w) tt (omega arith, ok_up u (suc u) w (omega arith) h)
