@@ -6,6 +6,7 @@ use Rattle.tree_meaning.specs.declared.value.Value.{Value}
 use Rattle.tree_meaning.specs.declared.value.Value.TheVariants.{Number, ZeroDivisor, Wild}
 use Rattle.tree_meaning.specs.State.{with_local}
 use Rattle.tree_meaning.specs.Values.{bind, there, address_of}
+use Rattle.tree_meaning.proofs.Values.{there_pure}
 use Rattle.tree_core.specs.declared.program.Object.{Object}
 use Rattle.tree_core.specs.Area.{fetched}
 use Rattle.gg_base.specs.Arithmetic.{neg32, com32}
@@ -98,10 +99,6 @@ bind_pure : (v : Value) (f : ℕ → Value) → (v ≡ ZeroDivisor → ⊥) → 
 bind_pure (Number x) f n h e = h x e
 bind_pure ZeroDivisor f n h e = n refl
 bind_pure Wild f n h e = cc
-
-there_pure : (o : Option ℕ) → there o ≡ ZeroDivisor → ⊥
-there_pure None e = cc
-there_pure (Some v) e = cc
 
 fetched_pure : (i : Integer) (o : Option ℕ) → bind (there o) (λ v. Number (kept i v)) ≡ ZeroDivisor → ⊥
 fetched_pure i None e = cc

@@ -19,8 +19,9 @@ use Rattle.tree_core.specs.Area.{fetched}
 use Rattle.tree_meaning.specs.State.{State}
 use Rattle.tree_meaning.specs.declared.value.Meaning.{Meaning as Place}
 use Rattle.tree_meaning.specs.declared.value.Value.TheVariants as values
-use Rattle.tree_meaning.specs.Values.{Sight, read, there, token_means}
+use Rattle.tree_meaning.specs.Values.{Sight, read, token_means}
 use Rattle.tree_meaning.specs.Values as trees
+use Rattle.tree_meaning.proofs.Values.{there_is}
 use Rattle.md_reader.specs.declared.types.Kind.{Kind}
 use Rattle.md_reader.specs.declared.types.Kind.TheVariants as kind
 use Rattle.md_reader.specs.declared.types.Sym.{Sym}
@@ -41,10 +42,6 @@ use Rattle.sel_parse_stands.proofs.Loaded.{IsLoaded}
 
 number_same : (k n : ℕ) → values.Number k ≡ values.Number n → k ≡ n
 number_same k n e = cc
-
-there_is : (o : Option ℕ) (n : ℕ) → there o ≡ values.Number n → o ≡ Some n
-there_is None n e = absurd (cc)
-there_is (Some k) n e = ap Some (number_same k n e)
 
 object_reads : (o : Option Object) (offset n : ℕ) → trees.address_of o offset ≡ values.Number n → address_of o offset ≡ Some n
 object_reads None offset n e = absurd (cc)

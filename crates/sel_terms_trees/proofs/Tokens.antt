@@ -25,6 +25,7 @@ use Rattle.tree_meaning.specs.declared.value.Meaning.{Meaning}
 use Rattle.tree_meaning.specs.declared.value.Meaning.TheVariants.{Of, Local, Argument, Memory}
 use Rattle.tree_meaning.specs.Operators.{operated, quotient, remainder}
 use Rattle.tree_meaning.specs.Values.{Sight, there, read, kid, bind, at, address_of, token_means}
+use Rattle.tree_meaning.proofs.Values.{there_is, there_pure}
 use Rattle.term_core.specs.declared.operator.UnaryOp.{UnaryOp}
 use Rattle.term_core.specs.declared.operator.UnaryOp.TheVariants as unary_op
 use Rattle.term_core.specs.declared.operator.BinaryOp.{BinaryOp}
@@ -124,14 +125,6 @@ module _ (objects : List Object) (s : Sight) (all : List Sense) (m : State) wher
   each_on [] st g gs k rest e = e
   each_on (x ∷ xs) st g gs k rest e = (e.0, each_on xs (below st) g gs (suc k) rest e.1)
 
-  some_there : (o : Option ℕ) (n : ℕ) → there o ≡ Number n → o ≡ Some n
-  some_there None n e = cc
-  some_there (Some k) n e = (let f : k ≡ n = cc in ap (λ (i : ℕ). Some i) f)
-
-  no_zero : (o : Option ℕ) → there o ≡ ZeroDivisor → ⊥
-  no_zero None e = cc
-  no_zero (Some k) e = cc
-
   memory_same : (z y : Size) (a b : ℕ) → Memory z a ≡ Memory y b → (z ≡ y) × (a ≡ b)
   memory_same z y a b e = (cc, cc)
 
@@ -185,13 +178,13 @@ module _ (objects : List Object) (s : Sight) (all : List Sense) (m : State) wher
     place_read p (Of ZeroDivisor) h ZeroDivisor e tame = zero_read p.part p.divisors h
     place_read p (Of ZeroDivisor) h Wild e tame = absurd (tame refl)
     place_read p (Local k) h (Number n) e tame = home_read p.part p.divisors (Local k) n h (λ z a. local_no_memory k z a) e
-    place_read p (Local k) h ZeroDivisor e tame = absurd (no_zero (s.locals k) e)
+    place_read p (Local k) h ZeroDivisor e tame = absurd (there_pure (s.locals k) e)
     place_read p (Local k) h Wild e tame = absurd (tame refl)
     place_read p (Argument k) h (Number n) e tame = home_read p.part p.divisors (Argument k) n h (λ z a. argument_no_memory k z a) e
-    place_read p (Argument k) h ZeroDivisor e tame = absurd (no_zero (slice_get s.arguments (k - 1)) e)
+    place_read p (Argument k) h ZeroDivisor e tame = absurd (there_pure (slice_get s.arguments (k - 1)) e)
     place_read p (Argument k) h Wild e tame = absurd (tame refl)
-    place_read p (Memory z a) h (Number n) e tame = memory_read p.part p.divisors z a n h (some_there (fetched z s.area a) n e)
-    place_read p (Memory z a) h ZeroDivisor e tame = absurd (no_zero (fetched z s.area a) e)
+    place_read p (Memory z a) h (Number n) e tame = memory_read p.part p.divisors z a n h (there_is (fetched z s.area a) n e)
+    place_read p (Memory z a) h ZeroDivisor e tame = absurd (there_pure (fetched z s.area a) e)
     place_read p (Memory z a) h Wild e tame = absurd (tame refl)
 
     -- one kid

@@ -2,3 +2,4 @@ pub mod Frames
 pub mod Meanings
 pub mod Law
 pub mod Advancing
+pub mod Values
