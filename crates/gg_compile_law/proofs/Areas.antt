@@ -21,6 +21,7 @@ use Rattle.tree_core.specs.Valid.{rounded, is_aligned, is_whole, is_placed, obje
 use Rattle.vax_machine_lists.specs.Sound.{AllBelow}
 use Rattle.gg_compile_law.specs.Areas.{IsBlock, AreBlocks, none, more, BlocksHoldObjects}
 use Rattle.vax_machine_lists.proofs.Longwords.{below_append}
+use Rattle.vax_machine_lists.proofs.Beginning.{below_zeros}
 
 -- ---- one behind another
 
@@ -121,14 +122,10 @@ module _ (whole : List AreaItem) where
         length-replicate {A = ℕ} (o.address - at) 0,
       )
 
-  below_replicate : (n : ℕ) → AllBelow 256 (replicate n 0)
-  below_replicate zero = tt
-  below_replicate (suc n) = (omega arith, below_replicate n)
-
   blocks_below : (os : List Object) (part : List AreaItem) (at : ℕ) → AreBlocks whole os part → AllBelow 256 (opening_from at os)
   blocks_below os part at none = tt
   blocks_below os part at (more o rest_os front rest b others) =
-      below_append 256 (replicate (o.address - at) 0) _ (below_replicate (o.address - at)) (below_append 256 o.bytes _ b.bytes (blocks_below rest_os rest (o.address + o.size) others))
+      below_append 256 (replicate (o.address - at) 0) _ (below_zeros (o.address - at)) (below_append 256 o.bytes _ b.bytes (blocks_below rest_os rest (o.address + o.size) others))
 
 -- ---- labels
 

@@ -3,7 +3,6 @@ use Rattle.std.proofs.Common.{◌≡◌, ℕ, suc, Bool, true, false, cond, List
 use Rattle.std.specs.Prelude.{slice_get, codes}
 use Rattle.std.specs.List.{find}
 use Rattle.std.specs.Str.{bytes_eq}
-use Rattle.std.proofs.lemmas.List.{length-replicate}
 use Rattle.std.proofs.lemmas.Slice.Eq.{bytes_eq-Decides}
 use Rattle.std.proofs.lemmas.Option.{same_Some, none-some}
 use Rattle.std.proofs.lemmas.Bool.{false≢true}
@@ -13,12 +12,12 @@ use Rattle.vax_core.specs.declared.code.Code.{Code}
 use Rattle.vax_core.specs.First.{main_name}
 use Rattle.vax_machine_live.specs.declared.frame.Frame.{Frame}
 use Rattle.vax_machine.specs.State.{State}
-use Rattle.vax_machine.specs.Area.{zeros}
 use Rattle.vax_machine.specs.Labels.{label_place}
 use Rattle.vax_machine.specs.Calls.{called}
 use Rattle.vax_machine.specs.Loading.{blank, begun as loaded, start}
 use Rattle.vax_machine.specs.Running.{state_run, run as code_run}
 use Rattle.vax_machine.proofs.Law.{run_has_one_end}
+use Rattle.vax_machine.proofs.LayoutLaws.{length-zeros}
 use Rattle.tree_core.specs.declared.program.TreeFn.{TreeFn}
 use Rattle.tree_core.specs.declared.program.TreeProgram.{TreeProgram}
 use Rattle.tree_core.specs.Area.{opening}
@@ -29,7 +28,7 @@ use Rattle.tree_meaning.specs.Meaning.{run, runs, main_at, tree_run}
 use Rattle.tree_meaning.proofs.Law.{tree_run_unbroken}
 use Rattle.vax_states.specs.Stack.{nobody}
 use Rattle.vax_machine_lists.specs.Sound.{AllBelow, IsSound}
-use Rattle.vax_machine_lists.proofs.Beginning.{below_zeros}
+use Rattle.vax_machine_lists.proofs.Beginning.{zeros_below}
 use Rattle.gg_compile_law.specs.Programs.{IsEmitted, StandsAt, Waits, ends_run, Stands, IsCompiled, CompiledFollow}
 use Rattle.vax_frames_law.specs.Laws.{Begins}
 use Rattle.gg_compile_law.proofs.Forwards.{asks_led}
@@ -51,14 +50,6 @@ found (f ∷ fs) g e = by (bytes_eq f.name (codes "main")) refl e (found fs g)
 
 -- ---- the state before the call of `_main`
 
-zeros_below : (n : ℕ) → AllBelow 256 (zeros n)
-unfolding zeros
-zeros_below n = below_zeros n
-
-length_zeros : (n : ℕ) → length (zeros n) ≡ n
-unfolding zeros
-length_zeros n = length-replicate n 0
-
 module _ (program : TreeProgram) (c : Code) (h : IsCompiled program c) (input : List ℕ) (bytes : AllBelow 256 input) where
   blank_sound : IsSound (blank c input)
   blank_sound = record {
@@ -74,7 +65,7 @@ module _ (program : TreeProgram) (c : Code) (h : IsCompiled program c) (input : 
         ),
       ),
     );
-    stack = length_zeros 8388608;
+    stack = length-zeros 8388608;
     stack_bytes = zeros_below 8388608;
     area = omega (arith, ap length h.area, h.size);
     area_bytes = subst (λ (l : List ℕ). AllBelow 256 l) (sym h.area) h.bytes;

@@ -25,7 +25,7 @@ pub too_large : (items : List AreaItem) (i at : ℕ) (item : AreaItem) → i < l
     + size_at item at → 1048576 < area_size items
 too_large items i at item lt is h big = omega (arith, ends_inside items i at item lt is h)
 
-length-zeros : (n : ℕ) → length (zeros n) ≡ n
+pub length-zeros : (n : ℕ) → length (zeros n) ≡ n
 unfolding zeros
 length-zeros n = length-replicate n 0
 

@@ -4,7 +4,6 @@ use Rattle.std.proofs.Common.{arith, length-append}
 use Rattle.std.specs.Prelude.{nat_lt}
 use Rattle.std.specs.List.{list_all}
 use Rattle.std.proofs.lemmas.Bool.{ltb-true, ltb-false, and_parts}
-use Rattle.std.proofs.lemmas.List.{length-replicate}
 use Rattle.vax_core.specs.declared.code.AreaItem.{AreaItem}
 use Rattle.vax_core.specs.declared.code.AreaItem.TheVariants as areas
 use Rattle.vax_core.specs.declared.code.Code.{Code}
@@ -17,7 +16,7 @@ use Rattle.vax_machine.specs.Area.{zeros, padding, size_at, end_from, area_size,
 use Rattle.vax_machine.specs.Labels.{has_label, label_place}
 use Rattle.vax_machine.specs.Calls.{called}
 use Rattle.vax_machine.specs.Loading.{too_large, no_main, or_undefined, or_double, undefined_name_of, double_label_of, Loads, blank, begun}
-use Rattle.vax_machine.proofs.LayoutLaws.{length-item_bytes}
+use Rattle.vax_machine.proofs.LayoutLaws.{length-item_bytes, length-zeros}
 use Rattle.vax_machine_lists.specs.Sound.{AllBelow, IsRunning, RunsBeginSound}
 use Rattle.vax_machine_lists.proofs.Longwords.{below_append, four_below, two_below}
 use Rattle.vax_machine_lists.proofs.Soundness.{After, called_running}
@@ -28,13 +27,9 @@ pub below_zeros : (n : ℕ) → AllBelow 256 (replicate n 0)
 below_zeros zero = tt
 below_zeros (suc n) = (omega arith, below_zeros n)
 
-zeros_below : (n : ℕ) → AllBelow 256 (zeros n)
+pub zeros_below : (n : ℕ) → AllBelow 256 (zeros n)
 unfolding zeros
 zeros_below n = below_zeros n
-
-length_zeros : (n : ℕ) → length (zeros n) ≡ n
-unfolding zeros
-length_zeros n = length-replicate n 0
 
 item_below : (layout : List AreaItem) (item : AreaItem) (at : ℕ) → is_area_item item ≡ true → AllBelow 256 (item_bytes layout item at)
 item_below layout (areas.Label name) at e = tt
@@ -121,7 +116,7 @@ blank_running c input valid h bytes =
             ),
           ),
         );
-        stack = length_zeros 8388608;
+        stack = length-zeros 8388608;
         stack_bytes = zeros_below 8388608;
         area = loads_small c h;
         area_bytes = bytes_below c.area c.area 65536 p.0;
