@@ -43,8 +43,9 @@ use Rattle.tree_meaning_tame.specs.Tame.{Tame, Undivided}
 use Rattle.sel_terms_trees.specs.Effects.{GivesBy, DoesBy, TrapsBy}
 use Rattle.sel_parse_moves.specs.Interprets.{SenseFits, Interprets, Ran}
 use Rattle.tree_meaning_tame.proofs.Strict.{NoStmt, kids_no_stmt}
+use Rattle.tree_meaning_tame.proofs.Sorts.{sort_tame}
 use Rattle.sel_terms_trees.proofs.Patterns.{numbered, pattern_law}
-use Rattle.sel_terms_trees.proofs.Rules.{effect_by, zero_there, sort_tame, sort_undivided, Comes, Fails, IsZeroAt, decided}
+use Rattle.sel_terms_trees.proofs.Rules.{effect_by, zero_there, sort_undivided, Comes, Fails, IsZeroAt, decided}
 use Rattle.sel_terms_trees.proofs.Statements.{ActIs, act_law}
 
 piled_both : {Y : Type 0} (us vs b : List Y) → piled (us ++ vs) b ≡ piled vs (piled us b)

@@ -102,57 +102,6 @@ module _ (objects : List Object) (s : Sight) where
   zero_there sort.PlaceL sort.PlaceW g e h u = absurd (cc)
   zero_there sort.PlaceL sort.PlaceL g e h u = u h
 
-  pub sort_tame : (y x : Sort) (g : Meaning) → fits y x ≡ true → IsTame objects s x g → IsTame objects s y g
-  sort_tame sort.Stmt sort.Stmt g e h = h
-  sort_tame sort.Stmt sort.Long g e h = tt
-  sort_tame sort.Stmt sort.Byte g e h = tt
-  sort_tame sort.Stmt sort.Word g e h = tt
-  sort_tame sort.Stmt sort.PlaceB g e h = tt
-  sort_tame sort.Stmt sort.PlaceW g e h = tt
-  sort_tame sort.Stmt sort.PlaceL g e h = tt
-  sort_tame sort.Long sort.Stmt g e h = absurd (cc)
-  sort_tame sort.Long sort.Long g e h = h
-  sort_tame sort.Long sort.Byte g e h = absurd (cc)
-  sort_tame sort.Long sort.Word g e h = absurd (cc)
-  sort_tame sort.Long sort.PlaceB g e h = absurd (cc)
-  sort_tame sort.Long sort.PlaceW g e h = absurd (cc)
-  sort_tame sort.Long sort.PlaceL g e h = absurd (cc)
-  sort_tame sort.Byte sort.Stmt g e h = absurd (cc)
-  sort_tame sort.Byte sort.Long g e h = absurd (cc)
-  sort_tame sort.Byte sort.Byte g e h = h
-  sort_tame sort.Byte sort.Word g e h = absurd (cc)
-  sort_tame sort.Byte sort.PlaceB g e h = absurd (cc)
-  sort_tame sort.Byte sort.PlaceW g e h = absurd (cc)
-  sort_tame sort.Byte sort.PlaceL g e h = absurd (cc)
-  sort_tame sort.Word sort.Stmt g e h = absurd (cc)
-  sort_tame sort.Word sort.Long g e h = absurd (cc)
-  sort_tame sort.Word sort.Byte g e h = absurd (cc)
-  sort_tame sort.Word sort.Word g e h = h
-  sort_tame sort.Word sort.PlaceB g e h = absurd (cc)
-  sort_tame sort.Word sort.PlaceW g e h = absurd (cc)
-  sort_tame sort.Word sort.PlaceL g e h = absurd (cc)
-  sort_tame sort.PlaceB sort.Stmt g e h = tt
-  sort_tame sort.PlaceB sort.Long g e h = tt
-  sort_tame sort.PlaceB sort.Byte g e h = tt
-  sort_tame sort.PlaceB sort.Word g e h = tt
-  sort_tame sort.PlaceB sort.PlaceB g e h = h
-  sort_tame sort.PlaceB sort.PlaceW g e h = tt
-  sort_tame sort.PlaceB sort.PlaceL g e h = tt
-  sort_tame sort.PlaceW sort.Stmt g e h = tt
-  sort_tame sort.PlaceW sort.Long g e h = tt
-  sort_tame sort.PlaceW sort.Byte g e h = tt
-  sort_tame sort.PlaceW sort.Word g e h = tt
-  sort_tame sort.PlaceW sort.PlaceB g e h = tt
-  sort_tame sort.PlaceW sort.PlaceW g e h = h
-  sort_tame sort.PlaceW sort.PlaceL g e h = tt
-  sort_tame sort.PlaceL sort.Stmt g e h = tt
-  sort_tame sort.PlaceL sort.Long g e h = tt
-  sort_tame sort.PlaceL sort.Byte g e h = tt
-  sort_tame sort.PlaceL sort.Word g e h = tt
-  sort_tame sort.PlaceL sort.PlaceB g e h = tt
-  sort_tame sort.PlaceL sort.PlaceW g e h = tt
-  sort_tame sort.PlaceL sort.PlaceL g e h = h
-
   pub sort_undivided : (y x : Sort) (g : Meaning) → fits y x ≡ true → IsUndivided objects s x g → IsUndivided objects s y g
   sort_undivided sort.Stmt sort.Stmt g e u = u
   sort_undivided sort.Stmt sort.Long g e u = tt

@@ -42,6 +42,7 @@ use Rattle.sel_terms.specs.Wanted.{one, two, first_part}
 use Rattle.sel_terms.specs.Reading.{below, step}
 use Rattle.sel_terms_trees.specs.Senses.{Sense, OfLeaf, IsPlace, sense_at, means, means_at, StandsFor}
 use Rattle.tree_meaning_tame.specs.Tame.{IsTame}
+use Rattle.tree_meaning_tame.proofs.Sorts.{sort_tame}
 use Rattle.sel_terms_trees.specs.Effects.{IsKnown}
 use Rattle.term_core_accesses.specs.Accesses.{divides_well, Safe}
 use Rattle.sel_terms_meaning.specs.Meaning.{AllSafe, divides_by_zero}
@@ -581,60 +582,9 @@ module _ (objects : List Object) (s : Sight) (all : List Sense) (m : State) wher
     fitting sort.PlaceL sort.PlaceW p g e h tame = absurd (cc)
     fitting sort.PlaceL sort.PlaceL p g e h tame = h
 
-    own_tame : (y x : Sort) (g : Meaning) → fits y x ≡ true → IsTame objects s x g → IsTame objects s y g
-    own_tame sort.Stmt sort.Stmt g e h = h
-    own_tame sort.Stmt sort.Long g e h = tt
-    own_tame sort.Stmt sort.Byte g e h = tt
-    own_tame sort.Stmt sort.Word g e h = tt
-    own_tame sort.Stmt sort.PlaceB g e h = tt
-    own_tame sort.Stmt sort.PlaceW g e h = tt
-    own_tame sort.Stmt sort.PlaceL g e h = tt
-    own_tame sort.Long sort.Stmt g e h = absurd (cc)
-    own_tame sort.Long sort.Long g e h = h
-    own_tame sort.Long sort.Byte g e h = absurd (cc)
-    own_tame sort.Long sort.Word g e h = absurd (cc)
-    own_tame sort.Long sort.PlaceB g e h = absurd (cc)
-    own_tame sort.Long sort.PlaceW g e h = absurd (cc)
-    own_tame sort.Long sort.PlaceL g e h = absurd (cc)
-    own_tame sort.Byte sort.Stmt g e h = absurd (cc)
-    own_tame sort.Byte sort.Long g e h = absurd (cc)
-    own_tame sort.Byte sort.Byte g e h = h
-    own_tame sort.Byte sort.Word g e h = absurd (cc)
-    own_tame sort.Byte sort.PlaceB g e h = absurd (cc)
-    own_tame sort.Byte sort.PlaceW g e h = absurd (cc)
-    own_tame sort.Byte sort.PlaceL g e h = absurd (cc)
-    own_tame sort.Word sort.Stmt g e h = absurd (cc)
-    own_tame sort.Word sort.Long g e h = absurd (cc)
-    own_tame sort.Word sort.Byte g e h = absurd (cc)
-    own_tame sort.Word sort.Word g e h = h
-    own_tame sort.Word sort.PlaceB g e h = absurd (cc)
-    own_tame sort.Word sort.PlaceW g e h = absurd (cc)
-    own_tame sort.Word sort.PlaceL g e h = absurd (cc)
-    own_tame sort.PlaceB sort.Stmt g e h = tt
-    own_tame sort.PlaceB sort.Long g e h = tt
-    own_tame sort.PlaceB sort.Byte g e h = tt
-    own_tame sort.PlaceB sort.Word g e h = tt
-    own_tame sort.PlaceB sort.PlaceB g e h = h
-    own_tame sort.PlaceB sort.PlaceW g e h = tt
-    own_tame sort.PlaceB sort.PlaceL g e h = tt
-    own_tame sort.PlaceW sort.Stmt g e h = tt
-    own_tame sort.PlaceW sort.Long g e h = tt
-    own_tame sort.PlaceW sort.Byte g e h = tt
-    own_tame sort.PlaceW sort.Word g e h = tt
-    own_tame sort.PlaceW sort.PlaceB g e h = tt
-    own_tame sort.PlaceW sort.PlaceW g e h = h
-    own_tame sort.PlaceW sort.PlaceL g e h = tt
-    own_tame sort.PlaceL sort.Stmt g e h = tt
-    own_tame sort.PlaceL sort.Long g e h = tt
-    own_tame sort.PlaceL sort.Byte g e h = tt
-    own_tame sort.PlaceL sort.Word g e h = tt
-    own_tame sort.PlaceL sort.PlaceB g e h = tt
-    own_tame sort.PlaceL sort.PlaceW g e h = tt
-    own_tame sort.PlaceL sort.PlaceL g e h = h
-
     pub tame_own : (o : Option Sort) (x : Sort) (g : Meaning) → sort_fits o x ≡ true → IsTame objects s x g → OwnTame o g
     tame_own None x g e h = tt
-    tame_own (Some y) x g e h = own_tame y x g e h
+    tame_own (Some y) x g e h = sort_tame objects s y x g e h
 
     pub fitting_own : (o : Option Sort) (x : Sort) (p : SubtreeShape) (g : Meaning) → sort_fits o x ≡ true → StandsOwn o p g → IsTame objects s x g → StandsAt x p (Some g)
     fitting_own None x p g e h tame = absurd (cc)

@@ -3,3 +3,4 @@ pub mod Calm
 pub mod Sights
 pub mod Named
 pub mod Law
+pub mod Sorts
