@@ -12,6 +12,7 @@ use Rattle.tree_core.specs.declared.program.Object.{Object}
 use Rattle.tree_core.specs.Attributes.{leaf_fits}
 use Rattle.tree_core.specs.Grammar.{kids, sort_of, fits}
 use Rattle.tree_core.specs.Trees.{Forest, none, tree, leaves_onto, sort_fits}
+use Rattle.tree_core.proofs.Sorts.{fits_stmt}
 use Rattle.tree_meaning.specs.declared.value.Meaning.{Meaning}
 use Rattle.tree_meaning.specs.Values.{Sight, meanings}
 use Rattle.md_reader.specs.declared.types.Kind.{Kind}
@@ -60,15 +61,6 @@ pushed (node s passes below beside) a = pushed beside (pushed below (s ∷ a))
 pushed_is : {ok : Sym → Sort → Bool} {xs : List Sort} (p : Trees ok xs) (w a : List Sym) → piled (onto p w) a ≡ piled w (pushed p a)
 pushed_is no_tree w a = refl
 pushed_is (node s passes below beside) w a = pushed_is below (onto beside w) (s ∷ a) ∙ pushed_is beside w (pushed below (s ∷ a))
-
-pub fits_stmt : (x : Sort) → fits sort.Stmt x ≡ true → x ≡ sort.Stmt
-fits_stmt sort.Stmt e = refl
-fits_stmt sort.Long e = absurd (cc)
-fits_stmt sort.Byte e = absurd (cc)
-fits_stmt sort.Word e = absurd (cc)
-fits_stmt sort.PlaceB e = absurd (cc)
-fits_stmt sort.PlaceW e = absurd (cc)
-fits_stmt sort.PlaceL e = absurd (cc)
 
 nothing_there : (o : Option Kind) → sort_fits (option_map sort_of_kind o) sort.Stmt ≡ true → is_nothing o ≡ true
 nothing_there None e = absurd (cc)

@@ -10,3 +10,4 @@ pub mod Validity
 pub mod Law
 pub mod Apart
 pub mod Naming
+pub mod Sorts

@@ -28,6 +28,7 @@ use Rattle.tree_meaning_tame.specs.Tame.{IsTame, Tame, IsThere, AllThere}
 use Rattle.std.specs.List.{list_any}
 use Rattle.std.proofs.lemmas.Bool.{and_parts}
 use Rattle.tree_core.specs.Calm.{divides, reads_memory, ReadsNothing, CalmBefore}
+use Rattle.tree_core.proofs.Sorts.{fits_stmt}
 use Rattle.tree_meaning_tame.proofs.Strict.{NoStmt, kids_no_stmt}
 
 -- how a part comes out: well, at a zero divisor, or astray
@@ -365,15 +366,6 @@ module _ (objects : List Object) (s : Sight) where
   lifted d r sort.PlaceL sort.PlaceW g e h = absurd (cc)
   lifted d r sort.PlaceL sort.PlaceL g e h = h
 
-  stmt_fits : (x : Sort) → fits sort.Stmt x ≡ true → x ≡ sort.Stmt
-  stmt_fits sort.Stmt e = refl
-  stmt_fits sort.Long e = absurd (cc)
-  stmt_fits sort.Byte e = absurd (cc)
-  stmt_fits sort.Word e = absurd (cc)
-  stmt_fits sort.PlaceB e = absurd (cc)
-  stmt_fits sort.PlaceW e = absurd (cc)
-  stmt_fits sort.PlaceL e = absurd (cc)
-
   follows_at : (l : Leaf) (x : Sort) (gs : List Meaning) → sort_fits (sort_of l.tok) x ≡ true → (x ≡ sort.Stmt → ⊥)
       → Follows (divides l.tok) (fates (kids l.tok) gs 0) (fate_at x (Some (token_means objects s l.tok l.att (kid s (slice_get gs 0)) (kid s (slice_get gs 1)))))
   follows_at l x gs e some = by (sort_of l.tok) refl e
@@ -382,7 +374,7 @@ module _ (objects : List Object) (s : Sight) where
           → Follows (divides l.tok) (fates (kids l.tok) gs 0) (fate_at x (Some (token_means objects s l.tok l.att (kid s (slice_get gs 0)) (kid s (slice_get gs 1)))))
       by None f q = absurd (cc)
       by (Some y) f q =
-          let other : sort_of l.tok ≡ Some sort.Stmt → ⊥ = λ r. some (stmt_fits x (let h : y ≡ sort.Stmt = cc in subst (λ (t : Sort). fits t x ≡ true) h q)) in
+          let other : sort_of l.tok ≡ Some sort.Stmt → ⊥ = λ r. some (fits_stmt x (let h : y ≡ sort.Stmt = cc in subst (λ (t : Sort). fits t x ≡ true) h q)) in
           let g = token_means objects s l.tok l.att (kid s (slice_get gs 0)) (kid s (slice_get gs 1)) in
           lifted (divides l.tok) (fates (kids l.tok) gs 0) y x g q
           (subst (λ (t : Option Sort). Follows (divides l.tok) (fates (kids l.tok) gs 0) (own_fate t g)) f (token_follows l.tok l.att gs other))
@@ -505,15 +497,15 @@ module _ (objects : List Object) (s : Sight) where
       tame_any x (token_means objects s tok.Ncb a (kid s (slice_get gs 0)) (kid s (slice_get gs 1))) (one_quiet (kid s (slice_get gs 0)) (converted tok.Ncb) q.0 (λ x e. cc))
   token_quiet tok.Ncw a gs x e r h q =
       tame_any x (token_means objects s tok.Ncw a (kid s (slice_get gs 0)) (kid s (slice_get gs 1))) (one_quiet (kid s (slice_get gs 0)) (converted tok.Ncw) q.0 (λ x e. cc))
-  token_quiet tok.AssignB a gs x e r h q = subst (λ (t : Sort). IsTame objects s t (token_means objects s tok.AssignB a (kid s (slice_get gs 0)) (kid s (slice_get gs 1)))) (sym (stmt_fits x e)) tt
-  token_quiet tok.AssignW a gs x e r h q = subst (λ (t : Sort). IsTame objects s t (token_means objects s tok.AssignW a (kid s (slice_get gs 0)) (kid s (slice_get gs 1)))) (sym (stmt_fits x e)) tt
-  token_quiet tok.AssignL a gs x e r h q = subst (λ (t : Sort). IsTame objects s t (token_means objects s tok.AssignL a (kid s (slice_get gs 0)) (kid s (slice_get gs 1)))) (sym (stmt_fits x e)) tt
-  token_quiet tok.Cbr a gs x e r h q = subst (λ (t : Sort). IsTame objects s t (token_means objects s tok.Cbr a (kid s (slice_get gs 0)) (kid s (slice_get gs 1)))) (sym (stmt_fits x e)) tt
-  token_quiet tok.Push a gs x e r h q = subst (λ (t : Sort). IsTame objects s t (token_means objects s tok.Push a (kid s (slice_get gs 0)) (kid s (slice_get gs 1)))) (sym (stmt_fits x e)) tt
-  token_quiet tok.Ret a gs x e r h q = subst (λ (t : Sort). IsTame objects s t (token_means objects s tok.Ret a (kid s (slice_get gs 0)) (kid s (slice_get gs 1)))) (sym (stmt_fits x e)) tt
-  token_quiet tok.Call a gs x e r h q = subst (λ (t : Sort). IsTame objects s t (token_means objects s tok.Call a (kid s (slice_get gs 0)) (kid s (slice_get gs 1)))) (sym (stmt_fits x e)) tt
-  token_quiet tok.Save a gs x e r h q = subst (λ (t : Sort). IsTame objects s t (token_means objects s tok.Save a (kid s (slice_get gs 0)) (kid s (slice_get gs 1)))) (sym (stmt_fits x e)) tt
-  token_quiet tok.Jump a gs x e r h q = subst (λ (t : Sort). IsTame objects s t (token_means objects s tok.Jump a (kid s (slice_get gs 0)) (kid s (slice_get gs 1)))) (sym (stmt_fits x e)) tt
+  token_quiet tok.AssignB a gs x e r h q = subst (λ (t : Sort). IsTame objects s t (token_means objects s tok.AssignB a (kid s (slice_get gs 0)) (kid s (slice_get gs 1)))) (sym (fits_stmt x e)) tt
+  token_quiet tok.AssignW a gs x e r h q = subst (λ (t : Sort). IsTame objects s t (token_means objects s tok.AssignW a (kid s (slice_get gs 0)) (kid s (slice_get gs 1)))) (sym (fits_stmt x e)) tt
+  token_quiet tok.AssignL a gs x e r h q = subst (λ (t : Sort). IsTame objects s t (token_means objects s tok.AssignL a (kid s (slice_get gs 0)) (kid s (slice_get gs 1)))) (sym (fits_stmt x e)) tt
+  token_quiet tok.Cbr a gs x e r h q = subst (λ (t : Sort). IsTame objects s t (token_means objects s tok.Cbr a (kid s (slice_get gs 0)) (kid s (slice_get gs 1)))) (sym (fits_stmt x e)) tt
+  token_quiet tok.Push a gs x e r h q = subst (λ (t : Sort). IsTame objects s t (token_means objects s tok.Push a (kid s (slice_get gs 0)) (kid s (slice_get gs 1)))) (sym (fits_stmt x e)) tt
+  token_quiet tok.Ret a gs x e r h q = subst (λ (t : Sort). IsTame objects s t (token_means objects s tok.Ret a (kid s (slice_get gs 0)) (kid s (slice_get gs 1)))) (sym (fits_stmt x e)) tt
+  token_quiet tok.Call a gs x e r h q = subst (λ (t : Sort). IsTame objects s t (token_means objects s tok.Call a (kid s (slice_get gs 0)) (kid s (slice_get gs 1)))) (sym (fits_stmt x e)) tt
+  token_quiet tok.Save a gs x e r h q = subst (λ (t : Sort). IsTame objects s t (token_means objects s tok.Save a (kid s (slice_get gs 0)) (kid s (slice_get gs 1)))) (sym (fits_stmt x e)) tt
+  token_quiet tok.Jump a gs x e r h q = subst (λ (t : Sort). IsTame objects s t (token_means objects s tok.Jump a (kid s (slice_get gs 0)) (kid s (slice_get gs 1)))) (sym (fits_stmt x e)) tt
   token_quiet tok.End a gs x e r h q = absurd (cc)
 
   quiet : (xs : List Sort) (f : Forest) (w : List Leaf) → Typed xs f → AllThere objects s f → ReadsNothing (leaves_onto f w) → Tame objects s xs f

@@ -1,0 +1,14 @@
+-- Which sorts stand where statements are wanted.
+use Rattle.std.proofs.Common.{◌≡◌, true, refl}
+use Rattle.tree_core.specs.declared.token.Sort.{Sort}
+use Rattle.tree_core.specs.Grammar.{fits}
+use Rattle.tree_core.specs.declared.token.Sort.TheVariants as sort
+
+pub fits_stmt : (x : Sort) → fits sort.Stmt x ≡ true → x ≡ sort.Stmt
+fits_stmt sort.Stmt e = refl
+fits_stmt sort.Long e = absurd (cc)
+fits_stmt sort.Byte e = absurd (cc)
+fits_stmt sort.Word e = absurd (cc)
+fits_stmt sort.PlaceB e = absurd (cc)
+fits_stmt sort.PlaceW e = absurd (cc)
+fits_stmt sort.PlaceL e = absurd (cc)
