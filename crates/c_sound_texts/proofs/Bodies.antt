@@ -1,8 +1,8 @@
 -- The statements of each function fit and stand, since each begins where what is in scope is in order.
 use Rattle.std.proofs.Common.{◌≡◌, ℕ, ◌+◌, ◌<◌, ◌≤◌, Bool, false, List, [], ◌∷◌, length, map, Option, Some, None, inl, inr, refl, ◌∙◌, arith}
-use Rattle.std.proofs.lemmas.Bool.Decides.{nat_tests}
 use Rattle.std.proofs.lemmas.List.{length-map}
-use Rattle.std.specs.Prelude.{is_some, nat_lt, slice_get}
+use Rattle.std.proofs.lemmas.Bool.{ltb-false}
+use Rattle.std.specs.Prelude.{is_some, slice_get}
 use Rattle.gg_base.proofs.Facts.{slice_cases}
 use Rattle.c_phrases.specs.declared.operator.Spec.{Spec}
 use Rattle.c_phrases.specs.declared.tree.Named.{Named}
@@ -118,9 +118,6 @@ area_is parameters s a h o = record {
   grows = grows_area s a h;
 }
 
-few_parameters : (n : ℕ) → nat_lt 32 n ≡ false → n ≤ 32
-few_parameters n h = grind (arith, nat_tests)
-
 -- global variables that are declared
 record Globals (s r : State) : Type 0 where
   order : InOrder no_local 0 r
@@ -199,7 +196,7 @@ module _ (names : List (List ℕ × Entry)) (signatures : List Signature) where
       let k = declared_sound j.part spec f t h in
       let p = parameters_order parameters (is_some f.body) (params_in f.params) 0 (entered_function u.state) m.part (omega arith)
       (function_begins parameters u.state k.order) m.typed in
-      body_sound spec f f.body w.2 m.part u r (few_parameters parameters q.typed.fails) p.order p.grows k q.whole
+      body_sound spec f f.body w.2 m.part u r (ltb-false 32 parameters q.typed.fails) p.order p.grows k q.whole
 
   globals_sound : (spec : Spec) (ds : List ADeclarator) (s r : State) → InOrder no_local 0 s → AreGlobals names signatures spec ds s r →
       Globals s r

@@ -1,8 +1,7 @@
 -- An expression is read by what is to be read: the run goes on behind it with its phrase.
 use Rattle.std.proofs.Common.{◌≡◌, ℕ, ◌+◌, ◌<◌, ◌≤◌, List, [], ◌∷◌, refl, sym, ap, subst, ◌∙◌, arith}
-use Rattle.std.specs.Prelude.{Option, Some, None, Bool, true, false, nat_lt}
-use Rattle.std.proofs.lemmas.Bool.Decides.{nat_tests}
-use Rattle.std.proofs.lemmas.Bool.{lt-ltb}
+use Rattle.std.specs.Prelude.{Option, Some, None, Bool, true, false}
+use Rattle.std.proofs.lemmas.Bool.{lt-ltb, le-ltb}
 use Rattle.c_tokens.specs.declared.token.Token.{Token}
 use Rattle.c_tokens.specs.declared.token.Token.TheVariants as token
 use Rattle.c_tokens.specs.declared.words.Key.TheVariants as keys
@@ -148,10 +147,7 @@ no_cast (comma l r) w h = absurd (omega (arith, h.0))
 
 -- rows of binary operators
 pub insert_at : (l : AnExp) (op : BinaryOperator) (at : ℕ) (e : AnExp) → IsAt (level_of op) l → insert l op at e ≡ binary l op at e
-insert_at (binary a q p b) op at e h = rw (not_less (level_of q) (level_of op) h.0) refl
-  where
-    not_less : (j k : ℕ) → k ≤ j → nat_lt j k ≡ false
-    not_less j k le = grind (arith, nat_tests)
+insert_at (binary a q p b) op at e h = rw (le-ltb (level_of q) (level_of op) h.0) refl
 insert_at (name n p) op at e h = refl
 insert_at l op at e h = refl
 

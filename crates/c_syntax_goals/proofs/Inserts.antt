@@ -1,8 +1,7 @@
 -- An operand more at the end of a row of binary operators: its tokens, its levels, its phrase.
 use Rattle.std.proofs.Common.{◌≡◌, ◌≤◌, ℕ, ◌+◌, List, ◌∷◌, refl, ap, arith}
 use Rattle.std.specs.Prelude.{Bool, true, false, nat_lt, if◌then◌else◌}
-use Rattle.std.proofs.lemmas.Bool.Decides.{nat_tests}
-use Rattle.std.proofs.lemmas.Bool.{ltb-true}
+use Rattle.std.proofs.lemmas.Bool.{ltb-true, ltb-false}
 use Rattle.c_phrases.specs.declared.operator.BinaryOperator.{BinaryOperator}
 use Rattle.c_phrases.specs.Classes.{sign}
 use Rattle.c_phrases.specs.Phrases.{AnExp, name, number, str, paren, call, sizeof_type, binary, choice, assign, comma}
@@ -37,14 +36,11 @@ insert_after (binary l q p r) op at e b =
 insert_after (name n p) op at e b = refl
 insert_after l op at e b = refl
 
-not_less : (j k : ℕ) → nat_lt j k ≡ false → k ≤ j
-not_less j k e = grind (arith, nat_tests)
-
 chosen_fits : (t : Bool) (j : ℕ) (l : AnExp) (q : BinaryOperator) (p : ℕ) (r : AnExp) (op : BinaryOperator) (at : ℕ) (e : AnExp) → nat_lt (level_of q) (level_of op) ≡ t → j ≤ level_of op
     → IsAt j (binary l q p r) → IsAt 13 e → (level_of q + 1 ≤ level_of op → IsAt (level_of q + 1) (insert r op at e))
     → IsAt j (if t then binary l q p (insert r op at e) else binary (binary l q p r) op at e)
 chosen_fits true j l q p r op at e d le h k ih = (h.0, (h.1.0, ih (omega (arith, ltb-true (level_of q) (level_of op) d))))
-chosen_fits false j l q p r op at e d le h k ih = (le, ((not_less (level_of q) (level_of op) d, h.1), lower (level_of op + 1) 13 e (omega (arith, level_top op)) k))
+chosen_fits false j l q p r op at e d le h k ih = (le, ((ltb-false (level_of q) (level_of op) d, h.1), lower (level_of op + 1) 13 e (omega (arith, level_top op)) k))
 
 pub insert_fits : (j : ℕ) (l : AnExp) (op : BinaryOperator) (at : ℕ) (e : AnExp) → 3 ≤ j → j ≤ level_of op → IsAt j l → IsAt 13 e → IsAt j (insert l op at e)
 insert_fits j (binary l q p r) op at e least le h k =

@@ -1,9 +1,9 @@
 -- What the grammar says of the front of a text is what is read there.
-use Rattle.std.proofs.Common.{◌≡◌, ◌≢◌, ◌<◌, ◌≤◌, ℕ, suc, ◌+◌, ◌-◌, Bool, true, false, eqb, List, [], ◌∷◌, ◌++◌, length, take, drop, Option, Some, None, Ok, Err, refl, sym, ◌∙◌}
+use Rattle.std.proofs.Common.{◌≡◌, ◌≢◌, ◌≤◌, ℕ, suc, ◌+◌, ◌-◌, Bool, true, false, eqb, List, [], ◌∷◌, ◌++◌, length, take, drop, Option, Some, None, Ok, Err, refl, sym, ◌∙◌}
 use Rattle.std.proofs.Common.{ap, arith, subst, length-drop, length-append}
-use Rattle.std.specs.Prelude.{nat_le, ◌&&◌}
+use Rattle.std.specs.Prelude.{◌&&◌}
 use Rattle.std.specs.Option.{option_map}
-use Rattle.std.proofs.lemmas.Bool.{eqb-true, eq-eqb, ne_eqb, le-leb}
+use Rattle.std.proofs.lemmas.Bool.{eqb-true, eq-eqb, ne_eqb, le-leb, lt-leb}
 use Rattle.std.proofs.lemmas.Bool.Decides.{nat_tests}
 use Rattle.std.proofs.lemmas.List.{drop-drop, append-nil}
 use Rattle.std.proofs.Math.Seq.{drop-append_seam, take-append_seam, drop-append-add}
@@ -210,10 +210,7 @@ wrong_reads at _ _ _ (bad_number b bs word rest h r none) =
         step (Some v) e = absurd (h v (number_is word v e))
 wrong_reads at _ _ _ (long_name b bs word rest h r other long) =
     let c = cut_run in_word (b ∷ bs) word rest r in
-    word_reads at b bs h ∙ (rw (c.len, c.take_is, key_none word other, above (length word) long) refl ∙ here at LongName)
-  where
-    above : (n : ℕ) → 63 < n → nat_le n 63 ≡ false
-    above n h = grind (arith, nat_tests)
+    word_reads at b bs h ∙ (rw (c.len, c.take_is, key_none word other, lt-leb (length word) 63 long) refl ∙ here at LongName)
 wrong_reads at _ _ _ (character_escape text none) = rw (escape_none text none) refl
 wrong_reads at _ _ _ (string_escape text vs rest n s none f) =
     let r = elements_read text vs (92 ∷ rest) s in

@@ -1,8 +1,7 @@
 -- Escapes and elements are read exactly as they are written.
 use Rattle.std.proofs.Common.{◌≡◌, ◌≢◌, ◌<◌, ◌≤◌, ◌⊎◌, ℕ, zero, suc, Bool, true, false, cond, eqb, List, [], ◌∷◌, ◌++◌, length, take, drop, Option, Some, None, refl, sym, ◌∙◌, ap}
 use Rattle.std.proofs.Common.{arith, inl, inr, subst, length-append}
-use Rattle.std.proofs.lemmas.Bool.{eqb-true, eqb-false, ne_eqb}
-use Rattle.std.proofs.lemmas.Bool.Decides.{nat_tests}
+use Rattle.std.proofs.lemmas.Bool.{eqb-true, eqb-false, ne_eqb, ltb-false, le-ltb}
 use Rattle.std.proofs.lemmas.Option.{none-some, same_Some}
 use Rattle.std.proofs.Math.Seq.{drop-append_seam, take-append_seam}
 use Rattle.std.specs.Option.{option_map}
@@ -90,9 +89,6 @@ octal_is ds x e = step (eqb (octal_len ds) 0) refl e
 hexadecimal_is : (ds : List ℕ) (x : ℕ × ℕ) → hexadecimal_escape ds ≡ Some x → Escaped (120 ∷ ds) (x.0, suc x.1)
 hexadecimal_is ds x e = step (eqb (run_len (is_digit_of 16) ds) 0) (nat_lt 2 (run_len (is_digit_of 16) ds)) refl refl e
   where
-    small : (n : ℕ) → nat_lt 2 n ≡ false → n ≤ 2
-    small n h = grind (arith, nat_tests)
-
     step : (t u : Bool) → eqb (run_len (is_digit_of 16) ds) 0 ≡ t → nat_lt 2 (run_len (is_digit_of 16) ds) ≡ u → cond t None (cond u None (byte_of 16 (run_len (is_digit_of 16) ds) ds))
         ≡ Some x → Escaped (120 ∷ ds) (x.0, suc x.1)
     step true u f g h = absurd (none-some x h)
@@ -102,7 +98,7 @@ hexadecimal_is ds x e = step (eqb (run_len (is_digit_of 16) ds) 0) (nat_lt 2 (ru
         let b = byte_is 16 (run_len (is_digit_of 16) ds) ds x h in
         let len : x.1 ≡ run_len (is_digit_of 16) ds = b.len in
         let more : run_len (is_digit_of 16) ds ≡ 0 → ⊥ = eqb-false (run_len (is_digit_of 16) ds) 0 f in
-        let two : run_len (is_digit_of 16) ds ≤ 2 = small (run_len (is_digit_of 16) ds) g in
+        let two : run_len (is_digit_of 16) ds ≤ 2 = ltb-false 2 (run_len (is_digit_of 16) ds) g in
         let within : run_len (is_digit_of 16) ds ≤ length ds = run_within (is_digit_of 16) ds in
         let length_is : length (take (run_len (is_digit_of 16) ds) ds) ≡ run_len (is_digit_of 16) ds = length-take-le (run_len (is_digit_of 16) ds) ds within in
         record {
@@ -176,7 +172,7 @@ hexadecimal_reads : (digits : List ℕ) (v : ℕ) (rest : List ℕ) → Pass (is
 hexadecimal_reads digits v rest h s one two w =
     let len : run_len (is_digit_of 16) (digits ++ rest) ≡ length digits = run_again (is_digit_of 16) digits rest h s in
     let nonzero : eqb (run_len (is_digit_of 16) (digits ++ rest)) 0 ≡ false = rw len (ne_eqb (length digits) 0 (λ (z : length digits ≡ 0). omega arith)) in
-    let small : nat_lt 2 (run_len (is_digit_of 16) (digits ++ rest)) ≡ false = rw len (low (length digits) two) in
+    let small : nat_lt 2 (run_len (is_digit_of 16) (digits ++ rest)) ≡ false = rw len (le-ltb 2 (length digits) two) in
     record {
       taken = suc (length digits);
       read = rw (nonzero, small, byte_reads 16 (run_len (is_digit_of 16) (digits ++ rest)) digits rest v (omega arith) len w, len) refl;
@@ -184,9 +180,6 @@ hexadecimal_reads digits v rest h s one two w =
       some = omega arith;
       within = omega (arith, length-append digits rest);
     }
-  where
-    low : (n : ℕ) → n ≤ 2 → nat_lt 2 n ≡ false
-    low n h = grind (arith, nat_tests)
 
 pub escape_reads : (text : List ℕ) (v : ℕ) (rest : List ℕ) → IsEscape text v rest → EscapeRead text v rest
 escape_reads _ _ _ (named b v rest e) = record { taken = 1; read = rw e refl; rest_is = refl; some = omega arith; within = omega arith }

@@ -1,10 +1,9 @@
 -- The piece at the front of a text is read exactly as the grammar says, or it is wrong exactly so.
-use Rattle.std.proofs.Common.{◌≡◌, ◌≢◌, ◌<◌, ◌≤◌, ℕ, suc, ◌+◌, ◌-◌, Bool, true, false, cond, eqb, List, [], ◌∷◌, ◌++◌, length, take, drop, Option, Some, None, Result, Ok, Err}
+use Rattle.std.proofs.Common.{◌≡◌, ◌≢◌, ◌≤◌, ℕ, suc, ◌+◌, ◌-◌, Bool, true, false, cond, eqb, List, [], ◌∷◌, ◌++◌, length, take, drop, Option, Some, None, Result, Ok, Err}
 use Rattle.std.proofs.Common.{refl, sym, ◌∙◌, ap, arith, subst, length-drop, length-append}
 use Rattle.std.specs.Prelude.{nat_le, ◌&&◌, ◌||◌}
 use Rattle.std.specs.Option.{option_map}
-use Rattle.std.proofs.lemmas.Bool.{eqb-true, eqb-false, eq-eqb, leb-true}
-use Rattle.std.proofs.lemmas.Bool.Decides.{nat_tests}
+use Rattle.std.proofs.lemmas.Bool.{eqb-true, eqb-false, eq-eqb, leb-true, leb-false}
 use Rattle.std.proofs.lemmas.Option.{none-some}
 use Rattle.std.proofs.lemmas.List.{drop-drop}
 use Rattle.gg_base.specs.Fronts.{run_len}
@@ -77,10 +76,7 @@ word_says at b bs h = step (key_of (take (run_len in_word (b ∷ bs)) (b ∷ bs)
       within = run_within in_word (b ∷ bs);
     }
     long false f e = bad at (b ∷ bs) LongName (faults.long_name b bs (take (run_len in_word (b ∷ bs)) (b ∷ bs)) (drop (run_len in_word (b ∷ bs)) (b ∷ bs)) h (run_cut in_word (b ∷ bs))
-        (no_key _ e) (above (length (take (run_len in_word (b ∷ bs)) (b ∷ bs))) f))
-      where
-        above : (n : ℕ) → nat_le n 63 ≡ false → 63 < n
-        above n h = grind (arith, nat_tests)
+        (no_key _ e) (leb-false (length (take (run_len in_word (b ∷ bs)) (b ∷ bs))) 63 f))
 
     step : (o : Option Key) → key_of (take (run_len in_word (b ∷ bs)) (b ∷ bs)) ≡ o
         → PieceSays at (b ∷ bs) (holds (run_len in_word (b ∷ bs)) (keyword_or_name at o (take (run_len in_word (b ∷ bs)) (b ∷ bs))))

@@ -1,6 +1,6 @@
 -- What is left of a string behind the elements that were read.
 use Rattle.std.proofs.Common.{◌≡◌, ◌<◌, ◌≤◌, ℕ, zero, suc, ◌+◌, false, eqb, List, [], ◌∷◌, ◌++◌, length, drop, get_or, Some, Result, Ok, Err, refl, sym, ◌∙◌, ap, arith, append_assoc, length-drop}
-use Rattle.std.proofs.lemmas.Bool.Decides.{nat_tests}
+use Rattle.std.proofs.lemmas.Bool.{ne_eqb}
 use Rattle.c_tokens.specs.declared.token.TokenFault.{TokenFault}
 use Rattle.c_tokens.specs.Escapes.{element_of}
 use Rattle.c_tokens.specs.Pieces.{string_from, put_value, put_byte}
@@ -55,7 +55,4 @@ string_goes o a n vs v taken [] ws behind m b some e f g one low h i j l = absur
 string_goes o a n vs v zero (c ∷ cs) ws behind m b some e f g one low h i j l = absurd (omega arith)
 string_goes o a n vs v (suc k) (c ∷ cs) ws behind m b some e f g one low h i j l =
     let below : k ≤ length cs = omega arith in
-    rw (h, i, j, l) (element_step o a n vs c v k cs (other c 34 e) (other c 10 f) (sym g) below)
-  where
-    other : (x y : ℕ) → (x ≡ y → ⊥) → eqb x y ≡ false
-    other x y h = grind (arith, nat_tests)
+    rw (h, i, j, l) (element_step o a n vs c v k cs (ne_eqb c 34 e) (ne_eqb c 10 f) (sym g) below)

@@ -1,7 +1,7 @@
 -- Whatever is typed, objects are laid one behind another.
-use Rattle.std.proofs.Common.{◌≡◌, ℕ, zero, suc, ◌+◌, ◌<◌, ◌≤◌, Bool, true, false, nat_lt, List, [], ◌∷◌, ◌++◌, refl, ap, sym, subst, ◌∙◌, Option, Some, None, Result, Ok, Err}
-use Rattle.std.proofs.Common.{arith, if◌then◌else◌, length, ◌*◌}
-use Rattle.std.proofs.lemmas.Bool.Decides.{nat_tests}
+use Rattle.std.proofs.Common.{◌≡◌, ℕ, zero, suc, ◌+◌, Bool, true, false, List, [], ◌∷◌, ◌++◌, refl, sym, subst, Option, Some, None, Result, Ok, Err}
+use Rattle.std.proofs.Common.{if◌then◌else◌, length, ◌*◌}
+use Rattle.std.proofs.lemmas.Bool.{ltb-false}
 use Rattle.std.specs.Prelude.{is_some}
 use Rattle.tree_core.specs.declared.program.Object.{Object}
 use Rattle.c_phrases.specs.declared.operator.Spec.{Spec}
@@ -10,30 +10,30 @@ use Rattle.c_phrases.specs.declared.operator.Storage.TheVariants as storages
 use Rattle.c_phrases.specs.Phrases.{AnExp, name, number, str, paren, call, index, step_after, step_before, prefix}
 use Rattle.c_phrases.specs.Phrases.{sizeof_exp, sizeof_type, cast, binary, choice, assign, comma, SomeExps, no_exps}
 use Rattle.c_phrases.specs.Phrases.{exps}
-use Rattle.c_phrases.specs.Units.{AnInit, value, elements, ADeclarator, ALocal, AStatement, block, empty, expression}
+use Rattle.c_phrases.specs.Units.{AnInit, value, elements, ADeclarator, AStatement, block, empty, expression}
 use Rattle.c_phrases.specs.Units.{break_off, continue_on, give_back, if_then, if_else, while_loop, do_loop, for_loop}
 use Rattle.c_phrases.specs.Units.{SomeItems, no_items, local_item, statement_item, AParam, AFunction, ADeclared}
-use Rattle.c_phrases.specs.Units.{function, globals, AnExternal, AUnit}
+use Rattle.c_phrases.specs.Units.{function, globals, AnExternal}
 use Rattle.c_types.specs.declared.types.CType.{CType}
 use Rattle.c_types.specs.declared.fault.TypeKind.TheVariants.{DataFull}
 use Rattle.c_types.specs.Answers.{Fault, bad, ◌>>=◌}
 use Rattle.c_types.specs.Types.{size_of}
-use Rattle.c_types.specs.Typed.{AnExpression, SomeExpressions, LiteralAt}
+use Rattle.c_types.specs.Typed.{AnExpression, LiteralAt}
 use Rattle.c_typed_scope.specs.declared.entry.Entry.{Entry}
 use Rattle.c_typed_scope.specs.declared.entry.Signature.{Signature}
 use Rattle.c_typed_scope.specs.Scopes.{Scope, find}
-use Rattle.c_typed_scope.specs.Layout.{Area, aligned, added, with_object, placed, one_more_literal, literal}
-use Rattle.c_typed_scope.specs.Contents.{Filled, holding, with_contents, filled, filled_to}
+use Rattle.c_typed_scope.specs.Layout.{Area, placed, one_more_literal, literal}
+use Rattle.c_typed_scope.specs.Contents.{Filled, with_contents, filled, filled_to}
 use Rattle.c_typed_expressions.specs.Phrases.{init_in, brackets_in, params_in}
 use Rattle.c_typed_expressions.specs.Expressions.{integer_of, beside, sizeof_unless, is_function, type_exp, type_exps}
-use Rattle.c_program.specs.Statements.{ADeclaration, AnAction, SomeActions}
+use Rattle.c_program.specs.Statements.{ADeclaration, AnAction}
 use Rattle.c_program.specs.Programs.{AProgram}
 use Rattle.c_typed_definition.specs.Initialisers.{type_length, type_element, type_elements}
 use Rattle.c_typed_definition.specs.State.{State, with_area, measuring, counted_static, laid, with_local}
-use Rattle.c_typed_definition.specs.Declarations.{length_in, literals_in, contents_of, finished, object_with}
+use Rattle.c_typed_definition.specs.Declarations.{length_in, literals_in, contents_of, object_with}
 use Rattle.c_typed_definition.specs.Declarations.{plain_object, counted_array, array_object, object_by, type_object}
 use Rattle.c_typed_definition.specs.Declarations.{begun, type_automatic, type_local, type_locals}
-use Rattle.c_typed_definition.specs.Statements.{entered, left, jump, type_full, type_condition, type_maybe, type_maybe_condition, type_return, type_statement, type_items}
+use Rattle.c_typed_definition.specs.Statements.{entered, jump, type_full, type_condition, type_maybe, type_maybe_condition, type_return, type_statement, type_items}
 use Rattle.c_typed_definition.specs.Headings.{Text, with_declared, entered_function, agrees}
 use Rattle.c_typed_definition.specs.Headings.{earlier_by, head_of, is_below}
 use Rattle.c_typed_definition.specs.Signatures.{signature_of, known}
@@ -92,12 +92,9 @@ placed_if : (test : Bool) (at n : ℕ) (a b : Area) → (test ≡ false → IsLa
 placed_if true at n a b h = leave_bad _ _ _
 placed_if false at n a b h = leave_ok _ _ _ (h refl)
 
-not_above : (n : ℕ) → nat_lt 1114112 n ≡ false → n ≤ 1114112
-not_above n e = grind (arith, nat_tests)
-
 placed_leaves : (at : ℕ) (label : List ℕ) (align size : ℕ) (bytes : List ℕ) (a : Area) → LeavesArea a (placed at label align size bytes a)
 unfolding placed
-placed_leaves at label align size bytes a = placed_if _ _ _ a _ (λ e l. record { lie = lie_more 65536 a.end a.objects _ l.lie (record { begins = refl; within = not_above _ e }) })
+placed_leaves at label align size bytes a = placed_if _ _ _ a _ (λ e l. record { lie = lie_more 65536 a.end a.objects _ l.lie (record { begins = refl; within = ltb-false 1114112 _ e }) })
 
 literal_if : (test : Bool) (a : Area) (n : ℕ) (m : Result (ℕ × Area) Fault) → LeavesArea a m
     → LeavesArea a (if test then Ok (LiteralAt 0 n, a) else m >>= λ r. Ok (LiteralAt r.0 n, one_more_literal r.1))

@@ -2,8 +2,7 @@
 use Rattle.std.proofs.Common.{◌≡◌, ℕ, zero, suc, ◌+◌, ◌<◌, ◌≤◌, ◌==◌, List, [], ◌∷◌, length, slice_get, Option, Some, None, Bool, true, false, refl, ap, ◌∙◌, subst, arith}
 use Rattle.std.specs.Prelude.{slice_set, count_ones, Ok}
 use Rattle.std.specs.List.{list_any}
-use Rattle.std.proofs.lemmas.Bool.Decides.{nat_tests}
-use Rattle.gg_base.proofs.Facts.{true_or_false}
+use Rattle.std.proofs.lemmas.Bool.{eqb-false, eqb-true}
 use Rattle.tree_core.specs.declared.program.TreeProgram.{TreeProgram}
 use Rattle.md_reader_pieces.specs.declared.piece.Line.{Line}
 use Rattle.md_reader.specs.declared.types.Kind.{Kind}
@@ -62,23 +61,17 @@ module _ {O I S F : Type 0} (of : Meaning O I S F) (law : IsLawful of) (q : Tree
     alone r false e = (let a = ap tick (register_other of law q d first v r lt (λ g. apart g)) in omega (arith, a))
       where
         apart : r ≡ v → ⊥
-        apart g = true_or_false (r == v) (same g) e
-          where
-            same : r ≡ v → (r == v) ≡ true
-            same g = grind (arith, nat_tests)
+        apart g = eqb-false r v e g
 
     -- with it given to one more entry each register is held by one at most
     pub one_more : (r n : ℕ) → n ≤ tick (in_pool of d r) → (r ≡ v → n ≡ 0) → in_pool of d v ≡ true → tick (attr_touches of (attr.Reg v) (RegAt r)) + n ≤ tick (in_pool of d r)
     one_more r n le none pooled = by (r == v) refl
       where
-        is : (r == v) ≡ true → r ≡ v
-        is e = grind (arith, nat_tests)
-
         by : (b : Bool) → (r == v) ≡ b → tick (attr_touches of (attr.Reg v) (RegAt r)) + n ≤ tick (in_pool of d r)
         by true e =
             let a = alone r true e in
-            let b = none (is e) in
-            let c = ap (λ k. tick (in_pool of d k)) (is e) in
+            let b = none (eqb-true r v e) in
+            let c = ap (λ k. tick (in_pool of d k)) (eqb-true r v e) in
             let f = ap tick pooled in
             omega (arith, a, b, c, f)
         by false e = (let a = alone r false e in omega (arith, a, le))

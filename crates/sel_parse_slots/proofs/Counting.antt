@@ -1,10 +1,10 @@
 -- A reduction uses no more words than the entries before it hold registers and slots.
-use Rattle.std.proofs.Common.{◌≡◌, ◌⊎◌, inl, inr, ℕ, zero, suc, ◌+◌, ◌-◌, ◌<◌, ◌≤◌, ◌==◌, List, [], ◌∷◌, ◌++◌, Option, Some, None, Bool, true, false, refl, sym, ap, ◌∙◌, subst, arith}
+use Rattle.std.proofs.Common.{◌≡◌, ◌⊎◌, inl, inr, ℕ, zero, suc, ◌+◌, ◌-◌, ◌<◌, ◌≤◌, List, [], ◌∷◌, ◌++◌, Option, Some, None, Bool, true, false, refl, sym, ap, ◌∙◌, subst, arith, eq-or-lt_of_le, le_of_suc-le-suc}
 use Rattle.std.proofs.Common.{slice_get}
 use Rattle.std.specs.Prelude.{not, if◌then◌else◌, slice_set}
 use Rattle.std.proofs.lemmas.Bool.Decides.{nat_tests}
 use Rattle.std.proofs.lemmas.Option.{same_Some, none-some}
-use Rattle.std.proofs.lemmas.Bool.{not-true, eqb-true}
+use Rattle.std.proofs.lemmas.Bool.{not-true, cases_eq}
 use Rattle.gg_base.proofs.Facts.{first_true, second_true, true_or_false}
 use Rattle.tree_core.specs.declared.program.TreeProgram.{TreeProgram}
 use Rattle.md_reader.specs.declared.types.Kind.{Kind}
@@ -28,7 +28,7 @@ use Rattle.sel_parse_selected.specs.Reductions.{loaded, reloaded_by, reloaded_at
 use Rattle.sel_parse_stands.proofs.Loaded.{IsLoaded}
 use Rattle.sel_parse_stands.proofs.Saving.{lowest_found}
 use Rattle.sel_parse_stands.proofs.Desks.{first_passes, last_passes, set_other}
-use Rattle.sel_parse_slots.proofs.Counts.{count, tick, count_any, below_lowest, none_lowest, total, total_set, total_append, unequal}
+use Rattle.sel_parse_slots.proofs.Counts.{count, tick, count_any, below_lowest, none_lowest, total, total_set, total_append}
 use Rattle.sel_parse_slots.proofs.Fine as fine
 use Rattle.sel_parse_slots.proofs.Fine.{words, charge, weight, weight_charge, IsFine, fine_words, slot_word_one, fine_spilled}
 
@@ -40,26 +40,6 @@ set_is : {X : Type 0} (bs : List X) (i : ℕ) (y x : X) → slice_get (slice_set
 set_is [] i y x e = absurd (none-some x e)
 set_is (b ∷ bs) zero y x e = same_Some y x e
 set_is (b ∷ bs) (suc i) y x e = set_is bs i y x e
-
-by_place : (n k : ℕ) → (n ≡ k) ⊎ (n ≡ k → ⊥)
-by_place n k = here (n == k) refl
-  where
-    here : (b : Bool) → (n == k) ≡ b → (n ≡ k) ⊎ (n ≡ k → ⊥)
-    here true g = inl (eqb-true n k g)
-    here false g = inr (λ h. true_or_false (n == k) (same n k h) g)
-      where
-        same : (n k : ℕ) → n ≡ k → (n == k) ≡ true
-        same n k h = grind (arith, nat_tests)
-
-at_most : (j i : ℕ) → j < suc i → (j ≡ i) ⊎ (j < i)
-at_most j i lt = by (by_place j i)
-  where
-    by : (j ≡ i) ⊎ (j ≡ i → ⊥) → (j ≡ i) ⊎ (j < i)
-    by (inl e) = inl e
-    by (inr e) = inr (less (unequal j i e))
-      where
-        less : (j == i) ≡ false → j < i
-        less f = grind (arith, nat_tests)
 
 -- ---- what comes of a step: not full, if there is room for so many
 
@@ -294,7 +274,7 @@ module _ {O I S F : Type 0} (of : Meaning O I S F) (law : IsLawful of) (q : Tree
         }
       where
         loaded_still : (k : ℕ) (b : Entry O) → k < i → slice_get (slice_set desk.symbols j (entry_in_slot of e w)) k ≡ Some b → IsLoaded b.attr
-        loaded_still k b lt there = by (by_place j k)
+        loaded_still k b lt there = by (cases_eq j k)
           where
             by : (j ≡ k) ⊎ (j ≡ k → ⊥) → IsLoaded b.attr
             by (inl g) =
@@ -304,7 +284,7 @@ module _ {O I S F : Type 0} (of : Meaning O I S F) (law : IsLawful of) (q : Tree
 
         slots : (k u : ℕ) (kd : Option Kind) → slice_get desk.symbols k ≡ Some (record { kind = kd; attr = attr.InSlot u })
             → slice_get (slice_set desk.symbols j (entry_in_slot of e w)) k ≡ Some (record { kind = kd; attr = attr.InSlot u })
-        slots k u kd there = by (by_place j k)
+        slots k u kd there = by (cases_eq j k)
           where
             in_slot_still : (b : Entry O) → b ≡ record { kind = kd; attr = attr.InSlot u } → entry_in_slot of b w ≡ record { kind = kd; attr = attr.InSlot u }
             in_slot_still b g = ap (λ (x : Entry O). entry_in_slot of x w) g
@@ -428,7 +408,7 @@ module _ {O I S F : Type 0} (of : Meaning O I S F) (law : IsLawful of) (q : Tree
         }
       where
         loaded_now : (j : ℕ) (e : Entry O) → j < suc i → slice_get (slice_set p.1.symbols i (record { kind = k; attr = attr.Reg p.0 })) j ≡ Some e → IsLoaded e.attr
-        loaded_now j e lt there = by (at_most j i lt)
+        loaded_now j e lt there = by (eq-or-lt_of_le (le_of_suc-le-suc lt))
           where
             by : (j ≡ i) ⊎ (j < i) → IsLoaded e.attr
             by (inl g) =
@@ -444,7 +424,7 @@ module _ {O I S F : Type 0} (of : Meaning O I S F) (law : IsLawful of) (q : Tree
       symbols_within = h.symbols_within;
       below_fine = h.below_fine;
       symbols_fine = h.symbols_fine;
-      loaded_to = λ j e lt there. by j e there (at_most j i lt);
+      loaded_to = λ j e lt there. by j e there (eq-or-lt_of_le (le_of_suc-le-suc lt));
     } where
       by : (j : ℕ) (e : Entry O) → slice_get desk.symbols j ≡ Some e → (j ≡ i) ⊎ (j < i) → IsLoaded e.attr
       by j e there (inl g) = here e (ap (slice_get desk.symbols) (sym g) ∙ there)

@@ -1,11 +1,11 @@
 -- Spills and reloads of a reduction: the code comes to a state where the entries stand for what they stood for.
-use Rattle.std.proofs.Common.{◌≡◌, ◌⊎◌, inl, inr, ℕ, zero, suc, ◌+◌, ◌-◌, ◌<◌, ◌≤◌, ◌==◌, List, [], ◌∷◌, ◌++◌, length, Option, Some, None, Bool, true, false, refl, sym, ap, ◌∙◌, subst, slice_get}
+use Rattle.std.proofs.Common.{◌≡◌, ◌⊎◌, inl, inr, ℕ, zero, suc, ◌+◌, ◌-◌, ◌<◌, ◌≤◌, ◌==◌, List, [], ◌∷◌, ◌++◌, length, Option, Some, None, Bool, true, false, refl, sym, ap, ◌∙◌, subst, slice_get, eq-or-lt_of_le, le_of_suc-le-suc}
 use Rattle.std.proofs.Common.{arith}
-use Rattle.std.specs.Prelude.{not, ◌&&◌, ◌||◌, if◌then◌else◌, slice_set, nat_lt}
+use Rattle.std.specs.Prelude.{not, ◌&&◌, ◌||◌, if◌then◌else◌, slice_set}
 use Rattle.std.specs.Int.{bit_at}
 use Rattle.std.proofs.lemmas.Bool.Decides.{nat_tests}
 use Rattle.std.proofs.lemmas.Option.{same_Some, none-some}
-use Rattle.std.proofs.lemmas.Bool.{not-true, eqb-false}
+use Rattle.std.proofs.lemmas.Bool.{not-true, cases_eq}
 use Rattle.gg_base.proofs.Facts.{first_true, second_true, true_or_false}
 use Rattle.gg_base.specs.declared.size.Size.TheVariants.{Long}
 use Rattle.tree_core.specs.declared.program.TreeProgram.{TreeProgram}
@@ -292,16 +292,9 @@ module _ {O I S F : Type 0} (of : Meaning O I S F) (law : IsLawful of) (q : Tree
       loaded = loaded_still;
       size = set_length desk.symbols i (entry_in_slot of e w);
     } where
-      by_place : (n k : ℕ) → (n ≡ k) ⊎ (n ≡ k → ⊥)
-      by_place n k = here (n == k) refl
-        where
-          here : (b : Bool) → (n == k) ≡ b → (n ≡ k) ⊎ (n ≡ k → ⊥)
-          here true g = inl (grind (arith, nat_tests))
-          here false g = inr (λ h. eqb-false n k g h)
-
       slots : (j u : ℕ) (k : Option Kind) → u < 1024 → slice_get desk.symbols j ≡ Some (record { kind = k; attr = attr.InSlot u })
           → slice_get (slice_set desk.symbols i (entry_in_slot of e w)) j ≡ Some (record { kind = k; attr = attr.InSlot u })
-      slots j u k lt there = by (by_place i j)
+      slots j u k lt there = by (cases_eq i j)
         where
           same_entry : i ≡ j → e ≡ record { kind = k; attr = attr.InSlot u }
           same_entry g = same_Some e (record { kind = k; attr = attr.InSlot u }) (sym at ∙ ap (slice_get desk.symbols) g ∙ there)
@@ -312,7 +305,7 @@ module _ {O I S F : Type 0} (of : Meaning O I S F) (law : IsLawful of) (q : Tree
           by (inr g) = set_other desk.symbols i j (entry_in_slot of e w) g ∙ there
 
       loaded_still : (n : ℕ) → LoadedTo n desk.symbols → LoadedTo n (slice_set desk.symbols i (entry_in_slot of e w))
-      loaded_still n h j b lt there = by (by_place i j)
+      loaded_still n h j b lt there = by (cases_eq i j)
         where
           by : (i ≡ j) ⊎ (i ≡ j → ⊥) → IsLoaded b.attr
           by (inl g) =
@@ -484,22 +477,6 @@ module _ {O I S F : Type 0} (of : Meaning O I S F) (law : IsLawful of) (q : Tree
     set_is (b ∷ bs) zero y x e = same_Some y x e
     set_is (b ∷ bs) (suc i) y x e = set_is bs i y x e
 
-    at_most : (j i : ℕ) → j < suc i → (j ≡ i) ⊎ (j < i)
-    at_most j i lt = by (nat_lt j i) refl
-      where
-        less : nat_lt j i ≡ true → j < i
-        less e = grind (arith, nat_tests)
-
-        same : nat_lt j i ≡ false → j ≡ i
-        same e = (let le : i ≤ j = not_less e in omega (arith, lt, le))
-          where
-            not_less : nat_lt j i ≡ false → i ≤ j
-            not_less e = grind (arith, nat_tests)
-
-        by : (b : Bool) → nat_lt j i ≡ b → (j ≡ i) ⊎ (j < i)
-        by true e = inr (less e)
-        by false e = inl (same e)
-
     -- one symbol in a slot
     slot_reloaded : (i : ℕ) (desk new y : Desk O I) (k : Option Kind) (w r : ℕ) → slice_get desk.symbols i ≡ Some (record { kind = k; attr = attr.InSlot w })
         → Behind false desk r y → LoadedTo i desk.symbols
@@ -517,7 +494,7 @@ module _ {O I S F : Type 0} (of : Meaning O I S F) (law : IsLawful of) (q : Tree
       works = λ within old. works_now old (b.works within old);
     }) where
       loaded_now : LoadedTo (suc i) (slice_set y.symbols i (record { kind = k; attr = attr.Reg r }))
-      loaded_now j e lt there = by (at_most j i lt)
+      loaded_now j e lt there = by (eq-or-lt_of_le (le_of_suc-le-suc lt))
         where
           here : slice_get (slice_set y.symbols i (record { kind = k; attr = attr.Reg r })) i ≡ Some e → IsLoaded e.attr
           here h = subst (λ (x : Entry O). IsLoaded x.attr) (set_is y.symbols i (record { kind = k; attr = attr.Reg r }) e h) tt
@@ -555,7 +532,7 @@ module _ {O I S F : Type 0} (of : Meaning O I S F) (law : IsLawful of) (q : Tree
 
     not_reloaded : (i : ℕ) (desk new : Desk O I) → ((e : Entry O) → slice_get desk.symbols i ≡ Some e → IsLoaded e.attr) → LoadedTo i desk.symbols → desk ≡ new → Reloaded (suc i) desk new
     not_reloaded i desk new here before same = subst (Reloaded (suc i) desk) same (record {
-      loaded = λ j e lt there. by j e there (at_most j i lt);
+      loaded = λ j e lt there. by j e there (eq-or-lt_of_le (le_of_suc-le-suc lt));
       grows = omega arith;
       works = λ within old. old;
     }) where
