@@ -3,9 +3,9 @@ use Rattle.std.proofs.Common.{◌≡◌, ◌⊎◌, inl, inr, ℕ, zero, suc, �
 use Rattle.std.proofs.Common.{slice_get}
 use Rattle.std.specs.Prelude.{not, if◌then◌else◌, slice_set}
 use Rattle.std.proofs.lemmas.Bool.Decides.{nat_tests}
-use Rattle.std.proofs.lemmas.Option.{same_Some, none-some}
+use Rattle.std.proofs.lemmas.Option.{same_Some, none-some, slice_get_within}
 use Rattle.std.proofs.lemmas.Bool.{not-true, cases_eq}
-use Rattle.gg_base.proofs.Facts.{first_true, second_true, true_or_false}
+use Rattle.gg_base.proofs.Facts.{first_true, second_true, true_or_false, slice_set_other, slice_set_same}
 use Rattle.tree_core.specs.declared.program.TreeProgram.{TreeProgram}
 use Rattle.md_reader.specs.declared.types.Kind.{Kind}
 use Rattle.md_reader.specs.declared.types.Kind.TheVariants as kind
@@ -27,7 +27,7 @@ use Rattle.sel_parse_selected.specs.Spills.{spilled, with_free, due_by, due}
 use Rattle.sel_parse_selected.specs.Reductions.{loaded, reloaded_by, reloaded_at, reloaded}
 use Rattle.sel_parse_stands.proofs.Loaded.{IsLoaded}
 use Rattle.sel_parse_stands.proofs.Saving.{lowest_found}
-use Rattle.sel_parse_stands.proofs.Desks.{first_passes, last_passes, set_other}
+use Rattle.sel_parse_stands.proofs.Desks.{first_passes, last_passes, set_is}
 use Rattle.sel_parse_slots.proofs.Counts.{count, tick, count_any, below_lowest, none_lowest, total, total_set, total_append}
 use Rattle.sel_parse_slots.proofs.Fine as fine
 use Rattle.sel_parse_slots.proofs.Fine.{words, charge, weight, weight_charge, IsFine, fine_words, slot_word_one, fine_spilled}
@@ -35,11 +35,6 @@ use Rattle.sel_parse_slots.proofs.Fine.{words, charge, weight, weight_charge, Is
 not_not : (a : Bool) → tick (not (not a)) ≤ tick a
 not_not true = omega arith
 not_not false = omega arith
-
-set_is : {X : Type 0} (bs : List X) (i : ℕ) (y x : X) → slice_get (slice_set bs i y) i ≡ Some x → y ≡ x
-set_is [] i y x e = absurd (none-some x e)
-set_is (b ∷ bs) zero y x e = same_Some y x e
-set_is (b ∷ bs) (suc i) y x e = set_is bs i y x e
 
 -- ---- what comes of a step: not full, if there is room for so many
 
@@ -280,7 +275,7 @@ module _ {O I S F : Type 0} (of : Meaning O I S F) (law : IsLawful of) (q : Tree
             by (inl g) =
                 subst (λ (x : Entry O). IsLoaded x.attr) (set_is desk.symbols j (entry_in_slot of e w) b (ap (slice_get (slice_set desk.symbols j (entry_in_slot of e w))) g ∙ there))
                 (in_slot_loaded e.attr w apart (h.loaded_to j e (subst (λ n. n < i) (sym g) lt) at))
-            by (inr g) = h.loaded_to k b lt (sym (set_other desk.symbols j k (entry_in_slot of e w) g) ∙ there)
+            by (inr g) = h.loaded_to k b lt (sym (slice_set_other desk.symbols j (entry_in_slot of e w) k (λ z. g (sym z))) ∙ there)
 
         slots : (k u : ℕ) (kd : Option Kind) → slice_get desk.symbols k ≡ Some (record { kind = kd; attr = attr.InSlot u })
             → slice_get (slice_set desk.symbols j (entry_in_slot of e w)) k ≡ Some (record { kind = kd; attr = attr.InSlot u })
@@ -289,16 +284,11 @@ module _ {O I S F : Type 0} (of : Meaning O I S F) (law : IsLawful of) (q : Tree
             in_slot_still : (b : Entry O) → b ≡ record { kind = kd; attr = attr.InSlot u } → entry_in_slot of b w ≡ record { kind = kd; attr = attr.InSlot u }
             in_slot_still b g = ap (λ (x : Entry O). entry_in_slot of x w) g
 
-            same_set : (xs : List (Entry O)) (n : ℕ) (x y : Entry O) → slice_get xs n ≡ Some x → slice_get (slice_set xs n y) n ≡ Some y
-            same_set [] n x y g = absurd (none-some x g)
-            same_set (z ∷ xs) zero x y g = refl
-            same_set (z ∷ xs) (suc n) x y g = same_set xs n x y g
-
             by : (j ≡ k) ⊎ (j ≡ k → ⊥) → slice_get (slice_set desk.symbols j (entry_in_slot of e w)) k ≡ Some (record { kind = kd; attr = attr.InSlot u })
             by (inl g) =
                 let same : e ≡ record { kind = kd; attr = attr.InSlot u } = same_Some e (record { kind = kd; attr = attr.InSlot u }) (sym at ∙ ap (slice_get desk.symbols) g ∙ there) in
-                ap (slice_get (slice_set desk.symbols j (entry_in_slot of e w))) (sym g) ∙ same_set desk.symbols j e (entry_in_slot of e w) at ∙ ap Some (in_slot_still e same)
-            by (inr g) = set_other desk.symbols j k (entry_in_slot of e w) g ∙ there
+                ap (slice_get (slice_set desk.symbols j (entry_in_slot of e w))) (sym g) ∙ slice_set_same desk.symbols j (entry_in_slot of e w) (slice_get_within desk.symbols j e at) ∙ ap Some (in_slot_still e same)
+            by (inr g) = slice_set_other desk.symbols j (entry_in_slot of e w) k (λ z. g (sym z)) ∙ there
 
     abbrev pub top : ℕ
     top = first + c
@@ -414,7 +404,7 @@ module _ {O I S F : Type 0} (of : Meaning O I S F) (law : IsLawful of) (q : Tree
             by (inl g) =
                 subst (λ (x : Entry O). IsLoaded x.attr)
                 (set_is p.1.symbols i (record { kind = k; attr = attr.Reg p.0 }) e (ap (slice_get (slice_set p.1.symbols i (record { kind = k; attr = attr.Reg p.0 }))) (sym g) ∙ there)) tt
-            by (inr less) = h.after.counted.loaded_to j e less (sym (set_other p.1.symbols i j (record { kind = k; attr = attr.Reg p.0 }) (λ g. omega (arith, less, g))) ∙ there)
+            by (inr less) = h.after.counted.loaded_to j e less (sym (slice_set_other p.1.symbols i (record { kind = k; attr = attr.Reg p.0 }) j (λ g. omega (arith, less, g))) ∙ there)
 
     plain : (i : ℕ) (desk : Desk O I) → Counted i desk → ((e : Entry O) → slice_get desk.symbols i ≡ Some e → IsLoaded e.attr) → Counted (suc i) desk
     plain i desk h here = record {

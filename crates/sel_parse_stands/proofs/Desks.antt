@@ -4,9 +4,9 @@ use Rattle.std.proofs.Common.{arith}
 use Rattle.std.specs.Prelude.{not, ◌&&◌, ◌||◌, if◌then◌else◌, slice_set}
 use Rattle.std.specs.Int.{bit_at}
 use Rattle.std.proofs.lemmas.Bool.Decides.{nat_tests}
-use Rattle.std.proofs.lemmas.Option.{same_Some, none-some}
+use Rattle.std.proofs.lemmas.Option.{same_Some, none-some, slice_get_within}
 use Rattle.std.proofs.lemmas.Bool.{not-true, cases_eq}
-use Rattle.gg_base.proofs.Facts.{first_true, second_true, true_or_false}
+use Rattle.gg_base.proofs.Facts.{first_true, second_true, true_or_false, slice_set_other, slice_set_same}
 use Rattle.gg_base.specs.declared.size.Size.TheVariants.{Long}
 use Rattle.tree_core.specs.declared.program.TreeProgram.{TreeProgram}
 use Rattle.tree_meaning.specs.State.{State}
@@ -88,17 +88,10 @@ module _ {X : Type 0} (passes : X → Bool) where
 
 -- ---- one element is put
 
-pub set_other : {X : Type 0} (xs : List X) (i j : ℕ) (y : X) → (i ≡ j → ⊥) → slice_get (slice_set xs i y) j ≡ slice_get xs j
-set_other [] i j y apart = refl
-set_other (x ∷ xs) zero zero y apart = absurd (apart refl)
-set_other (x ∷ xs) zero (suc j) y apart = refl
-set_other (x ∷ xs) (suc i) zero y apart = refl
-set_other (x ∷ xs) (suc i) (suc j) y apart = set_other xs i j y (λ e. apart (ap suc e))
-
-set_same : {X : Type 0} (xs : List X) (i : ℕ) (x y : X) → slice_get xs i ≡ Some x → slice_get (slice_set xs i y) i ≡ Some y
-set_same [] i x y at = absurd (cc)
-set_same (z ∷ xs) zero x y at = refl
-set_same (z ∷ xs) (suc i) x y at = set_same xs i x y at
+pub set_is : {X : Type 0} (xs : List X) (i : ℕ) (y x : X) → slice_get (slice_set xs i y) i ≡ Some x → y ≡ x
+set_is [] i y x e = absurd (none-some x e)
+set_is (z ∷ xs) zero y x e = same_Some y x e
+set_is (z ∷ xs) (suc i) y x e = set_is xs i y x e
 
 set_length : {X : Type 0} (xs : List X) (i : ℕ) (y : X) → length (slice_set xs i y) ≡ length xs
 set_length [] i y = refl
@@ -302,7 +295,7 @@ module _ {O I S F : Type 0} (of : Meaning O I S F) (law : IsLawful of) (q : Tree
           by : (i ≡ j) ⊎ (i ≡ j → ⊥) → slice_get (slice_set desk.symbols i (entry_in_slot of e w)) j ≡ Some (record { kind = k; attr = attr.InSlot u })
           by (inl g) =
               absurd (slot_holds_none of law q d first f fs t s m0 frame lines k u lt (subst (λ (x : Entry O). holds_register of x ≡ true) (same_entry g) holding))
-          by (inr g) = set_other desk.symbols i j (entry_in_slot of e w) g ∙ there
+          by (inr g) = slice_set_other desk.symbols i (entry_in_slot of e w) j (λ z. g (sym z)) ∙ there
 
       loaded_still : (n : ℕ) → LoadedTo n desk.symbols → LoadedTo n (slice_set desk.symbols i (entry_in_slot of e w))
       loaded_still n h j b lt there = by (cases_eq i j)
@@ -310,9 +303,9 @@ module _ {O I S F : Type 0} (of : Meaning O I S F) (law : IsLawful of) (q : Tree
           by : (i ≡ j) ⊎ (i ≡ j → ⊥) → IsLoaded b.attr
           by (inl g) =
               subst (λ (x : Entry O). IsLoaded x.attr)
-              (same_Some (entry_in_slot of e w) b (sym (set_same desk.symbols i e (entry_in_slot of e w) at) ∙ ap (slice_get (slice_set desk.symbols i (entry_in_slot of e w))) g ∙ there))
+              (same_Some (entry_in_slot of e w) b (sym (slice_set_same desk.symbols i (entry_in_slot of e w) (slice_get_within desk.symbols i e at)) ∙ ap (slice_get (slice_set desk.symbols i (entry_in_slot of e w))) g ∙ there))
               (in_slot_loaded e.attr w apart (h i e (subst (λ k. k < n) (sym g) lt) at))
-          by (inr g) = h j b lt (sym (set_other desk.symbols i j (entry_in_slot of e w) g) ∙ there)
+          by (inr g) = h j b lt (sym (slice_set_other desk.symbols i (entry_in_slot of e w) j (λ z. g (sym z))) ∙ there)
 
     -- ---- a register is due
 
@@ -472,11 +465,6 @@ module _ {O I S F : Type 0} (of : Meaning O I S F) (law : IsLawful of) (q : Tree
       pub grows : desk.most ≤ new.most
       pub works : new.most ≤ f.words → Works desk → Works new
 
-    set_is : (bs : List (Entry O)) (i : ℕ) (y x : Entry O) → slice_get (slice_set bs i y) i ≡ Some x → y ≡ x
-    set_is [] i y x e = absurd (none-some x e)
-    set_is (b ∷ bs) zero y x e = same_Some y x e
-    set_is (b ∷ bs) (suc i) y x e = set_is bs i y x e
-
     -- one symbol in a slot
     slot_reloaded : (i : ℕ) (desk new y : Desk O I) (k : Option Kind) (w r : ℕ) → slice_get desk.symbols i ≡ Some (record { kind = k; attr = attr.InSlot w })
         → Behind false desk r y → LoadedTo i desk.symbols
@@ -504,7 +492,7 @@ module _ {O I S F : Type 0} (of : Meaning O I S F) (law : IsLawful of) (q : Tree
 
           by : (j ≡ i) ⊎ (j < i) → IsLoaded e.attr
           by (inl g) = here (ap (slice_get (slice_set y.symbols i (record { kind = k; attr = attr.Reg r }))) (sym g) ∙ there)
-          by (inr lt) = b.stays.loaded i before j e lt (sym (set_other y.symbols i j (record { kind = k; attr = attr.Reg r }) (apart lt)) ∙ there)
+          by (inr lt) = b.stays.loaded i before j e lt (sym (slice_set_other y.symbols i (record { kind = k; attr = attr.Reg r }) j (λ z. apart lt (sym z))) ∙ there)
 
       works_now : Works desk → Works y → Works (record {
         below = y.below;
