@@ -403,7 +403,8 @@ module _ {O I S F : Type 0} (of : Meaning O I S F) (law : IsLawful of) (q : Tree
       where
         got : (y : Desk O I) → IsFreed given y → (o : Option ℕ) → free_register of d given y ≡ o → Had (IsGot given) (with_free of q d first y o)
         got y k None at =
-            absurd (true_or_false (is_free_register of d given y k.register) k.free (lowest_none (is_free_register of d given y) 0 12 k.register at (omega arith) (let lt = k.small in omega (arith, lt))))
+            absurd (true_or_false (is_free_register of d given y k.register) k.free (lowest_none (is_free_register of d given y) 0 12 k.register at (omega arith)
+            (let lt = k.small in omega (arith, lt))))
         got y k (Some r) at =
             let g = lowest_found (is_free_register of d given y) 0 12 r at in
             let lt = g.below in

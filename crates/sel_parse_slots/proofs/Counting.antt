@@ -1,6 +1,6 @@
 -- A reduction uses no more words than the entries before it hold registers and slots.
-use Rattle.std.proofs.Common.{◌≡◌, ◌⊎◌, inl, inr, ℕ, zero, suc, ◌+◌, ◌-◌, ◌<◌, ◌≤◌, List, [], ◌∷◌, ◌++◌, Option, Some, None, Bool, true, false, refl, sym, ap, ◌∙◌, subst, arith, eq-or-lt_of_le, le_of_suc-le-suc}
-use Rattle.std.proofs.Common.{slice_get}
+use Rattle.std.proofs.Common.{◌≡◌, ◌⊎◌, inl, inr, ℕ, zero, suc, ◌+◌, ◌-◌, ◌<◌, ◌≤◌, List, [], ◌∷◌, ◌++◌, Option, Some, None, Bool, true, false, refl, sym, ap, ◌∙◌, subst, arith}
+use Rattle.std.proofs.Common.{slice_get, eq-or-lt_of_le, le_of_suc-le-suc}
 use Rattle.std.specs.Prelude.{not, if◌then◌else◌, slice_set}
 use Rattle.std.proofs.lemmas.Bool.Decides.{nat_tests}
 use Rattle.std.proofs.lemmas.Option.{same_Some, none-some, slice_get_within}
@@ -287,7 +287,8 @@ module _ {O I S F : Type 0} (of : Meaning O I S F) (law : IsLawful of) (q : Tree
             by : (j ≡ k) ⊎ (j ≡ k → ⊥) → slice_get (slice_set desk.symbols j (entry_in_slot of e w)) k ≡ Some (record { kind = kd; attr = attr.InSlot u })
             by (inl g) =
                 let same : e ≡ record { kind = kd; attr = attr.InSlot u } = same_Some e (record { kind = kd; attr = attr.InSlot u }) (sym at ∙ ap (slice_get desk.symbols) g ∙ there) in
-                ap (slice_get (slice_set desk.symbols j (entry_in_slot of e w))) (sym g) ∙ slice_set_same desk.symbols j (entry_in_slot of e w) (slice_get_within desk.symbols j e at) ∙ ap Some (in_slot_still e same)
+                ap (slice_get (slice_set desk.symbols j (entry_in_slot of e w))) (sym g)
+                ∙ slice_set_same desk.symbols j (entry_in_slot of e w) (slice_get_within desk.symbols j e at) ∙ ap Some (in_slot_still e same)
             by (inr g) = slice_set_other desk.symbols j (entry_in_slot of e w) k (λ z. g (sym z)) ∙ there
 
     abbrev pub top : ℕ

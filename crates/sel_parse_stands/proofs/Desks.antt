@@ -1,5 +1,6 @@
 -- Spills and reloads of a reduction: the code comes to a state where the entries stand for what they stood for.
-use Rattle.std.proofs.Common.{◌≡◌, ◌⊎◌, inl, inr, ℕ, zero, suc, ◌+◌, ◌-◌, ◌<◌, ◌≤◌, ◌==◌, List, [], ◌∷◌, ◌++◌, length, Option, Some, None, Bool, true, false, refl, sym, ap, ◌∙◌, subst, slice_get, eq-or-lt_of_le, le_of_suc-le-suc}
+use Rattle.std.proofs.Common.{◌≡◌, ◌⊎◌, inl, inr, ℕ, zero, suc, ◌+◌, ◌-◌, ◌<◌, ◌≤◌, ◌==◌, List, [], ◌∷◌, ◌++◌, length, Option, Some, None, Bool, true, false, refl, sym, ap, ◌∙◌, subst, slice_get}
+use Rattle.std.proofs.Common.{eq-or-lt_of_le, le_of_suc-le-suc}
 use Rattle.std.proofs.Common.{arith}
 use Rattle.std.specs.Prelude.{not, ◌&&◌, ◌||◌, if◌then◌else◌, slice_set}
 use Rattle.std.specs.Int.{bit_at}
@@ -303,7 +304,8 @@ module _ {O I S F : Type 0} (of : Meaning O I S F) (law : IsLawful of) (q : Tree
           by : (i ≡ j) ⊎ (i ≡ j → ⊥) → IsLoaded b.attr
           by (inl g) =
               subst (λ (x : Entry O). IsLoaded x.attr)
-              (same_Some (entry_in_slot of e w) b (sym (slice_set_same desk.symbols i (entry_in_slot of e w) (slice_get_within desk.symbols i e at)) ∙ ap (slice_get (slice_set desk.symbols i (entry_in_slot of e w))) g ∙ there))
+              (same_Some (entry_in_slot of e w) b (sym (slice_set_same desk.symbols i (entry_in_slot of e w) (slice_get_within desk.symbols i e at))
+              ∙ ap (slice_get (slice_set desk.symbols i (entry_in_slot of e w))) g ∙ there))
               (in_slot_loaded e.attr w apart (h i e (subst (λ k. k < n) (sym g) lt) at))
           by (inr g) = h j b lt (sym (slice_set_other desk.symbols i (entry_in_slot of e w) j (λ z. g (sym z))) ∙ there)
 

@@ -169,7 +169,8 @@ module _ (m : State) (w : ℕ) (f : IsFrameWord m w) where
           leb-true 4 n t.0,
           leb-true n 4096 t.1,
           eqb-true (n % 4) 0 t.2,
-          eqb-false (n / 4 - 1) w (ap (λ b. is_word (cond b (Some (n / 4 - 1)) None) w) (sym (and_from (nat_le 4 n) (nat_le n 4096 && (n % 4 == 0)) t.0 (and_from (nat_le n 4096) (n % 4 == 0) t.1 t.2))) ∙ other),
+          eqb-false (n / 4 - 1) w (ap (λ b. is_word (cond b (Some (n / 4 - 1)) None) w) (sym (and_from (nat_le 4 n) (nat_le n 4096 && (n % 4 == 0)) t.0
+              (and_from (nat_le n 4096) (n % 4 == 0) t.1 t.2))) ∙ other),
         )
 
     behind_fp : (offset n : ℕ) → n ≡ neg32 offset → 4 ≤ n → n ≤ 4096 → 2139095040 ≤ reg m Fp → reg m Fp < 2 ^ 32 → add32 offset (reg m Fp) ≡ reg m Fp - n
