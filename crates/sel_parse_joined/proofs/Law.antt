@@ -1,7 +1,9 @@
 -- A parse by the one selection is a parse by the other.
 use Rattle.std.proofs.Common.{◌≡◌, ℕ, zero, suc, ◌+◌, ◌==◌, List, [], ◌∷◌, ◌++◌, length, map, take, drop, slice_get, Option, Some, None, Bool, true, false, refl, sym, ap, ◌∙◌, subst}
 use Rattle.std.specs.Prelude.{reverse, option_map, ◌-◌, ◌&&◌, if◌then◌else◌}
-use Rattle.std.proofs.lemmas.Option.{none-some, same_Some}
+use Rattle.std.proofs.lemmas.Option.{none-some, same_Some, slice_get-map}
+use Rattle.std.proofs.lemmas.List.{take-map}
+use Rattle.gg_base.proofs.Facts.{all_get}
 use Rattle.tree_core.specs.declared.token.Tok.{Tok}
 use Rattle.tree_core.specs.declared.tree.Leaf.{Leaf}
 use Rattle.tree_core.specs.declared.program.TreeProgram.{TreeProgram}
@@ -33,7 +35,7 @@ use Rattle.sel_parse_slots.specs.Claims.{IsTaken}
 use Rattle.sel_parse_slots.proofs.Law as walk
 use Rattle.sel_parse_slots.proofs.Prefixes.{gamma}
 use Rattle.sel_parse_joined.specs.Claims.{IsSelectable, SameCode, SameFull}
-use Rattle.sel_parse_joined.proofs.Turning.{turned_cons, all_at, map_turned, map_take, map_get}
+use Rattle.sel_parse_joined.proofs.Turning.{turned_cons, map_turned}
 use Rattle.sel_parse_joined.proofs.Holding.{entry, Agrees, AllAgree, all_agree, alike_same}
 use Rattle.sel_parse_joined.proofs.Spilling.{outcome}
 use Rattle.sel_parse_joined.proofs.Reducing.{stack, reduced_same}
@@ -74,7 +76,7 @@ module _ {O I S F : Type 0} (of : Meaning O I S F) (law : IsLawful of) (q : Tree
     where
       by : (b : Bool) → (if b then None else slice_get (map entry es) (i - 1)) ≡ option_map entry (if b then None else slice_get es (i - 1))
       by true = refl
-      by false = map_get entry es (i - 1)
+      by false = slice_get-map entry es (i - 1)
 
   abbrev AgreesIn : Option (Entry O) → Type 0
   AgreesIn None = Unit {0}
@@ -85,7 +87,7 @@ module _ {O I S F : Type 0} (of : Meaning O I S F) (law : IsLawful of) (q : Tree
     where
       get : (o : Option (Entry O)) → slice_get es (i - 1) ≡ o → AgreesIn o
       get None e = tt
-      get (Some b) e = all_at (λ (b : Entry O). Agrees of law q d first b.attr) es (i - 1) b h e
+      get (Some b) e = all_get (λ (b : Entry O). Agrees of law q d first b.attr) es (i - 1) b h e
 
       by : (b : Bool) → AgreesIn (if b then None else slice_get es (i - 1))
       by true = tt
@@ -131,7 +133,7 @@ module _ {O I S F : Type 0} (of : Meaning O I S F) (law : IsLawful of) (q : Tree
   answered_same : (r : Rule) (x : selected.Kept O I) → AreHeld (selected.entries_of x) → answered new r (kept x) ≡ answered old r x
   answered_same r x h =
       ap (λ es. all_hold new (reverse (take (length r.right) es)) r.restrictions) (entries_same x)
-      ∙ ap (λ es. all_hold new (reverse es) r.restrictions) (map_take entry (length r.right) (selected.entries_of x))
+      ∙ ap (λ es. all_hold new (reverse es) r.restrictions) (take-map entry (length r.right) (selected.entries_of x))
       ∙ ap (λ es. all_hold new es r.restrictions) (sym (map_turned entry (take (length r.right) (selected.entries_of x))))
       ∙ all_same (reverse (take (length r.right) (selected.entries_of x))) r.restrictions
       (all_turned (take (length r.right) (selected.entries_of x)) (all_taken (length r.right) (selected.entries_of x) h))

@@ -1,7 +1,10 @@
 -- A reduction is the same by both definitions.
 use Rattle.std.proofs.Common.{◌≡◌, ℕ, zero, suc, ◌+◌, ◌<◌, List, [], ◌∷◌, ◌++◌, length, map, take, drop, slice_get, Option, Some, None, Bool, true, false, refl, sym, ap, ◌∙◌, subst, arith}
 use Rattle.std.specs.Prelude.{reverse, slice_set, option_map}
-use Rattle.std.proofs.lemmas.List.{reverse-reverse}
+use Rattle.std.proofs.lemmas.List.{reverse-reverse, take-map, drop-map}
+use Rattle.std.proofs.lemmas.Option.{slice_get-map}
+use Rattle.std.proofs.ByRecursion.{All-push}
+use Rattle.gg_base.proofs.Facts.{all_get}
 use Rattle.tree_core.specs.declared.program.TreeProgram.{TreeProgram}
 use Rattle.md_reader_pieces.specs.declared.piece.Line.{Line}
 use Rattle.md_reader.specs.declared.types.Kind.{Kind}
@@ -30,7 +33,7 @@ use Rattle.sel_parse_desk.specs.Desk as computed_desks
 use Rattle.sel_parse_desk.specs.Spills as computed_spills
 use Rattle.sel_parse_desk.specs.Reductions as computed_reductions
 use Rattle.sel_parse_slots.proofs.Counting.{Good, Counted, After, IsDue, due_good, spilled_good, one_good}
-use Rattle.sel_parse_joined.proofs.Turning.{all_at, all_more, map_turned, map_take, map_drop, map_get, map_set}
+use Rattle.sel_parse_joined.proofs.Turning.{map_turned, map_set}
 use Rattle.sel_parse_joined.proofs.Holding.{entry, Agrees, AllAgree, all_agree}
 use Rattle.sel_parse_joined.proofs.Spilling.{outcome, If, bind_same, if_bind, desk, desk_is, let_go, let_go_more, Fair, spilled_former, taken, due_same, due_former}
 
@@ -52,8 +55,8 @@ module _ {O I S F : Type 0} (of : Meaning O I S F) (law : IsLawful of) (q : Tree
   pub begins_same : (n : ℕ) (x : selected_desks.Stack O I) → computed_desks.set_apart n (stack x) ≡ desk of law q d first (selected_desks.desk_of n x)
   begins_same n x =
       desk_is of law q d first (reverse (drop n (map entry x.entries))) (reverse (map entry (drop n x.entries))) (reverse (take n (map entry x.entries)))
-      (map entry (reverse (take n x.entries))) [] [] x.code x.code x.most x.most (ap reverse (map_drop entry n x.entries))
-      (ap reverse (map_take entry n x.entries) ∙ sym (map_turned entry (take n x.entries))) refl refl refl
+      (map entry (reverse (take n x.entries))) [] [] x.code x.code x.most x.most (ap reverse (drop-map entry n x.entries))
+      (ap reverse (take-map entry n x.entries) ∙ sym (map_turned entry (take n x.entries))) refl refl refl
 
   -- ---- what a rule gives
 
@@ -142,7 +145,7 @@ module _ {O I S F : Type 0} (of : Meaning O I S F) (law : IsLawful of) (q : Tree
         (map entry (slice_set p.1.symbols i (record { kind = k; attr = attr.Reg p.0 })))
         (let_go of law q d first p.1.former ++ w ∷ []) (let_go of law q d first (p.1.former ++ record { kind = k; attr = attr.InSlot w } ∷ []))
         (p.1.code ++ reloading of q (reload_line d) w p.0) (p.1.code ++ reloading of q (reload_line d) w p.0) p.1.most p.1.most refl
-        (ap (λ o. slice_set (map entry p.1.symbols) i (record { kind = computed_entries.kind_in o; attr = attr.Reg p.0 })) (map_get entry p.1.symbols i ∙ ap (option_map entry) there)
+        (ap (λ o. slice_set (map entry p.1.symbols) i (record { kind = computed_entries.kind_in o; attr = attr.Reg p.0 })) (slice_get-map entry p.1.symbols i ∙ ap (option_map entry) there)
         ∙ map_set entry p.1.symbols i (record { kind = k; attr = attr.Reg p.0 }))
         (sym (let_go_more of law q d first p.1.former (record { kind = k; attr = attr.InSlot w })))
         refl refl)
@@ -150,7 +153,7 @@ module _ {O I S F : Type 0} (of : Meaning O I S F) (law : IsLawful of) (q : Tree
     one_same : (i : ℕ) (x : selected_desks.Desk O I) → Ready i x
         → computed_reductions.reloaded_at of q d first i (desk of law q d first x) (computed_entries.slot_in (slice_get (map entry x.symbols) i))
         ≡ outcome (desk of law q d first) (selected_reductions.reloaded_at of q d first i x (slice_get x.symbols i))
-    one_same i x h = ap (λ o. computed_reductions.reloaded_at of q d first i (desk of law q d first x) (computed_entries.slot_in o)) (map_get entry x.symbols i) ∙ at (slice_get x.symbols i) refl
+    one_same i x h = ap (λ o. computed_reductions.reloaded_at of q d first i (desk of law q d first x) (computed_entries.slot_in o)) (slice_get-map entry x.symbols i) ∙ at (slice_get x.symbols i) refl
       where
         by : (k : Option Kind) (b : Attr O) → slice_get x.symbols i ≡ Some (record { kind = k; attr = b })
             → computed_reductions.reloaded_at of q d first i (desk of law q d first x) (computed_entries.slot_of b)
@@ -191,8 +194,8 @@ module _ {O I S F : Type 0} (of : Meaning O I S F) (law : IsLawful of) (q : Tree
             if_bind (λ (p : ℕ × selected_desks.Desk O I). AllAgree of law q d first p.1.former) (λ (y : selected_desks.Desk O I). AllAgree of law q d first y.former)
             (selected_spills.due of q d first false x)
             (selected_reductions.loaded of q d first i (record { kind = k; attr = attr.InSlot w }) w) (due_former of law q d first false x (fair i x h))
-            (λ p m. all_more (λ (b : selected_entries.Entry O). Agrees of law q d first b.attr) p.1.former (record { kind = k; attr = attr.InSlot w }) m
-            (all_at (λ (b : selected_entries.Entry O). Agrees of law q d first b.attr) x.symbols i (record { kind = k; attr = attr.InSlot w }) (fair i x h).symbols e))
+            (λ p m. All-push (λ (b : selected_entries.Entry O). Agrees of law q d first b.attr) p.1.former (record { kind = k; attr = attr.InSlot w }) m
+            (all_get (λ (b : selected_entries.Entry O). Agrees of law q d first b.attr) x.symbols i (record { kind = k; attr = attr.InSlot w }) (fair i x h).symbols e))
         by k (attr.Reg r) e = h.former
         by k (attr.Value o) e = h.former
         by k (attr.Place o) e = h.former

@@ -5,7 +5,9 @@ use Rattle.std.specs.List.{AllByRecursion as All, list_any}
 use Rattle.std.specs.Int.{bit_at}
 use Rattle.std.proofs.lemmas.List.{length-map}
 use Rattle.std.proofs.lemmas.List.Folds.{list_any-append}
-use Rattle.std.proofs.lemmas.Option.{none-some, same_Some}
+use Rattle.std.proofs.lemmas.Option.{none-some, same_Some, slice_get-map}
+use Rattle.std.proofs.ByRecursion.{All-push}
+use Rattle.gg_base.proofs.Facts.{all_get}
 use Rattle.tree_core.specs.declared.program.TreeProgram.{TreeProgram}
 use Rattle.md_reader.specs.State.{Content}
 use Rattle.sel_regs.specs.Slots.{larger_of}
@@ -22,7 +24,7 @@ use Rattle.sel_parse_selected.specs.Spills as selected_spills
 use Rattle.sel_parse_desk.specs.Entries as computed_entries
 use Rattle.sel_parse_desk.specs.Desk as computed_desks
 use Rattle.sel_parse_desk.specs.Spills as computed_spills
-use Rattle.sel_parse_joined.proofs.Turning.{turned_get, turned_set, any_turned, all_at, all_more, map_turned, map_get, map_set, map_any, map_first}
+use Rattle.sel_parse_joined.proofs.Turning.{turned_get, turned_set, any_turned, map_turned, map_set, map_any, map_first}
 use Rattle.sel_parse_joined.proofs.Turning.{attributes_any, counted_back, last_turned, last_in, lowest_same}
 use Rattle.sel_parse_joined.proofs.Holding.{entry, Agrees, AllAgree}
 use mathlib.Core.Bool.{or-false}
@@ -265,8 +267,8 @@ module _ {O I S F : Type 0} (of : Meaning O I S F) (law : IsLawful of) (q : Tree
       → computed_spills.entry_at of (desk x) (place (length x.below) p) ≡ option_map entry (selected_spills.entry_at of x p)
   entry_same x (selected_spills.Below j) h =
       let n = length-map x.below entry in
-      ap (λ k. slice_get (reverse (map entry x.below)) (k - suc j)) (sym n) ∙ turned_get (map entry x.below) j (omega (arith, n, h)) ∙ map_get entry x.below j
-  entry_same x (selected_spills.Among i) h = map_get entry x.symbols i
+      ap (λ k. slice_get (reverse (map entry x.below)) (k - suc j)) (sym n) ∙ turned_get (map entry x.below) j (omega (arith, n, h)) ∙ slice_get-map entry x.below j
+  entry_same x (selected_spills.Among i) h = slice_get-map entry x.symbols i
 
   in_slot_same : (a : Attr O) (w : ℕ) → computed_spills.in_slot of a w ≡ selected_spills.in_slot of a w
   in_slot_same (attr.Reg r) w = refl
@@ -333,14 +335,14 @@ module _ {O I S F : Type 0} (of : Meaning O I S F) (law : IsLawful of) (q : Tree
   spilled_former x (Some p) h = by (selected_spills.entry_at of x p) (selected_desks.free_slot of first x) (at p)
     where
       at : (p : selected_spills.Where) (e : selected_entries.Entry O) → selected_spills.entry_at of x p ≡ Some e → Agrees of law q d first e.attr
-      at (selected_spills.Below j) e f = all_at (λ (b : selected_entries.Entry O). Agrees of law q d first b.attr) x.below j e h.below f
-      at (selected_spills.Among i) e f = all_at (λ (b : selected_entries.Entry O). Agrees of law q d first b.attr) x.symbols i e h.symbols f
+      at (selected_spills.Below j) e f = all_get (λ (b : selected_entries.Entry O). Agrees of law q d first b.attr) x.below j e h.below f
+      at (selected_spills.Among i) e f = all_get (λ (b : selected_entries.Entry O). Agrees of law q d first b.attr) x.symbols i e h.symbols f
 
       by : (o : Option (selected_entries.Entry O)) (s : Option ℕ) → ((e : selected_entries.Entry O) → o ≡ Some e → Agrees of law q d first e.attr)
           → If (λ (y : selected_desks.Desk O I). AreHeld y.former) (selected_spills.saved_in of q d first x p o s)
       by None s k = tt
       by (Some e) None k = tt
-      by (Some e) (Some w) k = all_more (λ (b : selected_entries.Entry O). Agrees of law q d first b.attr) x.former e h.former (k e refl)
+      by (Some e) (Some w) k = All-push (λ (b : selected_entries.Entry O). Agrees of law q d first b.attr) x.former e h.former (k e refl)
 
   -- ---- a register is due, with the desk
 

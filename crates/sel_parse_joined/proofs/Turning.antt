@@ -1,11 +1,12 @@
 -- Lists that are turned round or mapped, and searches in them.
-use Rattle.std.proofs.Common.{◌≡◌, ℕ, zero, suc, ◌+◌, ◌-◌, ◌<◌, ◌≤◌, List, [], ◌∷◌, ◌++◌, length, map, take, drop, slice_get, Option, Some, None, Bool, true, false, refl, sym, ap, ◌∙◌, subst, arith}
-use Rattle.std.specs.Prelude.{reverse, slice_set, option_map, ◌||◌, if◌then◌else◌}
+use Rattle.std.proofs.Common.{◌≡◌, ℕ, zero, suc, ◌+◌, ◌-◌, ◌<◌, ◌≤◌, List, [], ◌∷◌, ◌++◌, length, map, slice_get, Option, Some, None, Bool, true, false, refl, sym, ap, ◌∙◌, arith}
+use Rattle.std.specs.Prelude.{reverse, slice_set, ◌||◌, if◌then◌else◌}
 use Rattle.std.specs.List.{AllByRecursion as All, list_any}
-use Rattle.std.proofs.lemmas.List.{length-reverse}
+use Rattle.std.proofs.lemmas.List.{length-reverse, map-append}
 use Rattle.std.proofs.lemmas.Grind.{reverse_onto}
 use Rattle.std.proofs.lemmas.List.Folds.{list_any-append}
 use Rattle.std.proofs.lemmas.Option.{none-some, same_Some}
+use Rattle.gg_base.proofs.Facts.{slice_seam}
 use Rattle.sel_target.specs.Symbols.{lowest, behind_one, first_that}
 use Rattle.sel_parse_selected.specs.Spills as selected_spills
 
@@ -17,10 +18,6 @@ module _ {X : Type 0} where
   get_left [] ys i lt = absurd (omega (arith, lt))
   get_left (x ∷ xs) ys zero lt = refl
   get_left (x ∷ xs) ys (suc i) lt = get_left xs ys i (omega (arith, lt))
-
-  get_seam : (xs : List X) (x : X) (ys : List X) → slice_get (xs ++ x ∷ ys) (length xs) ≡ Some x
-  get_seam [] x ys = refl
-  get_seam (y ∷ xs) x ys = get_seam xs x ys
 
   set_left : (xs ys : List X) (i : ℕ) (y : X) → i < length xs → slice_set (xs ++ ys) i y ≡ slice_set xs i y ++ ys
   set_left [] ys i y lt = absurd (omega (arith, lt))
@@ -36,7 +33,7 @@ module _ {X : Type 0} where
   turned_get (x ∷ xs) zero lt =
       let n = length-reverse xs in
       let i : length (x ∷ xs) - suc zero ≡ length (reverse xs) = omega (arith, n) in
-      ap (λ l. slice_get l (length (x ∷ xs) - suc zero)) (turned_cons x xs) ∙ ap (slice_get (reverse xs ++ x ∷ [])) i ∙ get_seam (reverse xs) x []
+      ap (λ l. slice_get l (length (x ∷ xs) - suc zero)) (turned_cons x xs) ∙ ap (slice_get (reverse xs ++ x ∷ [])) i ∙ slice_seam (reverse xs) x []
   turned_get (x ∷ xs) (suc j) lt =
       let n = length-reverse xs in
       let i : length (x ∷ xs) - suc (suc j) ≡ length xs - suc j = omega arith in
@@ -71,39 +68,11 @@ module _ {X : Type 0} where
   any_turned p (x ∷ xs) =
       ap (list_any p) (turned_cons x xs) ∙ list_any-append p (reverse xs) (x ∷ []) ∙ ap (λ b. b || (p x || false)) (any_turned p xs) ∙ last_or p x (list_any p xs)
 
-  pub all_at : (P : X → Type 0) (xs : List X) (i : ℕ) (x : X) → All P xs → slice_get xs i ≡ Some x → P x
-  all_at P [] i x h e = absurd (none-some x e)
-  all_at P (y ∷ xs) zero x h e = subst P (same_Some y x e) h.0
-  all_at P (y ∷ xs) (suc i) x h e = all_at P xs i x h.1 e
-
-  pub all_more : (P : X → Type 0) (xs : List X) (x : X) → All P xs → P x → All P (xs ++ x ∷ [])
-  all_more P [] x h k = (k, tt)
-  all_more P (y ∷ xs) x h k = (h.0, all_more P xs x h.1 k)
-
 module _ {X Y : Type 0} (f : X → Y) where
-  pub map_append : (xs ys : List X) → map f (xs ++ ys) ≡ map f xs ++ map f ys
-  map_append [] ys = refl
-  map_append (x ∷ xs) ys = ap (λ l. f x ∷ l) (map_append xs ys)
-
   pub map_turned : (xs : List X) → map f (reverse xs) ≡ reverse (map f xs)
   map_turned [] = refl
   map_turned (x ∷ xs) =
-      ap (map f) (turned_cons x xs) ∙ map_append (reverse xs) (x ∷ []) ∙ ap (λ l. l ++ f x ∷ []) (map_turned xs) ∙ sym (turned_cons (f x) (map f xs))
-
-  pub map_take : (n : ℕ) (xs : List X) → take n (map f xs) ≡ map f (take n xs)
-  map_take zero xs = refl
-  map_take (suc n) [] = refl
-  map_take (suc n) (x ∷ xs) = ap (λ l. f x ∷ l) (map_take n xs)
-
-  pub map_drop : (n : ℕ) (xs : List X) → drop n (map f xs) ≡ map f (drop n xs)
-  map_drop zero xs = refl
-  map_drop (suc n) [] = refl
-  map_drop (suc n) (x ∷ xs) = map_drop n xs
-
-  pub map_get : (xs : List X) (i : ℕ) → slice_get (map f xs) i ≡ option_map f (slice_get xs i)
-  map_get [] i = refl
-  map_get (x ∷ xs) zero = refl
-  map_get (x ∷ xs) (suc i) = map_get xs i
+      ap (map f) (turned_cons x xs) ∙ map-append f (reverse xs) (x ∷ []) ∙ ap (λ l. l ++ f x ∷ []) (map_turned xs) ∙ sym (turned_cons (f x) (map f xs))
 
   pub map_set : (xs : List X) (i : ℕ) (x : X) → slice_set (map f xs) i (f x) ≡ map f (slice_set xs i x)
   map_set [] i x = refl
