@@ -11,8 +11,9 @@ use Rattle.lr_tables.specs.declared.types.Choice.{Choice}
 use Rattle.lr_tables.specs.declared.types.Choice.TheVariants as choice
 use Rattle.lr_tables.specs.View.{TableView}
 use Rattle.lr_tables.specs.Leads.{actions_at}
-use Rattle.lr_check_sets.specs.Automaton.{Automaton, Production, Candidate, shift, reduce, size_of, Free}
+use Rattle.lr_check_sets.specs.Automaton.{Automaton, Production, Candidate, reduce, size_of, Free}
 use Rattle.lr_check_sets.specs.Table.{production, candidates_of, automaton_of}
+use Rattle.lr_check_sets.proofs.Tables.{reduce_same, shift_reduce}
 use Rattle.lr_check_found.specs.declared.choices.Leads.{Leads}
 use Rattle.lr_check_found.specs.declared.choices.Leads.TheVariants.{Out, Whole, Inside}
 use Rattle.lr_check_found.specs.declared.places.Place.{Place}
@@ -63,12 +64,6 @@ is_whole long left size k e = by (nat_lt size long) (long == size) refl refl
       same_left = whole_same left k (sym (if_else (nat_lt size long) (Out (long - size)) (if long == size then Whole left else Inside) f ∙ if_out (long == size) (Whole left) Inside g) ∙ e);
     }
     by false false f g = inside_whole k (sym (if_else (nat_lt size long) (Out (long - size)) (if long == size then Whole left else Inside) f ∙ if_else (long == size) (Whole left) Inside g) ∙ e)
-
-pub reduce_same : (r s : Production) → reduce r ≡ reduce s → r ≡ s
-reduce_same r s e = cc
-
-pub shift_reduce : (r : Production) → reduce r ≡ shift → ⊥
-shift_reduce r e = cc
 
 -- the choice of a free reduction of the whole list leads to its class
 pub whole_choice : (rules : List Rule) (d : Choice) (r : Production) (size : ℕ) → CandidateOf rules d (reduce r) → size_of r ≡ size → (seen rules size d).leads ≡ Whole r.left

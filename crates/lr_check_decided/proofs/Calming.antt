@@ -21,12 +21,13 @@ use Rattle.lr_check_sets.specs.Bound.{HasClasses}
 use Rattle.lr_check_sets.specs.Faults.{Calms, calms}
 use Rattle.lr_check_sets.specs.Table.{production, productions, candidates_of, automaton_of}
 use Rattle.lr_check_sets.proofs.Rows.{at_contains}
+use Rattle.lr_check_sets.proofs.Tables.{reduce_same, shift_reduce}
 use Rattle.lr_check_found.specs.declared.choices.Leads.TheVariants.{Out, Whole, Inside}
 use Rattle.lr_check_found.specs.Choices.{seen, CandidateOf, HasFree}
 use Rattle.lr_check_found.proofs.Leading.{candidates_here, candidates_there}
 use Rattle.lr_check_found.proofs.Deriving.{whole_left}
 use Rattle.lr_check_flaws.specs.Flaws.{StepsTo}
-use Rattle.lr_check_complete.proofs.Reducing.{whole_choice, WholeChoice, choice_whole, whole_same, reduce_same, shift_reduce}
+use Rattle.lr_check_complete.proofs.Reducing.{whole_choice, WholeChoice, choice_whole, whole_same}
 use Rattle.lr_check_decided.specs.Calm.{marked, AreCalm, IsNext, Stuck, LeadsToMarked, AreStuck, MakesUnmarked, MakesMarked, OneUnmarked, AllMarked}
 
 -- what a test of an option says

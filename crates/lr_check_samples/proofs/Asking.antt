@@ -11,6 +11,7 @@ use Rattle.lr_check_sets.proofs.Asks.{pick_free, pick_yes, pick_no}
 use Rattle.lr_check_sets.proofs.Shapes.{tree_some}
 use Rattle.lr_check_sets.proofs.Reached.{hold, length-hold}
 use Rattle.lr_check_sets.proofs.Fixed.{pushes, GoesDown, DeepIn, push-root, push-below, one_more, reaches}
+use Rattle.lr_check_sets.proofs.Tables.{reduce_same, shift_reduce}
 use Rattle.lr_check_samples.specs.Answering.{is_wanted, answers_to, depths_to}
 
 -- the right side of a candidate stands on each stack of the state, and is a tree
@@ -126,18 +127,12 @@ module _ (A : Automaton) (q : ℕ) (s : List Sym) (tree : IsTree s) (c : ℕ) wh
   pub taking : (cs : List Candidate) (r : Production) → ((x : Production) → Free cs (reduce x) → StandsOn A q s x) → GoesDown cs → Free cs (reduce r) → size_of r ≡ length s → r.left ≡ c →
       Takes cs
   taking [] r on down f size left = absurd f
-  taking (shift ∷ cs) r on down f size left = absurd (unlike f)
-    where
-      unlike : reduce r ≡ shift → ⊥
-      unlike e = cc
+  taking (shift ∷ cs) r on down f size left = absurd (shift_reduce r f)
   taking (reduce x ∷ cs) r on down f size left =
       other (λ h. taking cs r (λ y g. on y (inr (h.0, g))) down.1 h.1 size left) (is_wanted (length s) c x) refl
     where
-      same_rule : reduce r ≡ reduce x → r ≡ x
-      same_rule e = cc
-
       is_it : reduce r ≡ reduce x → is_wanted (length s) c x ≡ true
-      is_it e = let same : r ≡ x = same_rule e in
+      is_it e = let same : r ≡ x = reduce_same r x e in
           and_from (size_of x == length s) (x.left == c) (eq-eqb (size_of x) (length s) (ap size_of (sym same) ∙ size)) (eq-eqb x.left c (ap (λ (y : Production). y.left) (sym same) ∙ left))
 
       other : ((x.asks ≡ true) × Free cs (reduce r) → Takes cs) → (b : Bool) → is_wanted (length s) c x ≡ b → Takes (reduce x ∷ cs)

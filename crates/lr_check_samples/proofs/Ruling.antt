@@ -256,11 +256,8 @@ module _ (t : TableView) (v : IsValid t.content) (b : IsNumbered t) (m : MeetsLa
       pick (candidates_at t p k) a ≡ record { taken = None; stack = c } → Reduction t.content.rules (stmt_of t.content.classes) ws (parts a) None (parts c)
   blocks_so a c p k ws next at pk = by (here_so a k p at)
     where
-      unlike : None ≡ Some shift → ⊥
-      unlike h = cc
-
       by : Here a k p → Reduction t.content.rules (stmt_of t.content.classes) ws (parts a) None (parts c)
-      by (shift_here sb e) = absurd (unlike (shift_only a c None (ap (λ cs. pick cs a) (sym e) ∙ pk)).0)
+      by (shift_here sb e) = absurd (none-some shift (shift_only a c None (ap (λ cs. pick cs a) (sym e) ∙ pk)).0)
       by (reduce_here ns refused ar e) = with_picks (reductions_at a k ns ar)
         where
           taken : pick (map reduce (rules_of t.content.rules ns)) a ≡ record { taken = None; stack = c }

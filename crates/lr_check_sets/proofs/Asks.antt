@@ -3,6 +3,7 @@ use Rattle.std.proofs.Common.{◌≡◌, ◌≤◌, ◌<◌, List, [], ◌∷◌
 use Rattle.md_reader.specs.declared.types.Sym.{Sym}
 use Rattle.lr_check_sets.specs.Automaton.{Production, Candidate, shift, reduce, size_of, Free, CanBlock}
 use Rattle.lr_check_sets.specs.Answers.{Entry, symbols, first_answer, owner, asked, Picked, pick_by, pick}
+use Rattle.lr_check_sets.proofs.Tables.{reduce_same, shift_reduce}
 
 -- an answer more, in front of the owner's
 abbrev pub push : List Sym → Bool → List Entry → List Entry
@@ -81,19 +82,13 @@ source_here r cs b true e lt le = record {
 -- a reduction that is a free choice
 pub reduce_source : (cs : List Candidate) (r : Production) (b : List Entry) → Free cs (reduce r) → 0 < size_of r → size_of r ≤ length b → Source cs (Some (reduce r)) b
 reduce_source [] r b f lt le = absurd f
-reduce_source (shift ∷ cs) r b f lt le = absurd (unlike f)
-  where
-    unlike : reduce r ≡ shift → ⊥
-    unlike e = cc
+reduce_source (shift ∷ cs) r b f lt le = absurd (shift_reduce r f)
 reduce_source (reduce x ∷ cs) r b f lt le =
     ⊎_elim
-    (λ e. subst (λ y. Source (reduce x ∷ cs) (Some y) b) (sym e) (source_here x cs b x.asks refl (subst (λ y. 0 < size_of y) (same_rule e) lt)
-    (subst (λ y. size_of y ≤ length b) (same_rule e) le)))
+    (λ e. subst (λ y. Source (reduce x ∷ cs) (Some y) b) (sym e) (source_here x cs b x.asks refl (subst (λ y. 0 < size_of y) (reduce_same r x e) lt)
+    (subst (λ y. size_of y ≤ length b) (reduce_same r x e) le)))
     (λ h. source_no x cs (Some (reduce r)) b h.0 (reduce_source cs r b h.1 lt le))
     f
-  where
-    same_rule : reduce r ≡ reduce x → r ≡ x
-    same_rule e = cc
 
 -- no candidate is taken
 pub block_source : (cs : List Candidate) (b : List Entry) → CanBlock cs → Source cs None b

@@ -12,6 +12,7 @@ use Rattle.md_reader.specs.declared.types.Sym.TheVariants as grammar_symbol
 use Rattle.lr_check_sets.specs.Automaton.{Automaton, Production, Candidate, shift, reduce, walk, size_of, Free, reduced, Ends, accepts, goes, stack_after, rest_after}
 use Rattle.lr_check_sets.specs.Shapes.{wanted_behind, wanted, IsTree}
 use Rattle.lr_check_sets.specs.Bound.{Within, accepted, steps}
+use Rattle.lr_check_sets.proofs.Tables.{shift_reduce}
 
 -- reductions from one stack to another, with the same tokens to come
 pub data Path (A : Automaton) (t : Tok) : List Sym → List Sym → Type 0 where
@@ -100,10 +101,7 @@ module _ (A : Automaton) (k : ℕ) (final : (p : ℕ) → walk A 0 (grammar_symb
   pub no_circle : {a : List Sym} {v : List Tok} → Ends A a v → (t : Tok) (w : List Tok) → v ≡ t ∷ w → Circle A t a → ⊥
   no_circle accepts t w e (circle y p r at f g path) =
       let s : tok.End ≡ t = cc in
-      unlike r (subst (λ cs. Free cs (reduce r)) (final p at) (subst (λ z. Free (A.candidates p z) (reduce r)) (sym s) f))
-    where
-      unlike : (r : Production) → reduce r ≡ shift → ⊥
-      unlike r e = cc
+      shift_reduce r (subst (λ cs. Free cs (reduce r)) (final p at) (subst (λ z. Free (A.candidates p z) (reduce r)) (sym s) f))
   no_circle (goes {a = a} {t = t'} {w = w'} {p = p'} at' nb h) t w e (circle y p r at f g path) =
       let s : t' ≡ t = cc in
       let u : w' ≡ w = cc in

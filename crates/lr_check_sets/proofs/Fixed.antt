@@ -3,6 +3,7 @@ use Rattle.std.proofs.Common.{◌≡◌, ℕ, zero, suc, ◌+◌, ◌-◌, ◌�
 use Rattle.std.proofs.Common.{⊎_elim, subst, arith, append_assoc, length-append, take_at, one-add}
 use Rattle.std.proofs.lemmas.Bool.{cases_lt}
 use Rattle.std.proofs.lemmas.Option.{none-some, same_Some}
+use Rattle.std.proofs.lemmas.List.{append_cancel_left}
 use Rattle.md_reader.specs.declared.types.Sym.{Sym}
 use Rattle.lr_check_sets.specs.Automaton.{Automaton, Production, Candidate, shift, reduce, walk, size_of, Free}
 use Rattle.lr_check_sets.specs.Answers.{Entry, symbols, pick}
@@ -10,6 +11,7 @@ use Rattle.lr_check_sets.proofs.Asks.{push, pick_free, pick_yes, pick_no}
 use Rattle.lr_check_sets.specs.Shapes.{wanted, IsTree}
 use Rattle.lr_check_sets.proofs.Shapes.{wanted-append, wanted-none, wanted-more, wanted-zero, tree_some, cut}
 use Rattle.lr_check_sets.proofs.Reached.{hold, length-hold}
+use Rattle.lr_check_sets.proofs.Tables.{reduce_same, shift_reduce}
 
 -- a no more for the symbol at a depth
 abbrev pub push_at : ℕ → List Entry → List Entry
@@ -132,30 +134,20 @@ reaches s a top below d e size =
     let rest : List Sym = drop (length s) top in
     let split : top ≡ s ++ rest = cut top below s a (sym e) (omega arith) in
     let long : length rest ≡ d + 1 = omega (arith, ap length split, length-append s rest) in
-    let lower : a ≡ rest ++ below = same_tail s a (rest ++ below) (e ∙ (ap (λ l. l ++ below) split ∙ append_assoc s rest below)) in
+    let lower : a ≡ rest ++ below = append_cancel_left s a (rest ++ below) (e ∙ (ap (λ l. l ++ below) split ∙ append_assoc s rest below)) in
     (omega (arith, ap length lower, length-append rest below), split ∙ ap (λ l. s ++ l) (sym (ap (take (d + 1)) lower ∙ take_at rest below (d + 1) long)))
-  where
-    same_tail : (p u v : List Sym) → p ++ u ≡ p ++ v → u ≡ v
-    same_tail [] u v e = e
-    same_tail (X ∷ p) u v e = same_tail p u v (cc)
 
 module _ (A : Automaton) (q : ℕ) (s : List Sym) (tree : IsTree s) (r : Production) (loose_whole : size_of r ≡ length s) where
   pub asked_of : (cs : List Candidate) → ((x : Production) → Free cs (reduce x) → (a : List Sym) → walk A 0 a ≡ Some q →
       (top below : List Sym) × ((s ++ a ≡ top ++ below) × (length top ≡ size_of x) × IsTree top)) → GoesDown cs → Free cs (reduce r) → Asked A q s cs r
   asked_of [] on down f = absurd f
-  asked_of (shift ∷ cs) on down f = absurd (unlike f)
-    where
-      unlike : reduce r ≡ shift → ⊥
-      unlike e = cc
+  asked_of (shift ∷ cs) on down f = absurd (shift_reduce r f)
   asked_of (reduce x ∷ cs) on down f =
       ⊎_elim
-      (λ e. let same : r ≡ x = same_rule e in here x cs same x.asks refl)
+      (λ e. let same : r ≡ x = reduce_same r x e in here x cs same x.asks refl)
       (λ h. declined x cs h.0 (down.0 r h.1) (λ a at. on x (inl refl) a at) (asked_of cs (λ y g a at. on y (inr (h.0, g)) a at) down.1 h.1))
       f
     where
-      same_rule : reduce r ≡ reduce x → r ≡ x
-      same_rule e = cc
-
       here : (x : Production) (cs : List Candidate) → r ≡ x → (b : Bool) → x.asks ≡ b → Asked A q s (reduce x ∷ cs) r
       here x cs same false e = record {
         root = [];

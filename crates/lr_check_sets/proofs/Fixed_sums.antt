@@ -16,7 +16,7 @@ use Rattle.lr_check_sets.specs.Answers.{Entry, Leaf, symbols, next_token, leaves
 use Rattle.lr_check_sets.specs.Shapes.{wanted, IsTree, HasTrees}
 use Rattle.lr_check_sets.specs.Sums.{Partly, Settling, Sum, opened, with_kid, whole, settled, sum}
 use Rattle.lr_check_sets.proofs.Walks.{walk-append}
-use Rattle.lr_check_sets.proofs.Tables.{table_of_items, free-reductions}
+use Rattle.lr_check_sets.proofs.Tables.{table_of_items, free-reductions, reduce_same}
 use Rattle.lr_check_sets.proofs.Reached.{MetPlace, met_part, hold, symbols-hold, length-hold, owner-hold, symbols-append, next-leaves, shift_runs, runs-append}
 use Rattle.lr_check_sets.proofs.Shapes.{PartShape, OnTop, part_shape, settling_tree, top_of_free, tree_some}
 use Rattle.lr_check_sets.proofs.Whole_sets.{part_back, settling_back}
@@ -95,11 +95,8 @@ down (x ∷ rs) h = (shorter, down rs (λ i j r s lt e f. h (suc i) (suc j) r s 
     shorter : (y : Production) → Free (map reduce rs) (reduce y) → size_of y ≤ size_of x
     shorter y f =
         let g : (r : Production) × ((reduce y ≡ reduce r) × Contains rs r) = free-reductions rs (reduce y) f in
-        at g.0 (same_rule g.0 g.1.0) g.1.1
+        at g.0 (reduce_same y g.0 g.1.0) g.1.1
       where
-        same_rule : (r : Production) → reduce y ≡ reduce r → y ≡ r
-        same_rule r e = cc
-
         at : (r : Production) → y ≡ r → Contains rs r → size_of y ≤ size_of x
         at r e c =
             let u : size_of x < size_of r → ⊥ = h 0 (suc c.0) x r (omega arith) refl (slice_get-get_or rs c.0 r c.1 ∙ ap Some c.2) in

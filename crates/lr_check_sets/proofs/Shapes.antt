@@ -1,7 +1,7 @@
 -- A list that replaces a subtree is a tree, so no right side ends inside an unfinished subtree.
 use Rattle.std.proofs.Common.{◌≡◌, ℕ, zero, suc, ◌+◌, ◌≤◌, ◌<◌, List, [], ◌∷◌, ◌++◌, Option, Some, None, Contains, length, take, drop, reverse, refl, ap, sym, ◌∙◌, inl, ⊎_elim}
 use Rattle.std.proofs.Common.{subst, arith, append_assoc, append-nil, length-append, take-append-drop, take_at, suc-add, one-add}
-use Rattle.std.proofs.lemmas.List.{reverse-reverse, length-reverse, take-append-le}
+use Rattle.std.proofs.lemmas.List.{reverse-reverse, length-reverse, take-append-le, append_cancel_left}
 use Rattle.std.proofs.lemmas.Bool.{cases_lt}
 use Rattle.std.proofs.lemmas.Option.{none-some, same_Some}
 use Rattle.tree_core.specs.declared.token.Tok.{Tok}
@@ -91,13 +91,9 @@ kid_shape s' s n tree part = record {
         let b1 : List Sym = drop (length s') b in
         let split : b ≡ s' ++ b1 = cut b d s' s (sym e) (omega arith) in
         let long : length b ≡ length s' + length b1 = ap length split ∙ length-append s' b1 in
-        let lower : s ≡ b1 ++ d = same_tail s' s (b1 ++ d) (e ∙ (ap (λ l. l ++ d) split ∙ append_assoc s' b1 d)) in
+        let lower : s ≡ b1 ++ d = append_cancel_left s' s (b1 ++ d) (e ∙ (ap (λ l. l ++ d) split ∙ append_assoc s' b1 d)) in
         by_lower b1 d lower (omega arith) rest (wanted 1 b1) refl (ap (wanted 1) (sym split) ∙ h)
       where
-        same_tail : (p u v : List Sym) → p ++ u ≡ p ++ v → u ≡ v
-        same_tail [] u v e = e
-        same_tail (X ∷ p) u v e = same_tail p u v (cc)
-
         by_lower : (b1 d : List Sym) → s ≡ b1 ++ d → 0 < length b1 → 0 < length d → (o : Option ℕ) → wanted 1 b1 ≡ o → wanted 1 (s' ++ b1) ≡ Some (suc m) → ⊥
         by_lower b1 d e some rest None f h = none-some (suc m) (sym (wanted-none 1 s' b1 f) ∙ h)
         by_lower b1 d e some rest (Some zero) f h = none-some (suc m) (sym (wanted-zero s' (tree_some s' tree)) ∙ (sym (wanted-append 1 0 s' b1 f) ∙ h))
@@ -201,17 +197,13 @@ module _ (G : List Production) (A : Automaton) (no_end : HasNoEnd G) (no_empty :
           by_lower (Some zero) f = none-some 0 (sym (wanted-zero s' (tree_some s' tree)) ∙ (sym (wanted-append 1 0 s' b1 f) ∙ h))
           by_lower (Some (suc j)) f = part.tops b1 (X ∷ d) j e some (omega arith) f
 
-      same_tail : (p u v : List Sym) → p ++ u ≡ p ++ v → u ≡ v
-      same_tail [] u v e = e
-      same_tail (X ∷ p) u v e = same_tail p u v (cc)
-
       short : length o.top ≤ length (s' ++ s) → ⊥
       short le =
           let d : List Sym = drop (length o.top) (s' ++ s) in
           let e : s' ++ s ≡ o.top ++ d = cut (s' ++ s) a o.top o.below o.there le in
           let b1 : List Sym = drop (length s') o.top in
           let split : o.top ≡ s' ++ b1 = cut o.top d s' s (sym e) (omega (arith, o.size)) in
-          let lower : s ≡ b1 ++ d = same_tail s' s (b1 ++ d) (e ∙ (ap (λ l. l ++ d) split ∙ append_assoc s' b1 d)) in
+          let lower : s ≡ b1 ++ d = append_cancel_left s' s (b1 ++ d) (e ∙ (ap (λ l. l ++ d) split ∙ append_assoc s' b1 d)) in
           inside b1 d lower (omega (arith, ap length split, length-append s' b1, o.size)) (ap (wanted 1) (sym split) ∙ o.tree)
 
       long : length (s' ++ s) < length o.top → ⊥
@@ -235,13 +227,9 @@ module _ (G : List Production) (A : Automaton) (no_end : HasNoEnd G) (no_empty :
       let e : s' ++ s ≡ o.top ++ d = cut (s' ++ s) a o.top o.below o.there (omega (arith, o.size)) in
       let b1 : List Sym = drop (length s') o.top in
       let split : o.top ≡ s' ++ b1 = cut o.top d s' s (sym e) (omega (arith, o.size)) in
-      let lower : s ≡ b1 ++ d = same_tail s' s (b1 ++ d) (e ∙ (ap (λ l. l ++ d) split ∙ append_assoc s' b1 d)) in
+      let lower : s ≡ b1 ++ d = append_cancel_left s' s (b1 ++ d) (e ∙ (ap (λ l. l ++ d) split ∙ append_assoc s' b1 d)) in
       inside b1 d lower (omega (arith, ap length split, length-append s' b1, o.size)) (omega (arith, ap length e, length-append o.top d, o.size)) (ap (wanted 1) (sym split) ∙ o.tree)
     where
-      same_tail : (p u v : List Sym) → p ++ u ≡ p ++ v → u ≡ v
-      same_tail [] u v e = e
-      same_tail (X ∷ p) u v e = same_tail p u v (cc)
-
       inside : (b1 d : List Sym) → s ≡ b1 ++ d → 0 < length b1 → 0 < length d → wanted 1 (s' ++ b1) ≡ Some 0 → ⊥
       inside b1 d e some rest h = by_lower (wanted 1 b1) refl
         where

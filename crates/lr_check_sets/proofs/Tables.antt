@@ -10,6 +10,13 @@ use Rattle.md_reader.specs.declared.types.Sym.TheVariants as grammar_symbol
 use Rattle.lr_check_sets.specs.Automaton.{Automaton, Production, Candidate, shift, reduce, walk, go_from, size_of, Free, reduced, IsTable}
 use Rattle.lr_check_sets.specs.Items.{start_of, Item, starts, opens, moves, AreCandidates, the_shift, the_reductions, IsAutomatonOf, HasNoEnd, HasNoEmpty}
 
+-- a reduction is of one rule, and no shift
+pub reduce_same : (r s : Production) → reduce r ≡ reduce s → r ≡ s
+reduce_same r s e = cc
+
+pub shift_reduce : (r : Production) → reduce r ≡ shift → ⊥
+shift_reduce r e = cc
+
 pub reverse-cons : {X : Type 0} (x : X) (b c : List X) → reverse (x ∷ b) ++ c ≡ reverse b ++ (x ∷ c)
 reverse-cons x b c = ap (λ l. l ++ c) (reverse-append (x ∷ []) b) ∙ append_assoc (reverse b) (x ∷ []) c
 
@@ -90,18 +97,12 @@ pub shift_item : {G : List Production} {stmt : ℕ} {a : List Sym} {t : Tok} {cs
     (r : Production) × ((after : List Sym) × Item G stmt a r (grammar_symbol.Tok t ∷ after))
 shift_item (the_shift {after = after} r i) f = (r, (after, i))
 shift_item (the_reductions rs none are e) f =
-    let found : (r : Production) × ((shift ≡ reduce r) × Contains rs r) = free-reductions rs shift (subst (λ cs. Free cs shift) e f) in absurd (unlike found.0 found.1.0)
-  where
-    unlike : (r : Production) → shift ≡ reduce r → ⊥
-    unlike r e = cc
+    let found : (r : Production) × ((shift ≡ reduce r) × Contains rs r) = free-reductions rs shift (subst (λ cs. Free cs shift) e f) in absurd (shift_reduce found.0 (sym found.1.0))
 
 -- a reduction comes of a complete item
 pub reduce_item : {G : List Production} {stmt : ℕ} {a : List Sym} {t : Tok} {cs : List Candidate} (r : Production) → AreCandidates G stmt a t cs → Free cs (reduce r) →
     Item G stmt a r [] × Contains G r
-reduce_item r (the_shift s i) f = absurd (unlike f)
-  where
-    unlike : reduce r ≡ shift → ⊥
-    unlike e = cc
+reduce_item r (the_shift s i) f = absurd (shift_reduce r f)
 reduce_item {G = G} {stmt = stmt} {a = a} {t = t} r (the_reductions rs none are e) f =
     let found : (s : Production) × ((reduce r ≡ reduce s) × Contains rs s) = free-reductions rs (reduce r) (subst (λ cs. Free cs (reduce r)) e f) in
     let same : reduce r ≡ reduce found.0 = found.1.0 in
