@@ -21,10 +21,10 @@ use Rattle.c_lower_scheme.specs.Assignments.{ready_so, must_hold, assign_ready, 
 use Rattle.c_lower_scheme.proofs.Facts.{leaf_inert, next_grows, must_not}
 use Rattle.c_lower_follows.proofs.Values.{SmallTree}
 use Rattle.c_lower_follows.proofs.Leads.{Leads}
-use Rattle.c_lower_follows.proofs.Steps.{Desk, on, Resolves, resolves_back}
+use Rattle.c_lower_follows.proofs.Steps.{Desk, on, Resolves, resolves_back, resolves_split}
 use Rattle.c_lower_follows.proofs.Agreeing.{Below, below_more, alike_set, value, value_alike, value_stable, Since, since_start, set_same, set_other, not_nil, front_nil, back_nil}
 use Rattle.c_lower_follows.proofs.Placing.{place_on, SmallPlace, PurePlace, FitsPlace, read_mem, read_place, below_read, small_read}
-use Rattle.c_lower_follows.proofs.Storing.{Held, good, go, DoesIt, IsReady, IsPlace, then_at, apart, assign_root, address_by, use_number, hold, waits}
+use Rattle.c_lower_follows.proofs.Storing.{Held, good, go, DoesIt, IsReady, IsPlace, then_at, assign_root, address_by, use_number, hold, waits}
 use Rattle.c_lower_follows.proofs.Doing.{Makes, since_both, save_temp, Maps}
 
 module _ (program : TreeProgram) (code : List TreeItem) (callers : List Activation) (size count : ℕ) (scope : ℕ → Type 0) (level : ℕ) (within : (x : ℕ) → scope x → x < size) where
@@ -45,9 +45,6 @@ module _ (program : TreeProgram) (code : List TreeItem) (callers : List Activati
 
   abbrev pub onward : (k : ℕ) (a b is : List Item) (d : Desk) (r : Runs) → Leads k r (gone (a ++ (b ++ is)) d) → Leads k r (gone ((a ++ b) ++ is) d)
   onward k a b is d r h = then_at program code callers size count scope level within k a b is d r h
-
-  abbrev pub cut : (a b is : List Item) → Resolves code ((a ++ b) ++ is) → Resolves code (a ++ (b ++ is))
-  cut a b is h = apart program code callers size count scope level within a b is h
 
   -- the frame of two parts, the first of whose tree may be saved at u
   since_held : (t p v u w : ℕ) (a b : List Item) (st : State) (d : Desk) (st1 : State) (d1 : Desk) (st2 : State) (d2 : Desk) → t ≤ p → p ≤ v → v ≤ u → u < w → Since size t p a st d st1 d1
@@ -80,9 +77,9 @@ module _ (program : TreeProgram) (code : List TreeItem) (callers : List Activati
     small_value = does'.small;
     runs = λ k le is κ res st d ag h.
         let tail : List Item = AssignLoc q.temps a ∷ q.items in
-        onward k is0 tail is d _ (does.runs k le (tail ++ is) (λ ty s. n (λ v. κ ty s v)) (cut is0 tail is res) st d ag
+        onward k is0 tail is d _ (does.runs k le (tail ++ is) (λ ty s. n (λ v. κ ty s v)) (resolves_split code is0 tail is res) st d ag
         (λ st1 d1 ag1 s1. hold program code callers size count scope level within true a u q.temps q n k le is (λ x v. κ ty (Memory x) v) st1 d1 (omega (arith, does.grows)) (omega arith)
-        does.small does' (resolves_back code is0 (tail ++ is) (cut is0 tail is res)) (λ e. absurd (cc)) ag1
+        does.small does' (resolves_back code is0 (tail ++ is) (resolves_split code is0 tail is res)) (λ e. absurd (cc)) ag1
         (λ st2 d2 ag2 s2. h st2 d2 ag2 (since_held t u q.temps q.temps (suc q.temps) is0 tail st d st1 d1 st2 d2 does.grows does'.grows (omega arith) (omega arith) s1 s2))));
   }
   ready_by false a is0 ty u l t q m n sz rest does does' = record {
@@ -92,9 +89,9 @@ module _ (program : TreeProgram) (code : List TreeItem) (callers : List Activati
     below_value = does'.below;
     small_value = does'.small;
     runs = λ k le is κ res st d ag h.
-        onward k is0 q.items is d _ (does.runs k le (q.items ++ is) (λ ty s. n (λ v. κ ty s v)) (cut is0 q.items is res) st d ag
+        onward k is0 q.items is d _ (does.runs k le (q.items ++ is) (λ ty s. n (λ v. κ ty s v)) (resolves_split code is0 q.items is res) st d ag
         (λ st1 d1 ag1 s1. waits program code callers size count scope level within a u q n k le is (λ x v. κ ty (Memory x) v) st1 d1 (omega (arith, does.grows)) does.small does.fits does'
-        (resolves_back code is0 (q.items ++ is) (cut is0 q.items is res)) (rest refl) ag1
+        (resolves_back code is0 (q.items ++ is) (resolves_split code is0 q.items is res)) (rest refl) ag1
         (λ st2 d2 ag2 s2. h st2 d2 ag2 (since_both program code callers size count scope level within t u q.temps is0 q.items st st1 st2 d d1 d2 does.grows does'.grows s1 s2))));
   }
 
@@ -110,9 +107,9 @@ module _ (program : TreeProgram) (code : List TreeItem) (callers : List Activati
     below_value = does'.below;
     small_value = does'.small;
     runs = λ k le is κ res st d ag h.
-        onward k is0 q.items is d _ (does.runs k le (q.items ++ is) (λ ty s. n (λ v. κ ty s v)) (cut is0 q.items is res) st d ag
+        onward k is0 q.items is d _ (does.runs k le (q.items ++ is) (λ ty s. n (λ v. κ ty s v)) (resolves_split code is0 q.items is res) st d ag
         (λ st1 d1 ag1 s1. subst (λ r. Leads k r (gone (q.items ++ is) d1)) (sym (spot d1 (λ s. n (λ v. κ ty s v) st1)))
-        (does'.runs k le is (λ v. κ ty f v) (resolves_back code is0 (q.items ++ is) (cut is0 q.items is res)) st1 d1 ag1
+        (does'.runs k le is (λ v. κ ty f v) (resolves_back code is0 (q.items ++ is) (resolves_split code is0 q.items is res)) st1 d1 ag1
         (λ st2 d2 ag2 s2. subst (λ r. Leads k r (gone is d2)) (spot d2 (λ s. on (value program q.tree d2) (λ v. κ ty s v st2)))
         (h st2 d2 ag2 (since_both program code callers size count scope level within t u q.temps is0 q.items st st1 st2 d d1 d2 does.grows does'.grows s1 s2))))));
   }
@@ -236,9 +233,9 @@ module _ (program : TreeProgram) (code : List TreeItem) (callers : List Activati
         small_value = made.small (saved c u (read_from ty s)) q.tree (small_saved c u (read_from ty s) (small_read program code callers size count scope level within s ty does.small)) does'.small;
         runs = λ k le is κ res st d ag h.
             let b : List Item = saving c u (read_from ty s) ++ q.items in
-            onward k is0 b is d _ (does.runs k le (b ++ is) (λ ty s. read_at ty s (λ x. n ty (λ y. g ty x y (κ ty s)))) (cut is0 b is res) st d ag
+            onward k is0 b is d _ (does.runs k le (b ++ is) (λ ty s. read_at ty s (λ x. n ty (λ y. g ty x y (κ ty s)))) (resolves_split code is0 b is res) st d ag
             (λ st1 d1 ag1 s1. change c s ty f (g ty) p u q (n ty) k le is κ st1 d1 none (omega (arith, does.grows)) (omega arith) pure does.small (more p u does'.grows does.fits) made
-            does' (resolves_back code is0 (b ++ is) (cut is0 b is res)) ag1 (λ st2 d2 s2. stay st1 d1 st2 d2 does.fits s2)
+            does' (resolves_back code is0 (b ++ is) (resolves_split code is0 b is res)) ag1 (λ st2 d2 s2. stay st1 d1 st2 d2 does.fits s2)
             (λ st2 d2 ag2 s2. h st2 d2 ag2 (since_change c t p u u (read_from ty s) is0 q.items st d st1 d1 st2 d2 none does.grows does'.grows (omega arith) s1 s2))));
       }
 
@@ -260,8 +257,8 @@ module _ (program : TreeProgram) (code : List TreeItem) (callers : List Activati
         runs = λ k le is κ res st d ag h.
             let b : List Item = saving c u w ++ q.items in
             let tail : List Item = AssignLoc u1 a ∷ b in
-            let res1 = resolves_back code is0 (tail ++ is) (cut is0 tail is res) in
-            onward k is0 tail is d _ (does.runs k le (tail ++ is) (λ ty s. read_at ty s (λ x. n ty (λ y. g ty x y (κ ty s)))) (cut is0 tail is res) st d ag
+            let res1 = resolves_back code is0 (tail ++ is) (resolves_split code is0 tail is res) in
+            onward k is0 tail is d _ (does.runs k le (tail ++ is) (λ ty s. read_at ty s (λ x. n ty (λ y. g ty x y (κ ty s)))) (resolves_split code is0 tail is res) st d ag
             (λ st1 d1 ag1 s1. save_temp program code callers size count scope level within k u1 a (b ++ is) (λ x. read_at ty (Memory x) (λ x'. n ty (λ y. g ty x' y (κ ty (Memory x)))) st1)
             st1 d1 (omega (arith, does.grows, does'.grows)) does.small ag1
             (λ x lt ex ag1'.
@@ -384,7 +381,7 @@ module _ (program : TreeProgram) (code : List TreeItem) (callers : List Activati
     runs = λ k le is κ res st d ag h.
         let i = AssignLoc u (read_from ty s) in
         let j = assign_to ty s (f (Loc u)) in
-        onward k is0 (i ∷ j ∷ []) is d _ (does.runs k le (i ∷ j ∷ is) (λ ty s. read_at ty s (λ x. store_at ty s (g ty x) (λ y. κ x))) (cut is0 (i ∷ j ∷ []) is res) st d ag
+        onward k is0 (i ∷ j ∷ []) is d _ (does.runs k le (i ∷ j ∷ is) (λ ty s. read_at ty s (λ x. store_at ty s (g ty x) (λ y. κ x))) (resolves_split code is0 (i ∷ j ∷ []) is res) st d ag
         (λ st1 d1 ag1 s1. post_at s ty f (g ty) u k is κ st1 d1 (omega (arith, does.grows)) made pure does.small does.fits ag1
         (λ x st2 d2 ag2 kept at_x. use_number program code callers size count scope level within k (d2.locals u) x is κ st2 d2 at_x
         (h st2 d2 ag2 (record {
@@ -406,7 +403,7 @@ module _ (program : TreeProgram) (code : List TreeItem) (callers : List Activati
         let i = AssignLoc o (read_from ty s) in
         let j = assign_to ty s (f (Loc o)) in
         let tail : List Item = AssignLoc u a ∷ i ∷ j ∷ [] in
-        onward k is0 tail is d _ (does.runs k le (tail ++ is) (λ ty s. read_at ty s (λ x. store_at ty s (g ty x) (λ y. κ x))) (cut is0 tail is res) st d ag
+        onward k is0 tail is d _ (does.runs k le (tail ++ is) (λ ty s. read_at ty s (λ x. store_at ty s (g ty x) (λ y. κ x))) (resolves_split code is0 tail is res) st d ag
         (λ st1 d1 ag1 s1. save_temp program code callers size count scope level within k u a (i ∷ j ∷ is) (λ p. read_at ty (Memory p) (λ x. store_at ty (Memory p) (g ty x) (λ y. κ x)) st1)
         st1 d1 (omega (arith, does.grows)) does.small ag1
         (λ p lt ep ag1'.

@@ -20,10 +20,10 @@ use Rattle.c_lower_scheme.specs.Assignments.{stays}
 use Rattle.c_sound.specs.Fits.{AreBytes}
 use Rattle.c_lower_follows.proofs.Values.{SmallTree, Ranged, Small, worth_small}
 use Rattle.c_lower_follows.proofs.Leads.{Leads, leads_deep, leads_none, leads_below, leads_counted, leads_quiet, leads_emit}
-use Rattle.c_lower_follows.proofs.Steps.{moves, Desk, desk_sight, on, Resolves, resolves_back, state, lost, push_step, call_counts, save_step}
+use Rattle.c_lower_follows.proofs.Steps.{moves, Desk, desk_sight, on, Resolves, resolves_back, state, lost, push_step, call_counts, save_step, resolves_split}
 use Rattle.c_lower_follows.proofs.Agreeing.{Below, below_more, Alike, value, value_alike, value_stable, value_pure, Since, agree_temp, set_same, set_other, not_nil, front_nil, back_nil}
 use Rattle.c_lower_follows.proofs.Storing.{use_number}
-use Rattle.c_lower_follows.proofs.Doing.{Drops, Delivers, delivered_does, assoc, split, save_temp}
+use Rattle.c_lower_follows.proofs.Doing.{Drops, Delivers, delivered_does, assoc, save_temp}
 use Rattle.std.specs.Prelude.{if◌then◌else◌}
 use Rattle.std.proofs.lemmas.List.{take_at, drop_at}
 use Rattle.tree_core.specs.declared.program.TreeFn.{TreeFn}
@@ -163,9 +163,9 @@ module _ (program : TreeProgram) (code : List TreeItem) (callers : List Activati
         let u = q.temps in
         let i = AssignLoc u p.tree in
         let tail : List Item = i ∷ q.items in
-        let res1 = resolves_back code p.items (tail ++ is) (split program code callers size count scope level p.items tail is res) in
+        let res1 = resolves_back code p.items (tail ++ is) (resolves_split code p.items tail is res) in
         assoc program code callers size count scope level k p.items tail is d _
-        (does.runs k le (tail ++ is) (λ x. n (λ xs. κ (x ∷ xs))) (split program code callers size count scope level p.items tail is res) st d ag
+        (does.runs k le (tail ++ is) (λ x. n (λ xs. κ (x ∷ xs))) (resolves_split code p.items tail is res) st d ag
         (λ st1 d1 ag1 s1. save_temp program code callers size count scope level within k u p.tree (q.items ++ is) (λ x. n (λ xs. κ (x ∷ xs)) st1) st1 d1
         (omega (arith, does.grows, does'.grows)) does.small ag1
         (λ v lt e ag1'.
@@ -204,9 +204,9 @@ module _ (program : TreeProgram) (code : List TreeItem) (callers : List Activati
     pure = pure_more p.tree q.trees traps does'.pure;
     none = λ e. absurd (cc);
     runs = λ k le is κ res st d ag h.
-        let res1 = resolves_back code p.items (q.items ++ is) (split program code callers size count scope level p.items q.items is res) in
+        let res1 = resolves_back code p.items (q.items ++ is) (resolves_split code p.items q.items is res) in
         assoc program code callers size count scope level k p.items q.items is d _
-        (does.runs k le (q.items ++ is) (λ x. n (λ xs. κ (x ∷ xs))) (split program code callers size count scope level p.items q.items is res) st d ag
+        (does.runs k le (q.items ++ is) (λ x. n (λ xs. κ (x ∷ xs))) (resolves_split code p.items q.items is res) st d ag
         (λ st1 d1 ag1 s1. passing_by p q n k le is κ st1 d1 (value program p.tree d1) does'
         (λ e. ⊎_elim (λ pure. absurd (value_pure program p.tree d1 pure e))
         (λ last. subst (λ l. Leads k (stop ends.Trapped) (run (l ++ is) d1)) (sym (does'.none last))
@@ -442,7 +442,7 @@ module _ (program : TreeProgram) (code : List TreeItem) (callers : List Activati
         let tail : List Item = pushes q.trees (c ∷ Save u ∷ []) in
         let rest : List Item = c ∷ Save u ∷ is in
         assoc program code callers size count scope level k q.items tail is d _
-        (does.runs k le (tail ++ is) (λ vs. call p next f vs κ) (split program code callers size count scope level q.items tail is res) st d ag
+        (does.runs k le (tail ++ is) (λ vs. call p next f vs κ) (resolves_split code q.items tail is res) st d ag
         (λ st1 d1 ag1 s1. moves program code callers k (spelled_all (tail ++ is)) (spelled_all (pushes q.trees rest)) d1 _ (ap spelled_all (sym (pushes_append q.trees (c ∷ Save u ∷ []) is)))
         (pushes_step program code callers size count scope level within q.trees k rest (λ vs. call p next f vs κ st1) d1 does.small does.pure ag1.ranged
         (λ vs len small. call_step f n k le vs len small κ st1 d1 (Save u ∷ is) ag1
@@ -468,7 +468,7 @@ module _ (program : TreeProgram) (code : List TreeItem) (callers : List Activati
         let tail : List Item = pushes q.trees (c ∷ []) in
         let rest : List Item = c ∷ is in
         assoc program code callers size count scope level k q.items tail is d _
-        (does.runs k le (tail ++ is) (λ vs. call p next f vs (λ v. κ)) (split program code callers size count scope level q.items tail is res) st d ag
+        (does.runs k le (tail ++ is) (λ vs. call p next f vs (λ v. κ)) (resolves_split code q.items tail is res) st d ag
         (λ st1 d1 ag1 s1. moves program code callers k (spelled_all (tail ++ is)) (spelled_all (pushes q.trees rest)) d1 _ (ap spelled_all (sym (pushes_append q.trees (c ∷ []) is)))
         (pushes_step program code callers size count scope level within q.trees k rest (λ vs. call p next f vs (λ v. κ) st1) d1 does.small does.pure ag1.ranged
         (λ vs len small. call_step f n k le vs len small (λ v. κ) st1 d1 is ag1
@@ -493,7 +493,7 @@ module _ (program : TreeProgram) (code : List TreeItem) (callers : List Activati
         let tail : List Item = pushes q.trees (c ∷ Save x ∷ []) in
         let rest : List Item = c ∷ Save x ∷ is in
         assoc program code callers size count scope level k q.items tail is d _
-        (does.runs k le (tail ++ is) (λ vs. call p next f vs κ) (split program code callers size count scope level q.items tail is res) st d ag
+        (does.runs k le (tail ++ is) (λ vs. call p next f vs κ) (resolves_split code q.items tail is res) st d ag
         (λ st1 d1 ag1 s1. moves program code callers k (spelled_all (tail ++ is)) (spelled_all (pushes q.trees rest)) d1 _ (ap spelled_all (sym (pushes_append q.trees (c ∷ Save x ∷ []) is)))
         (pushes_step program code callers size count scope level within q.trees k rest (λ vs. call p next f vs κ st1) d1 does.small does.pure ag1.ranged
         (λ vs len small. call_step f n k le vs len small κ st1 d1 (Save x ∷ is) ag1

@@ -15,13 +15,13 @@ use Rattle.c_lower_scheme.specs.Parts.{with_done, then_done, Lowered, Pair, Emit
 use Rattle.c_lower_scheme.specs.Conditions.{truth_of, compare, conditional, chain, chain_drop, drop_two, choose_low, choose_drop, choose, comma, choose_deliver}
 use Rattle.c_lower_scheme.specs.Values.{relation, joined}
 use Rattle.c_lower_follows.proofs.Leads.{Leads, leads_quiet}
-use Rattle.c_lower_follows.proofs.Steps.{label_step, label_counts, jump_step, Desk, Resolves, resolves_back, at_items, moves, cbr_step}
+use Rattle.c_lower_follows.proofs.Steps.{label_step, label_counts, jump_step, Desk, Resolves, resolves_back, at_items, moves, cbr_step, resolves_split}
 use Rattle.c_lower_follows.proofs.Agreeing.{Since, set_same, set_other, not_nil, back_nil}
 use Rattle.gg_base.specs.declared.relation.Rel.{Rel}
 use Rattle.gg_base.specs.Relations.{holds}
 use Rattle.c_types.specs.Constants.{truth, apply_unary}
 use Rattle.c_types.specs.declared.typed.UnaryOperator.TheVariants as unaries
-use Rattle.c_lower_follows.proofs.Doing.{either_way, Agrees, here, Does, DoesTwo, Drops, Asks, Delivers, DoesWay, assoc, split, save_temp, since_both, since_more, two_does}
+use Rattle.c_lower_follows.proofs.Doing.{either_way, Agrees, here, Does, DoesTwo, Drops, Asks, Delivers, DoesWay, assoc, save_temp, since_both, since_more, two_does}
 use Rattle.c_lower_follows.proofs.Doing.{test_asks, delivered_does, arrives_behind}
 use Rattle.c_lower_follows.proofs.Storing.{use_number}
 
@@ -112,9 +112,6 @@ module _ (program : TreeProgram) (code : List TreeItem) (callers : List Activati
   abbrev bind_up : (k : ℕ) (a b is : List Item) (d : Desk) (r : Runs) → Leads k r (going (a ++ (b ++ is)) d) → Leads k r (going ((a ++ b) ++ is) d)
   bind_up k a b is d r h = assoc program code callers size count scope level k a b is d r h
 
-  abbrev take_down : (a b is : List Item) → Resolves code ((a ++ b) ++ is) → Resolves code (a ++ (b ++ is))
-  take_down a b is h = split program code callers size count scope level a b is h
-
   -- the value of a condition
   truth_does : (t l : ℕ) (b : Emitted) (m : Rest → State → Runs) → size ≤ t → ((κ : Rest) (st : State) → m κ st ≡ m (λ v st. chosen v (κ 1 st) (κ 0 st)) st) → AsksIt b false l (suc t) m
       → LowIt (truth_of t l b) t m
@@ -124,7 +121,7 @@ module _ (program : TreeProgram) (code : List TreeItem) (callers : List Activati
     small = tt;
     runs = λ k le is κ res st d ag h.
         let T : List Item = AssignLoc t (Num 1) ∷ Label l ∷ [] in
-        let res1 = take_down b.items T is res.1 in
+        let res1 = resolves_split code b.items T is res.1 in
         let end_at : behind code l ≡ spelled_all is = (resolves_back code b.items (T ++ is) res1).1.0 in
         save_temp program code callers size count scope level within k t (Num 0) ((b.items ++ T) ++ is) (λ v. m κ st) st d sz (omega arith) ag
         (λ v lt e ag0.
@@ -165,7 +162,7 @@ module _ (program : TreeProgram) (code : List TreeItem) (callers : List Activati
   then_drops p q t m n drops drops' = record {
     grows = omega (arith, drops.grows, drops'.grows);
     runs = λ k le is κ res st d ag h.
-        let res1 = take_down p.items q.items is res in
+        let res1 = resolves_split code p.items q.items is res in
         bind_up k p.items q.items is d _ (drops.runs k le (q.items ++ is) (n (λ v. κ)) res1 st d ag
         (λ st1 d1 ag1 s1. drops'.runs k le is κ (resolves_back code p.items (q.items ++ is) res1) st1 d1 ag1
         (λ st2 d2 ag2 s2. h st2 d2 ag2 (since_both program code callers size count scope level within t p.temps q.temps p.items q.items st st1 st2 d d1 d2 drops.grows drops'.grows s1 s2))));
@@ -184,7 +181,7 @@ module _ (program : TreeProgram) (code : List TreeItem) (callers : List Activati
     runs = λ k le is met unmet res st d ag taken falls.
         let i = Cbr (sensed sense r) to p.first p.second in
         let K : State → ℕ → ℕ → Runs = λ st x y. chosen (truth (holds r x y)) (met st) (unmet st) in
-        bind_up k p.items (i ∷ []) is d _ (does.runs k le (i ∷ is) (λ x y st. K st x y) (take_down p.items (i ∷ []) is res) st d ag
+        bind_up k p.items (i ∷ []) is d _ (does.runs k le (i ∷ is) (λ x y st. K st x y) (resolves_split code p.items (i ∷ []) is res) st d ag
         (λ st1 d1 ag1 s1.
         let more = since_more program code callers size count scope level within t p.temps p.temps p.items (i ∷ []) st d st1 d1 (omega arith) s1 in
         cbr_step program code callers k to (sensed sense r) p.first p.second is (K st1) d1 does.small_first does.small_second ag1.ranged
@@ -256,7 +253,7 @@ module _ (program : TreeProgram) (code : List TreeItem) (callers : List Activati
   chain_direct true to p q t m n asks asks' = record {
     grows = omega (arith, asks.grows, asks'.grows);
     runs = λ k le is met unmet res st d ag taken falls.
-        let res1 = take_down p.items q.items is res in
+        let res1 = resolves_split code p.items q.items is res in
         let K : Rest = λ v st. chosen v (met st) (unmet st) in
         bind_up k p.items q.items is d _ (asks.runs k le (q.items ++ is) met (n (λ y. K (logical y))) res1 st d ag
         (λ st1 d1 ag1 s1. taken st1 d1 ag1 (since_more program code callers size count scope level within t p.temps q.temps p.items q.items st d st1 d1 asks'.grows s1))
@@ -268,7 +265,7 @@ module _ (program : TreeProgram) (code : List TreeItem) (callers : List Activati
   chain_direct false to p q t m n asks asks' = record {
     grows = omega (arith, asks.grows, asks'.grows);
     runs = λ k le is met unmet res st d ag taken falls.
-        let res1 = take_down p.items q.items is res in
+        let res1 = resolves_split code p.items q.items is res in
         let K : Rest = λ v st. chosen v (met st) (unmet st) in
         bind_up k p.items q.items is d _ (asks.runs k le (q.items ++ is) (n (λ y. K (logical y))) unmet res1 st d ag
         (λ st1 d1 ag1 s1. taken st1 d1 ag1 (since_more program code callers size count scope level within t p.temps q.temps p.items q.items st d st1 d1 asks'.grows s1))
@@ -284,8 +281,8 @@ module _ (program : TreeProgram) (code : List TreeItem) (callers : List Activati
     grows = omega (arith, asks.grows, asks'.grows);
     runs = λ k le is met unmet res st d ag taken falls.
         let T : List Item = q.items ++ (Label l ∷ []) in
-        let res1 = take_down p.items T is res in
-        let res2 = take_down q.items (Label l ∷ []) is (resolves_back code p.items (T ++ is) res1) in
+        let res1 = resolves_split code p.items T is res in
+        let res2 = resolves_split code q.items (Label l ∷ []) is (resolves_back code p.items (T ++ is) res1) in
         let end_at : behind code l ≡ spelled_all is = (resolves_back code q.items (Label l ∷ is) res2).0 in
         let K : Rest = λ v st. chosen v (met st) (unmet st) in
         let whole : (st1 : State) (d1 : Desk) (st2 : State) (d2 : Desk) → Since size t p.temps p.items st d st1 d1 → Since size p.temps q.temps q.items st1 d1 st2 d2
@@ -308,8 +305,8 @@ module _ (program : TreeProgram) (code : List TreeItem) (callers : List Activati
     grows = omega (arith, asks.grows, asks'.grows);
     runs = λ k le is met unmet res st d ag taken falls.
         let T : List Item = q.items ++ (Label l ∷ []) in
-        let res1 = take_down p.items T is res in
-        let res2 = take_down q.items (Label l ∷ []) is (resolves_back code p.items (T ++ is) res1) in
+        let res1 = resolves_split code p.items T is res in
+        let res2 = resolves_split code q.items (Label l ∷ []) is (resolves_back code p.items (T ++ is) res1) in
         let end_at : behind code l ≡ spelled_all is = (resolves_back code q.items (Label l ∷ is) res2).0 in
         let K : Rest = λ v st. chosen v (met st) (unmet st) in
         let whole : (st1 : State) (d1 : Desk) (st2 : State) (d2 : Desk) → Since size t p.temps p.items st d st1 d1 → Since size p.temps q.temps q.items st1 d1 st2 d2
@@ -355,8 +352,8 @@ module _ (program : TreeProgram) (code : List TreeItem) (callers : List Activati
     grows = omega (arith, asks.grows, drops.grows);
     runs = λ k le is κ res st d ag h.
         let T : List Item = q.items ++ (Label l ∷ []) in
-        let res1 = take_down p.items T is res in
-        let res2 = take_down q.items (Label l ∷ []) is (resolves_back code p.items (T ++ is) res1) in
+        let res1 = resolves_split code p.items T is res in
+        let res2 = resolves_split code q.items (Label l ∷ []) is (resolves_back code p.items (T ++ is) res1) in
         let end_at : behind code l ≡ spelled_all is = (resolves_back code q.items (Label l ∷ is) res2).0 in
         let out : (st1 : State) (d1 : Desk) → sure st1 d1 → Since size t p.temps p.items st d st1 d1
         → Leads k (κ st1) (counted (at_items program code callers (behind code l) d1)) = λ st1 d1 ag1 s1.
@@ -402,11 +399,11 @@ module _ (program : TreeProgram) (code : List TreeItem) (callers : List Activati
         let T3 : List Item = AssignLoc t r.tree ∷ Label (suc l) ∷ [] in
         let T2 : List Item = AssignLoc t q.tree ∷ Jump (suc l) ∷ Label l ∷ (r.items ++ T3) in
         let T1 : List Item = q.items ++ T2 in
-        let res0 = take_down p.items T1 is res in
-        let res1 = take_down q.items T2 is (resolves_back code p.items (T1 ++ is) res0) in
+        let res0 = resolves_split code p.items T1 is res in
+        let res1 = resolves_split code q.items T2 is (resolves_back code p.items (T1 ++ is) res0) in
         let res2 = resolves_back code q.items (T2 ++ is) res1 in
         let else_at : behind code l ≡ spelled_all ((r.items ++ T3) ++ is) = res2.1.1.0 in
-        let res3 = take_down r.items T3 is res2.1.1.1 in
+        let res3 = resolves_split code r.items T3 is res2.1.1.1 in
         let end_at : behind code (suc l) ≡ spelled_all is = (resolves_back code r.items (T3 ++ is) res3).1.0 in
         let since : (d' : Desk) (st' : State) → ((j : ℕ) → size ≤ j → (j < t) ⊎ (r.temps ≤ j) → d'.locals j ≡ d.locals j)
         → Since size t r.temps (p.items ++ T1) st d st' d' = λ d' st' kept.
@@ -441,11 +438,11 @@ module _ (program : TreeProgram) (code : List TreeItem) (callers : List Activati
         let T3 : List Item = Label (suc l) ∷ [] in
         let T2 : List Item = Jump (suc l) ∷ Label l ∷ (r.items ++ T3) in
         let T1 : List Item = q.items ++ T2 in
-        let res0 = take_down p.items T1 is res in
-        let res1 = take_down q.items T2 is (resolves_back code p.items (T1 ++ is) res0) in
+        let res0 = resolves_split code p.items T1 is res in
+        let res1 = resolves_split code q.items T2 is (resolves_back code p.items (T1 ++ is) res0) in
         let res2 = resolves_back code q.items (T2 ++ is) res1 in
         let else_at : behind code l ≡ spelled_all ((r.items ++ T3) ++ is) = res2.1.0 in
-        let res3 = take_down r.items T3 is res2.1.1 in
+        let res3 = resolves_split code r.items T3 is res2.1.1 in
         let end_at : behind code (suc l) ≡ spelled_all is = (resolves_back code r.items (T3 ++ is) res3).0 in
         let since : (d' : Desk) (st' : State) → ((j : ℕ) → size ≤ j → (j < t) ⊎ (r.temps ≤ j) → d'.locals j ≡ d.locals j)
         → Since size t r.temps (p.items ++ T1) st d st' d' = λ d' st' kept.
@@ -472,11 +469,11 @@ module _ (program : TreeProgram) (code : List TreeItem) (callers : List Activati
         let T3 : List Item = Label (suc l) ∷ [] in
         let T2 : List Item = Jump (suc l) ∷ Label l ∷ (r.items ++ T3) in
         let T1 : List Item = q.items ++ T2 in
-        let res0 = take_down p.items T1 is res in
-        let res1 = take_down q.items T2 is (resolves_back code p.items (T1 ++ is) res0) in
+        let res0 = resolves_split code p.items T1 is res in
+        let res1 = resolves_split code q.items T2 is (resolves_back code p.items (T1 ++ is) res0) in
         let res2 = resolves_back code q.items (T2 ++ is) res1 in
         let else_at : behind code l ≡ spelled_all ((r.items ++ T3) ++ is) = res2.1.0 in
-        let res3 = take_down r.items T3 is res2.1.1 in
+        let res3 = resolves_split code r.items T3 is res2.1.1 in
         let end_at : behind code (suc l) ≡ spelled_all is = (resolves_back code r.items (T3 ++ is) res3).0 in
         bind_up k p.items T1 is d _ (asks.runs k le (T1 ++ is) (n κ) (o κ) res0 st d ag
         (λ st1 d1 ag1 s1. leads_quiet k _ _ (moves program code callers k (behind code l) (spelled_all ((r.items ++ T3) ++ is)) d1 _ else_at
@@ -500,8 +497,8 @@ module _ (program : TreeProgram) (code : List TreeItem) (callers : List Activati
     runs = λ k le is κ res st d ag h.
         let T2 : List Item = Label l ∷ r.items in
         let T1 : List Item = q.items ++ T2 in
-        let res0 = take_down p.items T1 is res in
-        let res1 = take_down q.items T2 is (resolves_back code p.items (T1 ++ is) res0) in
+        let res0 = resolves_split code p.items T1 is res in
+        let res1 = resolves_split code q.items T2 is (resolves_back code p.items (T1 ++ is) res0) in
         let res2 = resolves_back code q.items (T2 ++ is) res1 in
         let else_at : behind code l ≡ spelled_all (r.items ++ is) = res2.0 in
         bind_up k p.items T1 is d _ (asks.runs k le (T1 ++ is) (n κ) (o κ) res0 st d ag
@@ -542,7 +539,7 @@ module _ (program : TreeProgram) (code : List TreeItem) (callers : List Activati
     below = does.below;
     small = does.small;
     runs = λ k le is κ res st d ag h.
-        let res1 = take_down p.items q.items is res in
+        let res1 = resolves_split code p.items q.items is res in
         bind_up k p.items q.items is d _ (drops.runs k le (q.items ++ is) (n κ) res1 st d ag
         (λ st1 d1 ag1 s1. does.runs k le is κ (resolves_back code p.items (q.items ++ is) res1) st1 d1 ag1
         (λ st2 d2 ag2 s2. h st2 d2 ag2 (since_both program code callers size count scope level within t p.temps q.temps p.items q.items st st1 st2 d d1 d2 drops.grows does.grows s1 s2))));
@@ -552,7 +549,7 @@ module _ (program : TreeProgram) (code : List TreeItem) (callers : List Activati
   comma_asks p q sense to t m n drops asks = record {
     grows = omega (arith, drops.grows, asks.grows);
     runs = λ k le is met unmet res st d ag taken falls.
-        let res1 = take_down p.items q.items is res in
+        let res1 = resolves_split code p.items q.items is res in
         bind_up k p.items q.items is d _ (drops.runs k le (q.items ++ is) (n (λ v st. chosen v (met st) (unmet st))) res1 st d ag
         (λ st1 d1 ag1 s1. asks.runs k le is met unmet (resolves_back code p.items (q.items ++ is) res1) st1 d1 ag1
         (λ st2 d2 ag2 s2. taken st2 d2 ag2 (since_both program code callers size count scope level within t p.temps q.temps p.items q.items st st1 st2 d d1 d2 drops.grows asks.grows s1 s2))
@@ -564,7 +561,7 @@ module _ (program : TreeProgram) (code : List TreeItem) (callers : List Activati
     grows = omega (arith, drops.grows, does.grows);
     some = λ e. does.some (back_nil p.items q.items e);
     runs = λ k le is κ res st d ag h.
-        let res1 = take_down p.items q.items is res in
+        let res1 = resolves_split code p.items q.items is res in
         bind_up k p.items q.items is d _ (drops.runs k le (q.items ++ is) (n κ) res1 st d ag
         (λ st1 d1 ag1 s1. does.runs k le is κ (resolves_back code p.items (q.items ++ is) res1) st1 d1 ag1
         (arrives_behind program code callers size count scope level within to k t p.temps q.temps is κ d d1 drops.grows does.grows s1.keeps h)));

@@ -24,7 +24,7 @@ use Rattle.c_lower_scheme.proofs.Facts.{stable_inert, must_not}
 use Rattle.c_sound.specs.Fits.{AreBytes}
 use Rattle.c_lower_follows.proofs.Values.{SmallTree, Small, worth_small}
 use Rattle.c_lower_follows.proofs.Leads.{Leads, leads_wild}
-use Rattle.c_lower_follows.proofs.Steps.{Desk, desk_sight, on, Resolves, resolves_back, at, at_items, state, moves, lost, silent, assign_loc_step, cbr_step, ret_step}
+use Rattle.c_lower_follows.proofs.Steps.{Desk, desk_sight, on, Resolves, resolves_back, at, at_items, state, moves, lost, silent, assign_loc_step, cbr_step, ret_step, resolves_split}
 use Rattle.c_lower_follows.proofs.Agreeing.{Below, below_more, value, value_stable, value_pure, Agree, Since, since_start, agree_temp, set_same, set_other, not_nil, front_nil, back_nil}
 
 pub on_bind : (o : Value) (f : ℕ → Value) (κ : ℕ → Runs) → on (bind o f) κ ≡ on o (λ x. on (f x) κ)
@@ -102,9 +102,6 @@ module _ (program : TreeProgram) (code : List TreeItem) (callers : List Activati
   pub assoc : (k : ℕ) (a b is : List Item) (d : Desk) (r : Runs) → Leads k r (here (a ++ (b ++ is)) d) → Leads k r (here ((a ++ b) ++ is) d)
   assoc k a b is d r h = moves program code callers k (spelled_all ((a ++ b) ++ is)) (spelled_all (a ++ (b ++ is))) d r (ap spelled_all (append_assoc a b is)) h
 
-  pub split : (a b is : List Item) → Resolves code ((a ++ b) ++ is) → Resolves code (a ++ (b ++ is))
-  split a b is h = subst (Resolves code) (append_assoc a b is) h
-
   module _ (within : (x : ℕ) → scope x → x < size) where
     -- a value's tree that has no items
     pub due_does : (w : Tree) (t l : ℕ) (m : Rest → State → Runs) → Below t w → SmallTree w
@@ -139,7 +136,7 @@ module _ (program : TreeProgram) (code : List TreeItem) (callers : List Activati
       small_second = does'.small;
       runs = λ k le is κ res st d ag h.
           let i = AssignLoc q.temps p.tree in
-          let res' = split p.items (i ∷ q.items) is res in
+          let res' = resolves_split code p.items (i ∷ q.items) is res in
           assoc k p.items (i ∷ q.items) is d _ (does.runs k le (i ∷ (q.items ++ is)) (λ x. n (κ x)) res' st d ag
           (λ st1 d1 ag1 s1. save_temp k q.temps p.tree (q.items ++ is) (λ x. n (κ x) st1) st1 d1 (omega (arith, does.grows, does'.grows)) does.small ag1
           (λ v lt e ag1'. does'.runs k le is (κ v) (resolves_back code p.items (i ∷ (q.items ++ is)) res').1 st1 (record d1 { locals = with_local d1.locals q.temps v }) ag1'
@@ -173,7 +170,7 @@ module _ (program : TreeProgram) (code : List TreeItem) (callers : List Activati
       small_first = does.small;
       small_second = does'.small;
       runs = λ k le is κ res st d ag h.
-          let res' = split p.items q.items is res in
+          let res' = resolves_split code p.items q.items is res in
           assoc k p.items q.items is d _ (does.runs k le (q.items ++ is) (λ x. n (κ x)) res' st d ag
           (λ st1 d1 ag1 s1. waits_by p q n k le is κ st1 d1 (value program p.tree d1) does' (λ e. absurd (value_pure program p.tree d1 (stable_inert size p.tree stays) e))
           (resolves_back code p.items (q.items ++ is) res') refl ag1
@@ -191,7 +188,7 @@ module _ (program : TreeProgram) (code : List TreeItem) (callers : List Activati
       small_first = does.small;
       small_second = does'.small;
       runs = λ k le is κ res st d ag h.
-          let res' = split p.items q.items is res in
+          let res' = resolves_split code p.items q.items is res in
           let whole : (st1 : State) (d1 : Desk) → Since size t p.temps p.items st d st1 d1
           → Since size t q.temps (p.items ++ q.items) st d st1 d1 = λ st1 d1 s1.
           record { keeps = λ j sz o. s1.keeps j sz (⊎_elim (λ lt. inl lt) (λ ge. inr (omega (arith, does'.grows))) o); same = λ e. s1.same (front_nil p.items q.items e) } in
@@ -241,7 +238,7 @@ module _ (program : TreeProgram) (code : List TreeItem) (callers : List Activati
       grows = does.grows;
       runs = λ k le is met unmet res st d ag taken falls.
           let i = Cbr relations.Ne to p.tree (Num 0) in
-          assoc k p.items (i ∷ []) is d _ (does.runs k le (i ∷ is) (λ v st. chosen v (met st) (unmet st)) (split p.items (i ∷ []) is res) st d ag
+          assoc k p.items (i ∷ []) is d _ (does.runs k le (i ∷ is) (λ v st. chosen v (met st) (unmet st)) (resolves_split code p.items (i ∷ []) is res) st d ag
           (λ st1 d1 ag1 s1. cbr_step program code callers k to relations.Ne p.tree (Num 0) is (λ x y. chosen x (met st1) (unmet st1)) d1 does.small (omega arith) ag1.ranged
           (λ x y ex ey b. subst (λ r. Leads k r (counted (at_items program code callers (behind code to) d1))) (sym (some_chosen x y (met st1) (unmet st1) ey (not-true (x == y) b)))
           (taken st1 d1 ag1 (since_more t p.temps p.temps p.items (i ∷ []) st d st1 d1 (omega arith) s1)))
@@ -252,7 +249,7 @@ module _ (program : TreeProgram) (code : List TreeItem) (callers : List Activati
       grows = does.grows;
       runs = λ k le is met unmet res st d ag taken falls.
           let i = Cbr relations.Eq to p.tree (Num 0) in
-          assoc k p.items (i ∷ []) is d _ (does.runs k le (i ∷ is) (λ v st. chosen v (met st) (unmet st)) (split p.items (i ∷ []) is res) st d ag
+          assoc k p.items (i ∷ []) is d _ (does.runs k le (i ∷ is) (λ v st. chosen v (met st) (unmet st)) (resolves_split code p.items (i ∷ []) is res) st d ag
           (λ st1 d1 ag1 s1. cbr_step program code callers k to relations.Eq p.tree (Num 0) is (λ x y. chosen x (met st1) (unmet st1)) d1 does.small (omega arith) ag1.ranged
           (λ x y ex ey b. subst (λ r. Leads k r (counted (at_items program code callers (behind code to) d1))) (sym (zero_chosen x y (met st1) (unmet st1) ey b))
           (taken st1 d1 ag1 (since_more t p.temps p.temps p.items (i ∷ []) st d st1 d1 (omega arith) s1)))
@@ -272,14 +269,14 @@ module _ (program : TreeProgram) (code : List TreeItem) (callers : List Activati
       grows = omega (arith, does.grows);
       runs = λ k le is κ res st d ag h.
           let i = AssignLoc p.temps p.tree in
-          assoc k p.items (i ∷ []) is d _ (does.runs k le (i ∷ is) (λ v. κ) (split p.items (i ∷ []) is res) st d ag
+          assoc k p.items (i ∷ []) is d _ (does.runs k le (i ∷ is) (λ v. κ) (resolves_split code p.items (i ∷ []) is res) st d ag
           (λ st1 d1 ag1 s1. save_temp k p.temps p.tree is (λ v. κ st1) st1 d1 (omega (arith, does.grows)) does.small ag1
           (λ v lt e ag2. h st1 _ ag2 (since_temp t p.temps p.temps v p.items [] i st d st1 d1 does.grows (omega arith) s1))));
     }
     dropped_by p t m false e sz does = record {
       grows = does.grows;
       runs = λ k le is κ res st d ag h.
-          assoc k p.items [] is d _ (does.runs k le is (λ v. κ) (split p.items [] is res) st d ag
+          assoc k p.items [] is d _ (does.runs k le is (λ v. κ) (resolves_split code p.items [] is res) st d ag
           (λ st1 d1 ag1 s1. unused k (value program p.tree d1) (κ st1) (here is d1) (value_pure program p.tree d1 (or_parts (divides p.tree) (reads p.tree) e).0)
           (silent program code callers (arrived (state program code callers (spelled_all is) d1))) (h st1 d1 ag1 (since_more t p.temps p.temps p.items [] st d st1 d1 (omega arith) s1))));
     }
@@ -291,7 +288,7 @@ module _ (program : TreeProgram) (code : List TreeItem) (callers : List Activati
       some = λ e. not_nil p.items (AssignLoc n p.tree) [] e;
       runs = λ k le is κ res st d ag h.
           let i = AssignLoc n p.tree in
-          assoc k p.items (i ∷ []) is d _ (does.runs k le (i ∷ is) κ (split p.items (i ∷ []) is res) st d ag
+          assoc k p.items (i ∷ []) is d _ (does.runs k le (i ∷ is) κ (resolves_split code p.items (i ∷ []) is res) st d ag
           (λ st1 d1 ag1 s1. assign_loc_step program code callers k n p.tree is (λ v. κ v st1) d1 does.small ag1.ranged
           (λ v e. h v st1 d1 (subst Small e (worth_small program.objects (desk_sight d1) ag1.ranged p.tree does.small)) ag1 s1.keeps)));
     }
@@ -300,7 +297,7 @@ module _ (program : TreeProgram) (code : List TreeItem) (callers : List Activati
       some = λ e. not_nil p.items (Ret p.tree) [] e;
       runs = λ k le is κ res st d ag h.
           let i = Ret p.tree in
-          assoc k p.items (i ∷ []) is d _ (does.runs k le (i ∷ is) κ (split p.items (i ∷ []) is res) st d ag
+          assoc k p.items (i ∷ []) is d _ (does.runs k le (i ∷ is) κ (resolves_split code p.items (i ∷ []) is res) st d ag
           (λ st1 d1 ag1 s1. ret_step program code callers k p.tree is (λ v. κ v st1) d1 does.small ag1.ranged
           (λ v e.
           let lt : v < 2 ^ 32 = subst Small e (worth_small program.objects (desk_sight d1) ag1.ranged p.tree does.small) in

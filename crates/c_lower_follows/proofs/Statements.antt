@@ -40,6 +40,7 @@ use Rattle.c_lower_scheme.proofs.Places.{local_is}
 use Rattle.c_lower_follows.proofs.Values.{SmallTree, Small, worth_small}
 use Rattle.c_lower_follows.proofs.Leads.{Leads, leads_wild, leads_quiet, leads_counted, leads_none, leads_below}
 use Rattle.c_lower_follows.proofs.Steps.{on, Desk, desk_sight, Resolves, resolves_back, at, at_items, state, silent, moves, assign_loc_step, ret_step, jump_step, jump_counts, label_step, label_counts}
+use Rattle.c_lower_follows.proofs.Steps.{resolves_split}
 use Rattle.c_lower_follows.proofs.Agreeing.{value, Agree, set_same, set_other, ranged_set}
 use Rattle.c_lower_follows.proofs.Doing.{DoesWay}
 use Rattle.c_lower_follows.proofs.Calling.{CodeOf, Calls}
@@ -69,9 +70,6 @@ module _ (program : TreeProgram) (code : List TreeItem) (callers : List Activati
 
   joined_at : (k : ℕ) (a b is : List Item) (d : Desk) (r : Runs) → Leads k r (from (a ++ (b ++ is)) d) → Leads k r (from ((a ++ b) ++ is) d)
   joined_at k a b is d r h = moves program code callers k (spelled_all ((a ++ b) ++ is)) (spelled_all (a ++ (b ++ is))) d r (ap spelled_all (append_assoc a b is)) h
-
-  parted : (a b is : List Item) → Resolves code ((a ++ b) ++ is) → Resolves code (a ++ (b ++ is))
-  parted a b is h = subst (Resolves code) (append_assoc a b is) h
 
   lands_below : (j k lb lc : ℕ) (inside : Bool) (outer scope : ℕ → Type 0) (is : List Item) (κ : Behind) → j ≤ k → Lands k lb lc inside outer scope is κ → Lands j lb lc inside outer scope is κ
   lands_below j k lb lc inside outer scope is κ le h = record {
@@ -188,7 +186,7 @@ module _ (program : TreeProgram) (code : List TreeItem) (callers : List Activati
         let b = is_zeroed n ds rest in
         let js = (declare size count ds rest l).items in
         let wider = more_within size scope n fit.0 within in
-        let res' = parted (clearing b n) js is res in
+        let res' = resolves_split code (clearing b n) js is res in
         let behind_it = resolves_back code (clearing b n) (js ++ is) res' in
         joined_at k (clearing b n) js is d _ (clear_does b n live k (js ++ is) (declared p next ds κ) st d ag
         (λ e st1 d1 ag1. declare_does ds rest (more scope n) (more live n) wider fit.1 (past_clear live scope rest n ds part) l k le is κ behind_it st1 d1 ag1 h)
@@ -196,7 +194,7 @@ module _ (program : TreeProgram) (code : List TreeItem) (callers : List Activati
     declare_does (BeginOf n e ∷ ds) rest scope live within fit part l k le is κ res st d ag h =
         let a = begin_of (mentions n e) n ((way size count e).deliver (InLocal n) size l) in
         let others = declare size count ds rest a.labels in
-        let res' = parted a.items others.items is res in
+        let res' = resolves_split code a.items others.items is res in
         let behind_it = resolves_back code a.items (others.items ++ is) res' in
         joined_at k a.items others.items is d _
         (begin_does (mentions n e) n e live (λ x x_live. within x (part.inside x x_live)) fit.0 refl (begin_fits live scope rest n e ds part fit.1) l k le
@@ -216,7 +214,7 @@ module _ (program : TreeProgram) (code : List TreeItem) (callers : List Activati
         let i = AssignLoc m w in
         let does = (expression live within e fit).low size l (omega arith) in
         let maps = fitted_maps program code callers size count live level within t in
-        joined_at k q.items (i ∷ []) is d _ (does.runs k le (i ∷ is) (λ v. store_at t (Local m) v (λ v. κ)) (parted q.items (i ∷ []) is res) st d ag
+        joined_at k q.items (i ∷ []) is d _ (does.runs k le (i ∷ is) (λ v. store_at t (Local m) v (λ v. κ)) (resolves_split code q.items (i ∷ []) is res) st d ag
         (λ st1 d1 ag1 s1. subst (λ r. Leads k r (from (i ∷ is) d1)) (maps.maps q.tree d1 (λ u. written (put_local m u st1) u (λ v. κ)))
         (set_local m k w live (more live m) is κ st1 d1 (maps.small q.tree does.small) (λ x sc ne. ⊎_elim (λ s. s) (λ eq. absurd (ne eq)) sc) ag1 h)))
     assigned_by (Some n) t m e live within fit at l k le is κ res st d ag h =
@@ -293,8 +291,8 @@ module _ (program : TreeProgram) (code : List TreeItem) (callers : List Activati
         let q = unless size count c l (suc l) in
         let asks = (expression scope within c fit).branch false l size (suc l) (omega arith) in
         let T : List Item = a.items ++ (Label l ∷ []) in
-        let res1 = parted q.items T is res in
-        let res2 = parted a.items (Label l ∷ []) is (resolves_back code q.items (T ++ is) res1) in
+        let res1 = resolves_split code q.items T is res in
+        let res2 = resolves_split code a.items (Label l ∷ []) is (resolves_back code q.items (T ++ is) res1) in
         let end_at : behind code l ≡ spelled_all is = (resolves_back code a.items (Label l ∷ is) res2).0 in
         joined_at k q.items T is d _ (asks.runs k le (T ++ is) (n κ) (κ Onward) res1 st d ag
         (λ st1 d1 ag1 s1. leads_quiet k _ _ (moves program code callers k (behind code l) (spelled_all is) d1 _ end_at (h.onward st1 d1 ag1)))
@@ -366,11 +364,11 @@ module _ (program : TreeProgram) (code : List TreeItem) (callers : List Activati
         let T3 : List Item = Label (suc l) ∷ [] in
         let T2 : List Item = Jump (suc l) ∷ Label l ∷ (b.items ++ T3) in
         let T1 : List Item = a.items ++ T2 in
-        let res0 = parted q.items T1 is res in
-        let res1 = parted a.items T2 is (resolves_back code q.items (T1 ++ is) res0) in
+        let res0 = resolves_split code q.items T1 is res in
+        let res1 = resolves_split code a.items T2 is (resolves_back code q.items (T1 ++ is) res0) in
         let res2 = resolves_back code a.items (T2 ++ is) res1 in
         let else_at : behind code l ≡ spelled_all ((b.items ++ T3) ++ is) = res2.1.0 in
-        let res3 = parted b.items T3 is res2.1.1 in
+        let res3 = resolves_split code b.items T3 is res2.1.1 in
         let end_at : behind code (suc l) ≡ spelled_all is = (resolves_back code b.items (T3 ++ is) res3).0 in
         joined_at k q.items T1 is d _ (asks.runs k le (T1 ++ is) (n κ) (o κ) res0 st d ag
         (λ st1 d1 ag1 s1. leads_quiet k _ _ (moves program code callers k (behind code l) (spelled_all ((b.items ++ T3) ++ is)) d1 _ else_at
@@ -404,8 +402,8 @@ module _ (program : TreeProgram) (code : List TreeItem) (callers : List Activati
         let asks = (expression scope within c fit).branch false (suc l) size (suc (suc l)) (omega arith) in
         let T2 : List Item = Jump l ∷ Label (suc l) ∷ [] in
         let T1 : List Item = b.items ++ T2 in
-        let res0 = parted q.items T1 is res.1 in
-        let res1 = parted b.items T2 is (resolves_back code q.items (T1 ++ is) res0) in
+        let res0 = resolves_split code q.items T1 is res.1 in
+        let res1 = resolves_split code b.items T2 is (resolves_back code q.items (T1 ++ is) res0) in
         let end_at : behind code (suc l) ≡ spelled_all is = (resolves_back code b.items (T2 ++ is) res1).1.0 in
         let top_at : behind code l ≡ spelled_all ((q.items ++ T1) ++ is) = res.0 in
         let low_h = lands_below k (suc k) lb lc inside outer scope is κ (omega arith) h in
@@ -442,7 +440,7 @@ module _ (program : TreeProgram) (code : List TreeItem) (callers : List Activati
         let asks = (expression scope within c fit).branch true l size b.labels (omega arith) in
         let T3 : List Item = Label (suc (suc l)) ∷ [] in
         let T2 : List Item = Label (suc l) ∷ (q.items ++ T3) in
-        let res3 = parted q.items T3 is (resolves_back code b.items (T2 ++ is) (parted b.items T2 is res.1.1)).1 in
+        let res3 = resolves_split code q.items T3 is (resolves_back code b.items (T2 ++ is) (resolves_split code b.items T2 is res.1.1)).1 in
         joined_at k q.items T3 is d _ (asks.runs k le (T3 ++ is) (turn_by p next (plain_loop c a) (stmt p next a) κ) (κ Onward) res3 st d ag
         (λ st1 d1 ag1 s1. turns st1 d1 ag1)
         (λ st1 d1 ag1 s1. label_counts program code callers k (suc (suc l)) is d1 _ (leads_quiet k _ _ (h.onward st1 d1 ag1))))
@@ -459,10 +457,10 @@ module _ (program : TreeProgram) (code : List TreeItem) (callers : List Activati
         let T2 : List Item = Label (suc l) ∷ (q.items ++ T3) in
         let T1 : List Item = b.items ++ T2 in
         let top_at : behind code l ≡ spelled_all (T1 ++ is) = res.1.0 in
-        let res1 = parted b.items T2 is res.1.1 in
+        let res1 = resolves_split code b.items T2 is res.1.1 in
         let res2 = resolves_back code b.items (T2 ++ is) res1 in
         let test_at : behind code (suc l) ≡ spelled_all ((q.items ++ T3) ++ is) = res2.0 in
-        let res3 = parted q.items T3 is res2.1 in
+        let res3 = resolves_split code q.items T3 is res2.1 in
         let end_at : behind code (suc (suc l)) ≡ spelled_all is = (resolves_back code q.items (T3 ++ is) res3).0 in
         let low_h = lands_below k (suc k) lb lc inside outer scope is κ (omega arith) h in
         let test_it : (st : State) (d : Desk) → fair scope st d → Leads k (next (Look (plain_loop c a)) κ st) (from ((q.items ++ T3) ++ is) d) = λ st d ag.
@@ -493,7 +491,7 @@ module _ (program : TreeProgram) (code : List TreeItem) (callers : List Activati
         let q = when size count c l b.labels in
         let T3 : List Item = Label (suc (suc l)) ∷ [] in
         let T2 : List Item = Label (suc l) ∷ (q.items ++ T3) in
-        let test_at : behind code (suc l) ≡ spelled_all ((q.items ++ T3) ++ is) = (resolves_back code b.items (T2 ++ is) (parted b.items T2 is res.1.1)).0 in
+        let test_at : behind code (suc l) ≡ spelled_all ((q.items ++ T3) ++ is) = (resolves_back code b.items (T2 ++ is) (resolves_split code b.items T2 is res.1.1)).0 in
         jump_step program code callers k (suc l) (Label l ∷ ((b.items ++ T2) ++ is)) _ d (moves program code callers k (behind code (suc l)) (spelled_all ((q.items ++ T3) ++ is)) d _ test_at
         (loop_look c a (suc l) l b scope within fit inside lb lc outer is res k le κ h
         (λ st1 d1 ag1. loop_turn c a (suc l) l b scope after within fit sub body inside lb lc outer is res k le κ h st1 d1 ag1) st d ag))
@@ -526,11 +524,11 @@ module _ (program : TreeProgram) (code : List TreeItem) (callers : List Activati
         let T2 : List Item = Label (suc l) ∷ (s.items ++ T3) in
         let T1 : List Item = b.items ++ T2 in
         let top_at : behind code l ≡ spelled_all ((q.items ++ T1) ++ is) = res.0 in
-        let res0 = parted q.items T1 is res.1 in
-        let res1 = parted b.items T2 is (resolves_back code q.items (T1 ++ is) res0) in
+        let res0 = resolves_split code q.items T1 is res.1 in
+        let res1 = resolves_split code b.items T2 is (resolves_back code q.items (T1 ++ is) res0) in
         let res2 = resolves_back code b.items (T2 ++ is) res1 in
         let step_at : behind code (suc l) ≡ spelled_all ((s.items ++ T3) ++ is) = res2.0 in
-        let res3 = parted s.items T3 is res2.1 in
+        let res3 = resolves_split code s.items T3 is res2.1 in
         let end_at : behind code (suc (suc l)) ≡ spelled_all is = (resolves_back code s.items (T3 ++ is) res3).1.0 in
         let low_h = lands_below k (suc k) lb lc inside outer scope is κ (omega arith) h in
         let again : (st : State) (d : Desk) → fair scope st d → Leads k (next (Look lp) κ st) (at_items program code callers (behind code l) d) = λ st d ag.
@@ -563,10 +561,10 @@ module _ (program : TreeProgram) (code : List TreeItem) (callers : List Activati
         let T2 : List Item = Label (suc l) ∷ (s.items ++ T3) in
         let T1 : List Item = b.items ++ T2 in
         let top_at : behind code l ≡ spelled_all (T1 ++ is) = res.1.0 in
-        let res1 = parted b.items T2 is res.1.1 in
+        let res1 = resolves_split code b.items T2 is res.1.1 in
         let res2 = resolves_back code b.items (T2 ++ is) res1 in
         let step_at : behind code (suc l) ≡ spelled_all ((s.items ++ T3) ++ is) = res2.0 in
-        let res3 = parted s.items T3 is res2.1 in
+        let res3 = resolves_split code s.items T3 is res2.1 in
         let end_at : behind code (suc (suc l)) ≡ spelled_all is = (resolves_back code s.items (T3 ++ is) res3).1.0 in
         let low_h = lands_below k (suc k) lb lc inside outer scope is κ (omega arith) h in
         let again : (st : State) (d : Desk) → fair scope st d → Leads k (next (Look lp) κ st) (counted (at_items program code callers (behind code l) d)) = λ st d ag.
@@ -599,8 +597,8 @@ module _ (program : TreeProgram) (code : List TreeItem) (callers : List Activati
         let T4 : List Item = Label (suc (suc l)) ∷ [] in
         let T3 : List Item = Label (suc (suc (suc l))) ∷ (q.items ++ T4) in
         let T2 : List Item = Label (suc l) ∷ (s.items ++ T3) in
-        let res3 = parted s.items T3 is (resolves_back code b.items (T2 ++ is) (parted b.items T2 is res.1.1)).1 in
-        let res4 = parted q.items T4 is (resolves_back code s.items (T3 ++ is) res3).1 in
+        let res3 = resolves_split code s.items T3 is (resolves_back code b.items (T2 ++ is) (resolves_split code b.items T2 is res.1.1)).1 in
+        let res4 = resolves_split code q.items T4 is (resolves_back code s.items (T3 ++ is) res3).1 in
         joined_at k q.items T4 is d _ (asks.runs k le (T4 ++ is) (turn_by p next (for_loop (Some c) e a) (stmt p next a) κ) (κ Onward) res4 st d ag
         (λ st1 d1 ag1 s1. turns st1 d1 ag1)
         (λ st1 d1 ag1 s1. label_counts program code callers k (suc (suc l)) is d1 _ (leads_quiet k _ _ (h.onward st1 d1 ag1))))
@@ -622,11 +620,11 @@ module _ (program : TreeProgram) (code : List TreeItem) (callers : List Activati
         let T2 : List Item = Label (suc l) ∷ (s.items ++ T3) in
         let T1 : List Item = b.items ++ T2 in
         let top_at : behind code l ≡ spelled_all (T1 ++ is) = res.1.0 in
-        let res1 = parted b.items T2 is res.1.1 in
+        let res1 = resolves_split code b.items T2 is res.1.1 in
         let res2 = resolves_back code b.items (T2 ++ is) res1 in
         let step_at : behind code (suc l) ≡ spelled_all ((s.items ++ T3) ++ is) = res2.0 in
-        let res3 = parted s.items T3 is res2.1 in
-        let res4 = parted q.items T4 is (resolves_back code s.items (T3 ++ is) res3).1 in
+        let res3 = resolves_split code s.items T3 is res2.1 in
+        let res4 = resolves_split code q.items T4 is (resolves_back code s.items (T3 ++ is) res3).1 in
         let end_at : behind code (suc (suc l)) ≡ spelled_all is = (resolves_back code q.items (T4 ++ is) res4).0 in
         let low_h = lands_below k (suc k) lb lc inside outer scope is κ (omega arith) h in
         let test_it : (st : State) (d : Desk) → fair scope st d → Leads k (next (Look lp) κ st) (from ((q.items ++ T4) ++ is) d) = λ st d ag.
@@ -663,7 +661,7 @@ module _ (program : TreeProgram) (code : List TreeItem) (callers : List Activati
         let T4 : List Item = Label (suc (suc l)) ∷ [] in
         let T3 : List Item = Label (suc (suc (suc l))) ∷ (q.items ++ T4) in
         let T2 : List Item = Label (suc l) ∷ (s.items ++ T3) in
-        let res3 = parted s.items T3 is (resolves_back code b.items (T2 ++ is) (parted b.items T2 is res.1.1)).1 in
+        let res3 = resolves_split code s.items T3 is (resolves_back code b.items (T2 ++ is) (resolves_split code b.items T2 is res.1.1)).1 in
         let test_at : behind code (suc (suc (suc l))) ≡ spelled_all ((q.items ++ T4) ++ is) = (resolves_back code s.items (T3 ++ is) res3).0 in
         jump_step program code callers k (suc (suc (suc l))) (Label l ∷ ((b.items ++ T2) ++ is)) _ d
         (moves program code callers k (behind code (suc (suc (suc l)))) (spelled_all ((q.items ++ T4) ++ is)) d _ test_at
@@ -741,7 +739,7 @@ module _ (program : TreeProgram) (code : List TreeItem) (callers : List Activati
       act_does (ForOf i c e a) rest scope live outer within sub inside fit part lb lc l = λ k le is κ res lands h st d ag.
           let x = effect size count i l in
           let y = for_of size count x.labels c e (lower size count a NoActions (suc (suc x.labels)) (suc x.labels)) in
-          let res' = parted x.items y.items is res in
+          let res' = resolves_split code x.items y.items is res in
           joined_at k x.items y.items is d _
           (first_part_does i c e a rest scope live within fit.0 part l k le (y.items ++ is) (look_by p next (for_loop c e a) (stmt p next a) κ) res' st d ag
           (λ st1 d1 ag1. for_does c e a x.labels scope (behind_act scope a) outer within fit.1 fit.2 (behind_more scope a)
@@ -757,7 +755,7 @@ module _ (program : TreeProgram) (code : List TreeItem) (callers : List Activati
       rows_by (MoreActions a row) scope live outer base within sub sub' inside fit part lb lc l k le is κ res h st d ag =
           let x = lower size count a row lb lc l in
           let y = lower_row size count row lb lc x.labels in
-          let res' = parted x.items y.items is res in
+          let res' = resolves_split code x.items y.items is res in
           let go_on : (live' : ℕ → Type 0) → Partly live' (behind_act scope a) [] row → (st1 : State) (d1 : Desk) → fair live' st1 d1
           → Leads k (stmts p next row κ st1) (from (y.items ++ is) d1) =
           λ live' part' st1 d1 ag1. rows_by row (behind_act scope a) live' outer base (behind_within size scope inside a fit.0 within) (λ z o. behind_more scope a z (sub z o))

@@ -1,5 +1,5 @@
 -- The steps of a tree program, item by item.
-use Rattle.std.proofs.Common.{◌≡◌, ℕ, zero, suc, ◌-◌, List, [], ◌∷◌, ◌++◌, length, Option, Some, None, refl, ap, arith, sym, ◌∙◌, subst}
+use Rattle.std.proofs.Common.{◌≡◌, ℕ, zero, suc, ◌-◌, List, [], ◌∷◌, ◌++◌, length, Option, Some, None, refl, ap, arith, sym, ◌∙◌, subst, append_assoc}
 use Rattle.std.specs.Prelude.{Bool, true, false, cond, slice_set}
 use Rattle.gg_base.specs.declared.size.Size.{Size}
 use Rattle.gg_base.specs.declared.size.Size.TheVariants as sizes
@@ -75,6 +75,9 @@ Resolves code (i ∷ is) = Goes code is i × Resolves code is
 pub resolves_back : (code : List TreeItem) (a b : List Item) → Resolves code (a ++ b) → Resolves code b
 resolves_back code [] b h = h
 resolves_back code (i ∷ a) b h = resolves_back code a b h.1
+
+pub resolves_split : (code : List TreeItem) (a b is : List Item) → Resolves code ((a ++ b) ++ is) → Resolves code (a ++ (b ++ is))
+resolves_split code a b is h = subst (Resolves code) (append_assoc a b is) h
 
 module _ (program : TreeProgram) (code : List TreeItem) (callers : List Activation) where
   abbrev pub activation : List TreeItem → Desk → Activation

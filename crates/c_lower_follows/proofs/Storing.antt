@@ -27,11 +27,11 @@ use Rattle.c_lower_scheme.specs.Assignments.{store_drop, store_low_at, store_low
 use Rattle.c_lower_scheme.proofs.Facts.{stable_inert}
 use Rattle.c_lower_follows.proofs.Values.{SmallTree, Small, worth_small}
 use Rattle.c_lower_follows.proofs.Leads.{Leads}
-use Rattle.c_lower_follows.proofs.Steps.{Desk, desk_sight, on, Resolves, resolves_back, lost, narrowed, written_at, assign_loc_step, assign_arg_step, assign_mem_step}
+use Rattle.c_lower_follows.proofs.Steps.{Desk, desk_sight, on, Resolves, resolves_back, lost, narrowed, written_at, assign_loc_step, assign_arg_step, assign_mem_step, resolves_split}
 use Rattle.c_lower_follows.proofs.Agreeing.{Below, alike_set, value, value_alike, value_stable, value_pure, Since, set_same, set_other, not_nil, back_nil}
 use Rattle.c_lower_follows.proofs.Placing.{stored_kept, stored_narrowed, conv_value, place_on, SmallPlace, PurePlace, ok, run_at, DoesPlace, DoesReady, fitted_maps, put_local_step}
 use Rattle.c_lower_follows.proofs.Placing.{put_argument_step, put_memory_step, whole_value, FitsPlace}
-use Rattle.c_lower_follows.proofs.Doing.{waits_by, Does, Drops, Delivers, assoc, split, save_temp}
+use Rattle.c_lower_follows.proofs.Doing.{waits_by, Does, Drops, Delivers, assoc, save_temp}
 
 -- what a part that may be saved, and the items behind it, leave
 pub record Held (size t0 v u : ℕ) (items : List Item) (st : State) (d : Desk) (st' : State) (d' : Desk) : Type 0 where
@@ -56,9 +56,6 @@ module _ (program : TreeProgram) (code : List TreeItem) (callers : List Activati
 
   abbrev pub then_at : (k : ℕ) (a b is : List Item) (d : Desk) (r : Runs) → Leads k r (go (a ++ (b ++ is)) d) → Leads k r (go ((a ++ b) ++ is) d)
   then_at k a b is d r h = assoc program code callers size count scope level k a b is d r h
-
-  abbrev pub apart : (a b is : List Item) → Resolves code ((a ++ b) ++ is) → Resolves code (a ++ (b ++ is))
-  apart a b is h = split program code callers size count scope level a b is h
 
   lost_at : (k : ℕ) (is : List Item) (d : Desk) → Leads k (stop ends.Wild) (go is d)
   lost_at k is d = lost program code callers k (spelled_all is) d
@@ -102,7 +99,7 @@ module _ (program : TreeProgram) (code : List TreeItem) (callers : List Activati
     grows = does.grows;
     runs = λ k le is κ res st d ag h.
         let i = assign_to r.type r.place r.value in
-        then_at k r.items (i ∷ []) is d _ (does.runs k le (i ∷ is) (λ ty s v. store_at ty s v (λ v. κ)) (apart r.items (i ∷ []) is res) st d ag
+        then_at k r.items (i ∷ []) is d _ (does.runs k le (i ∷ is) (λ ty s v. store_at ty s v (λ v. κ)) (resolves_split code r.items (i ∷ []) is res) st d ag
         (λ st1 d1 ag1 s1. assign_root r.place r.type r.value k is κ st1 d1 does.small does.small_value ag1
         (λ st2 d2 ag2 kept. h st2 d2 ag2 (record { keeps = λ j szj o. kept j szj ∙ s1.keeps j szj o; same = λ e. absurd (not_nil r.items i [] e) }))));
   }
@@ -133,7 +130,7 @@ module _ (program : TreeProgram) (code : List TreeItem) (callers : List Activati
     small = tt;
     runs = λ k le is κ res st d ag h.
         let i = AssignLoc n (fitted ty w) in
-        then_at k is0 (i ∷ []) is d _ (does.runs k le (i ∷ is) (λ ty s v. store_at ty s v κ) (apart is0 (i ∷ []) is res) st d ag
+        then_at k is0 (i ∷ []) is d _ (does.runs k le (i ∷ is) (λ ty s v. store_at ty s v κ) (resolves_split code is0 (i ∷ []) is res) st d ag
         (λ st1 d1 ag1 s1.
         subst (λ r. Leads k r (go (i ∷ is) d1)) (fit ty w d1 (λ u. written (put_local n u st1) u κ))
         (assign_loc_step program code callers k n (fitted ty w) is (λ u. written (put_local n u st1) u κ) d1 (fit_small ty w does.small_value) ag1.ranged
@@ -150,7 +147,7 @@ module _ (program : TreeProgram) (code : List TreeItem) (callers : List Activati
     small = tt;
     runs = λ k le is κ res st d ag h.
         let i = AssignArg n (fitted ty w) in
-        then_at k is0 (i ∷ []) is d _ (does.runs k le (i ∷ is) (λ ty s v. store_at ty s v κ) (apart is0 (i ∷ []) is res) st d ag
+        then_at k is0 (i ∷ []) is d _ (does.runs k le (i ∷ is) (λ ty s v. store_at ty s v κ) (resolves_split code is0 (i ∷ []) is res) st d ag
         (λ st1 d1 ag1 s1.
         subst (λ r. Leads k r (go (i ∷ is) d1)) (fit ty w d1 (λ u. written (put ty (Parameter n) u st1) u κ))
         (assign_arg_step program code callers k n (fitted ty w) is (λ u. written (put ty (Parameter n) u st1) u κ) d1 (fit_small ty w does.small_value) ag1.ranged
@@ -168,7 +165,7 @@ module _ (program : TreeProgram) (code : List TreeItem) (callers : List Activati
     runs = λ k le is κ res st d ag h.
         let i = AssignLoc u (fitted ty w) in
         let j = AssignMem (integer_of ty) a (Loc u) in
-        then_at k is0 (i ∷ j ∷ []) is d _ (does.runs k le (i ∷ j ∷ is) (λ ty s v. store_at ty s v κ) (apart is0 (i ∷ j ∷ []) is res) st d ag
+        then_at k is0 (i ∷ j ∷ []) is d _ (does.runs k le (i ∷ j ∷ is) (λ ty s v. store_at ty s v κ) (resolves_split code is0 (i ∷ j ∷ []) is res) st d ag
         (λ st1 d1 ag1 s1. address_by k a (i ∷ j ∷ is) (λ s. on (value program w d1) (λ v. store_at ty s v κ st1)) d1 (value program a d1) refl pure
         (λ x ex.
         subst (λ r. Leads k r (go (i ∷ j ∷ is) d1)) (fit ty w d1 (λ c. written (put ty (Memory x) c st1) c κ))
@@ -270,7 +267,7 @@ module _ (program : TreeProgram) (code : List TreeItem) (callers : List Activati
       → ((v : ℕ) (st' : State) (d' : Desk) → good st' d' → Since size t r.temps (q.items ++ r.items) st d st' d' → d'.locals x ≡ Some v → Leads k (κ v st') (go is d'))
       → Leads k (m (λ ty s. n (λ v. store_at ty s v κ)) st) (go ((q.items ++ r.items) ++ is) d)
   fill x q r t m n at whole lt does does' k le is κ res st d ag h =
-      let res1 = apart q.items r.items is res in
+      let res1 = resolves_split code q.items r.items is res in
       then_at k q.items r.items is d _ (does.runs k le (r.items ++ is) (λ ty s. n (λ v. store_at ty s v κ)) res1 st d ag
       (λ st1 d1 ag1 s1. subst (λ s. Leads k (place_on program s d1 (λ s. n (λ v. store_at q.type s v κ) st1)) (go (r.items ++ is) d1)) (sym at)
       (does'.runs k le is (λ v. store_at q.type (Local x) v κ) (resolves_back code q.items (r.items ++ is) res1) st1 d1 ag1
