@@ -37,16 +37,16 @@ use Rattle.sel_parse_selected.specs.Spills.{due}
 use Rattle.sel_parse_selected.specs.Reductions.{reloaded}
 use Rattle.sel_parse_selected.specs.Selected.{selecting}
 use Rattle.sel_parse_stands.specs.Stands as stands
-use Rattle.sel_parse_stands.specs.Stands.{ClassIs, SymbolIs, Sees, IsFrame, Holds}
+use Rattle.sel_parse_stands.specs.Stands.{ClassIs, SymbolIs, IsFrame, Holds}
 use Rattle.sel_parse_stands.specs.Lines.{LinesSave}
-use Rattle.sel_parse_stands.proofs.Loaded.{AllLoaded}
+use Rattle.sel_parse_stands.proofs.Loaded.{AllLoaded, all_loaded}
 use Rattle.sel_parse_stands.proofs.Carrying.{AllUntouched, AllCarried, same_state}
 use Rattle.sel_parse_stands.proofs.Keeping.{none_touched, holds_kept, sees_kept, avoided, comes_on}
 use Rattle.sel_parse_stands.proofs.Parting.{parted_at}
-use Rattle.sel_parse_stands.proofs.Desks.{IsDue, Works, LoadedTo, due_works, reloaded_works, all_loaded, holds_length, full_done, stuck_done}
+use Rattle.sel_parse_stands.proofs.Desks.{IsDue, Works, LoadedTo, due_works, reloaded_works, holds_length, full_done, stuck_done}
 use Rattle.sel_parse_effect.specs.Standing.{Standing}
 use Rattle.sel_parse_effect.proofs.Giving as giving
-use Rattle.sel_parse_effect.proofs.Giving.{no_save_kind, Later, Leaves, Shaped}
+use Rattle.sel_parse_effect.proofs.Giving.{Later, Shaped}
 
 pub reg_is : (k : Option Kind) → is_reg k ≡ true → k ≡ Some kind.Reg
 reg_is None e = absurd (cc)
@@ -116,7 +116,7 @@ module _ {O I S F : Type 0} (of : Meaning O I S F) (law : IsLawful of) (q : Tree
     pub ready : (y : Desk O I) → Working y → LoadedTo of law q d first f fs t s m0 frame lines before.state rule.right Start.symbols vs a us (0 + length rule.right) y.symbols → Ready y
     ready y works loaded = record {
       works = works;
-      loaded = all_loaded of law q d first f fs t s m0 frame lines before.state rule.right Start.symbols vs a us y.symbols (0 + length rule.right)
+      loaded = all_loaded y.symbols (0 + length rule.right)
           (let e = holds_length of law q d first f fs t s m0 frame lines before.state rule.right Start.symbols vs a us works.state y.symbols rule.right vs works.symbols in omega (arith, e))
           loaded;
     }

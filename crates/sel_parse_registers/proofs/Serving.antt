@@ -1,5 +1,5 @@
 -- A reduction finds its registers, and behind it each register is held by one entry at most.
-use Rattle.std.proofs.Common.{◌≡◌, ℕ, zero, suc, ◌+◌, ◌<◌, ◌≤◌, ◌==◌, List, [], ◌∷◌, length, slice_get, Option, Some, None, Bool, true, false, refl, ap, ◌∙◌, subst, arith}
+use Rattle.std.proofs.Common.{◌≡◌, ℕ, zero, suc, ◌+◌, ◌<◌, ◌≤◌, ◌==◌, List, length, slice_get, Option, Some, None, Bool, true, false, refl, ap, ◌∙◌, subst, arith}
 use Rattle.std.specs.Prelude.{slice_set, count_ones, Ok}
 use Rattle.std.specs.List.{list_any}
 use Rattle.std.proofs.lemmas.Bool.{eqb-false, eqb-true}
@@ -26,18 +26,13 @@ use Rattle.sel_parse_selected.specs.Entries.{Entry, attrs}
 use Rattle.sel_parse_selected.specs.Desk.{Stack, Desk, desk_of, held}
 use Rattle.sel_parse_selected.specs.Spills.{due}
 use Rattle.sel_parse_selected.specs.Reductions.{own_register, own_number, shaped, finished, with_result, with_scratch, given_by, loaded, reloaded_by, reloaded_at, reloaded, reduced}
-use Rattle.sel_parse_stands.proofs.Loaded.{IsLoaded, AllLoaded}
+use Rattle.sel_parse_stands.proofs.Loaded.{AllLoaded, all_loaded}
 use Rattle.sel_parse_slots.proofs.Counts.{tick, total_set, tick_small}
-use Rattle.sel_parse_slots.proofs.Counting.{AllFine, Counted, IsDue, due_good, one_good, fine_at, slot_kind}
+use Rattle.sel_parse_slots.proofs.Counting.{Counted, IsDue, due_good, one_good, fine_at, slot_kind, fine_length}
 use Rattle.sel_parse_slots.proofs.Finishing.{all_fit, right_none}
 use Rattle.sel_parse_registers.proofs.Pools.{tick_implied, none_total, map_total, map_at, free_parts}
 use Rattle.sel_parse_registers.proofs.Owning.{Had, had_bind, had_both, holds, holders, in_pool, Owned, OwnedAt, register_other, slot_none}
 use Rattle.sel_parse_registers.proofs.Owning.{symbols_kinds, symbols_less, room_now, room_given, IsGot, due_had}
-
-all_in : {O : Type 0} (es : List (Entry O)) (n : ℕ) → length es ≤ n → ((j : ℕ) (e : Entry O) → j < n → slice_get es j ≡ Some e → IsLoaded e.attr) → AllLoaded es
-all_in [] n le h = tt
-all_in (e ∷ es) zero le h = absurd (omega (arith, le))
-all_in (e ∷ es) (suc n) le h = (h zero e (omega arith) refl, all_in es n (omega (arith, le)) (λ j x lt there. h (suc j) x (omega (arith, lt)) there))
 
 -- a rule needs as many registers as its right side has
 needed : (g : Give) (n : ℕ) → n ≤ need_of g n
@@ -48,12 +43,6 @@ needed give.Nothing n = omega arith
 needed (give.Shape l) n = omega arith
 
 module _ {O I S F : Type 0} (of : Meaning O I S F) (law : IsLawful of) (q : TreeProgram) (can : of.can_write q) (d : Content) (valid : IsPool d.pool) (first : ℕ) where
-  fine_length : (ss : List Sym) (es : List (Entry O)) → AllFine of law q d first ss es → length es ≡ length ss
-  fine_length [] [] h = refl
-  fine_length [] (e ∷ es) h = absurd h
-  fine_length (s ∷ ss) [] h = absurd h
-  fine_length (s ∷ ss) (e ∷ es) h = ap suc (fine_length ss es h.1)
-
   -- a register that is free, and another one
   module _ (v : ℕ) (lt : v < 12) where
     alone : (r : ℕ) → (b : Bool) → (r == v) ≡ b → tick (attr_touches of (attr.Reg v) (RegAt r)) ≤ tick b
@@ -182,8 +171,8 @@ module _ {O I S F : Type 0} (of : Meaning O I S F) (law : IsLawful of) (q : Tree
     abbrev Now : Desk O I → Type 0
     Now y = Counted of law q d first rule.right a c gb gs (0 + length rule.right) y
 
-    all_loaded : (y : Desk O I) → Now y → AllLoaded y.symbols
-    all_loaded y h = (let size = fine_length rule.right y.symbols h.symbols_fine in all_in y.symbols (0 + length rule.right) (omega (arith, size)) h.loaded_to)
+    desk_loaded : (y : Desk O I) → Now y → AllLoaded y.symbols
+    desk_loaded y h = (let size = fine_length of law q d first rule.right y.symbols h.symbols_fine in all_loaded y.symbols (0 + length rule.right) (omega (arith, size)) h.loaded_to)
 
     -- a shape holds only what its symbols hold
     shape_owned : (y : Desk O I) → Now y → (l : Line) → rule.give ≡ give.Shape l → (k : Option Kind) → kind_at d.classes rule.left ≡ k → (r : ℕ)
@@ -192,7 +181,7 @@ module _ {O I S F : Type 0} (of : Meaning O I S F) (law : IsLawful of) (q : Tree
       where
         operand : (k : Kind) → kind_at d.classes rule.left ≡ Some k → (k ≡ kind.Nothing → ⊥) → tick (touches of (of.operand q l (attrs y.symbols)) (RegAt r)) ≤ holders of r y.symbols
         operand k is apart =
-            let fit = all_fit of law q can d first rule.right y.symbols h.symbols_fine (all_loaded y h) (right_none d.classes rule k is_rule is apart) in
+            let fit = all_fit of law q can d first rule.right y.symbols h.symbols_fine (desk_loaded y h) (right_none d.classes rule k is_rule is apart) in
             let x =
             tick_implied (touches of (of.operand q l (attrs y.symbols)) (RegAt r)) (list_any (λ b. attr_touches of b (RegAt r)) (attrs y.symbols))
             (λ e. law.spells.shape_touches q d.classes rule effect l (attrs y.symbols) (RegAt r) taken mode fit e) in

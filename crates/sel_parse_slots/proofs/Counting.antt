@@ -1,5 +1,5 @@
 -- A reduction uses no more words than the entries before it hold registers and slots.
-use Rattle.std.proofs.Common.{◌≡◌, ◌⊎◌, inl, inr, ℕ, zero, suc, ◌+◌, ◌-◌, ◌<◌, ◌≤◌, List, [], ◌∷◌, ◌++◌, Option, Some, None, Bool, true, false, refl, sym, ap, ◌∙◌, subst, arith}
+use Rattle.std.proofs.Common.{◌≡◌, ◌⊎◌, inl, inr, ℕ, zero, suc, ◌+◌, ◌-◌, ◌<◌, ◌≤◌, List, [], ◌∷◌, ◌++◌, Option, Some, None, Bool, true, false, refl, sym, ap, ◌∙◌, subst, arith, length}
 use Rattle.std.proofs.Common.{slice_get, eq-or-lt_of_le, le_of_suc-le-suc}
 use Rattle.std.specs.Prelude.{not, if◌then◌else◌, slice_set}
 use Rattle.std.proofs.lemmas.Bool.Decides.{nat_tests}
@@ -90,6 +90,12 @@ module _ {O I S F : Type 0} (of : Meaning O I S F) (law : IsLawful of) (q : Tree
     h.1,
   )
   within_set (x ∷ es) (g ∷ gs) (suc i) a b e le h = (h.0, within_set es gs i a b e le h.1)
+
+  pub fine_length : (ss : List Sym) (es : List (Entry O)) → AllFine ss es → length es ≡ length ss
+  fine_length [] [] h = refl
+  fine_length [] (e ∷ es) h = absurd h
+  fine_length (s ∷ ss) [] h = absurd h
+  fine_length (s ∷ ss) (e ∷ es) h = ap suc (fine_length ss es h.1)
 
   pub fine_at : (ss : List Sym) (es : List (Entry O)) (i : ℕ) (e : Entry O) → AllFine ss es → slice_get es i ≡ Some e → (s : Sym) × (slice_get ss i ≡ Some s) × Fine s e.attr
   fine_at ss [] i e h at = absurd (none-some e at)

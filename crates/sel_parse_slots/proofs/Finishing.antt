@@ -41,7 +41,7 @@ use Rattle.sel_parse_selected.specs.Entries.{Entry, attrs}
 use Rattle.sel_parse_selected.specs.Desk.{Stack, Desk, desk_of}
 use Rattle.sel_parse_selected.specs.Spills.{due}
 use Rattle.sel_parse_selected.specs.Reductions.{own_register, own_number, shaped, finished, with_result, with_scratch, given_by, reloaded, reduced}
-use Rattle.sel_parse_stands.proofs.Loaded.{IsLoaded, AllLoaded}
+use Rattle.sel_parse_stands.proofs.Loaded.{IsLoaded, AllLoaded, all_loaded}
 use Rattle.sel_parse_effect.proofs.Reducing.{reg_is, nothing_is}
 use Rattle.sel_parse_effect.proofs.Shapes.{one_hole, reg_symbol, con_symbol, IsNumeric, const_number}
 use Rattle.sel_parse_effect.proofs.Shapes as shapes
@@ -51,7 +51,7 @@ use Rattle.sel_parse_slots.specs.Claims.{IsOwn}
 use Rattle.sel_parse_slots.proofs.Counts.{count, count_less, count_any, count_one, tick, total}
 use Rattle.sel_parse_slots.proofs.Fine as fine
 use Rattle.sel_parse_slots.proofs.Fine.{registers, words, charge, IsFine}
-use Rattle.sel_parse_slots.proofs.Counting.{Good, good_bind, sum, charge_of, AllFine, Within, within_total, weights, Counted, IsDue, due_good, reloaded_good}
+use Rattle.sel_parse_slots.proofs.Counting.{Good, good_bind, sum, charge_of, AllFine, Within, within_total, weights, Counted, IsDue, due_good, reloaded_good, fine_length}
 
 -- ---- no class of statements stands in a right side
 
@@ -121,7 +121,7 @@ module _ {O I S F : Type 0} (of : Meaning O I S F) (law : IsLawful of) (q : Tree
   sym_spelled s a (fine.slot c w e lt) = tt
   sym_spelled s a (fine.statement c e) = tt
 
-  all_spelled : (ss : List Sym) (es : List (Entry O)) → AllFine of law q d first ss es → AreSpelled q (attrs es)
+  pub all_spelled : (ss : List Sym) (es : List (Entry O)) → AllFine of law q d first ss es → AreSpelled q (attrs es)
   all_spelled [] [] h = tt
   all_spelled [] (e ∷ es) h = absurd h
   all_spelled (s ∷ ss) [] h = absurd h
@@ -341,19 +341,8 @@ module _ {O I S F : Type 0} (of : Meaning O I S F) (law : IsLawful of) (q : Tree
       done : (i : ℕ) (y : Desk O I) (result out : Attr O) → In i y → Given rule.left g out → Good (first + c) (finished of q d first rule result out y) Reduced
       done i y result out h k = record { most_within = h.most_within; within = (k.charge_is, h.below_within); all_fine = (k.fine_is, h.below_fine) }
 
-      all_in : (bs : List (Entry O)) (n : ℕ) → length bs ≤ n → ((j : ℕ) (e : Entry O) → j < n → slice_get bs j ≡ Some e → IsLoaded e.attr) → AllLoaded bs
-      all_in [] n le h = tt
-      all_in (b ∷ bs) zero le h = absurd (omega (arith, le))
-      all_in (b ∷ bs) (suc n) le h = (h zero b (omega arith) refl, all_in bs n (omega (arith, le)) (λ j e lt there. h (suc j) e (omega (arith, lt)) there))
-
-      fine_length : (ss : List Sym) (es : List (Entry O)) → AllFine of law q d first ss es → length es ≡ length ss
-      fine_length [] [] h = refl
-      fine_length [] (e ∷ es) h = absurd h
-      fine_length (s ∷ ss) [] h = absurd h
-      fine_length (s ∷ ss) (e ∷ es) h = ap suc (fine_length ss es h.1)
-
-      all_loaded : (y : Desk O I) → In (0 + length rule.right) y → AllLoaded y.symbols
-      all_loaded y h = (let size = fine_length rule.right y.symbols h.symbols_fine in all_in y.symbols (0 + length rule.right) (omega (arith, size)) h.loaded_to)
+      desk_loaded : (y : Desk O I) → In (0 + length rule.right) y → AllLoaded y.symbols
+      desk_loaded y h = (let size = fine_length of law q d first rule.right y.symbols h.symbols_fine in all_loaded y.symbols (0 + length rule.right) (omega (arith, size)) h.loaded_to)
 
       all_low : (y : Desk O I) → In (0 + length rule.right) y → total (charge_of of law q d first) y.symbols ≤ g
       all_low y h = (let in_all = within_total of law q d first y.symbols gs h.symbols_within in omega (arith, in_all, low))
@@ -361,7 +350,7 @@ module _ {O I S F : Type 0} (of : Meaning O I S F) (law : IsLawful of) (q : Tree
       -- behind the reloads the symbol that a register's shape names is a register
       pub register_named : (y : Desk O I) → In (0 + length rule.right) y → (l : Line) → shape_fits d.classes rule.right (Some kind.Reg) l.pieces ≡ true
           → (r : ℕ) × (r < 12) × (hole (attrs y.symbols) (first_hole l.pieces) ≡ Some (attr.Reg r))
-      register_named y h l fits = shape_register y.symbols h.symbols_fine (all_loaded y h) (all_low y h) l fits
+      register_named y h l fits = shape_register y.symbols h.symbols_fine (desk_loaded y h) (all_low y h) l fits
 
       given_good : (gv : Give) (y : Desk O I) → In (0 + length rule.right) y → rule.give ≡ gv → MayGive d.classes rule.left rule.right gv
           → Good (first + c) (given_by of q d first rule gv y) Reduced
@@ -380,7 +369,7 @@ module _ {O I S F : Type 0} (of : Meaning O I S F) (law : IsLawful of) (q : Tree
       given_good give.Nothing y h mode may = done (0 + length rule.right) y attr.Nothing attr.Nothing h (nothing_given (nothing_is (kind_at d.classes rule.left) may))
       given_good (give.Shape l) y h mode may =
           done (0 + length rule.right) y attr.Nothing (shaped of q d first (kind_at d.classes rule.left) l (attrs y.symbols)) h
-          (shape_given y.symbols h.symbols_fine (all_loaded y h) (all_low y h) l mode (kind_at d.classes rule.left) refl may.1)
+          (shape_given y.symbols h.symbols_fine (desk_loaded y h) (all_low y h) l mode (kind_at d.classes rule.left) refl may.1)
 
       -- before the reloads
       pub started : (x : Stack O I) → x.most ≤ first + c → sum gb + sum gs ≤ c

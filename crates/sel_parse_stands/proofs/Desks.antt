@@ -36,7 +36,7 @@ use Rattle.sel_parse_selected.specs.Reductions.{loaded, reloaded_by, reloaded_at
 use Rattle.sel_parse_stands.specs.Stands as stands
 use Rattle.sel_parse_stands.specs.Stands.{ClassIs, SymbolIs, Sees, IsFrame, Holds}
 use Rattle.sel_parse_stands.specs.Lines.{LinesSave}
-use Rattle.sel_parse_stands.proofs.Loaded.{IsLoaded, AllLoaded}
+use Rattle.sel_parse_stands.proofs.Loaded.{IsLoaded}
 use Rattle.sel_parse_stands.proofs.Carrying.{AllUntouched, Carried, on, stays, AllCarried, all_carried_on}
 use Rattle.sel_parse_stands.proofs.Keeping.{holds_kept, sees_kept, not_held, comes_on}
 use Rattle.sel_parse_stands.proofs.Saving.{lowest_found, entry_saved, slot_holds_none, register_loaded}
@@ -586,11 +586,6 @@ module _ {O I S F : Type 0} (of : Meaning O I S F) (law : IsLawful of) (q : Tree
             chained x p (go x (let e : suc i ≡ i + 1 = omega arith in subst (λ k. LoadedTo k x.symbols) e p.loaded) g)
 
     -- all symbols are loaded behind it
-    pub all_loaded : (bs : List (Entry O)) (n : ℕ) → length bs ≤ n → LoadedTo n bs → AllLoaded bs
-    all_loaded [] n le h = tt
-    all_loaded (b ∷ bs) zero le h = absurd (omega (arith, le))
-    all_loaded (b ∷ bs) (suc n) le h =
-        (h zero b (omega arith) refl, all_loaded bs n (omega (arith, le)) (λ j e lt there. h (suc j) e (omega (arith, lt)) there))
 
     pub holds_length : (m' : S) (bs : List (Entry O)) (xs : List Sym) (ws : List Sense) → Hold m' bs xs ws → length bs ≡ length xs
     holds_length m' [] [] [] h = refl

@@ -1,11 +1,10 @@
 -- The lines of a reduction pass.
-use Rattle.std.proofs.Common.{◌≡◌, ℕ, zero, suc, ◌+◌, ◌<◌, ◌≤◌, ◌==◌, List, [], ◌∷◌, length, Option, Some, Bool, true, false, refl, sym, ap, subst, arith, slice_get}
+use Rattle.std.proofs.Common.{◌≡◌, ℕ, ◌+◌, ◌==◌, List, [], ◌∷◌, length, Bool, true, false, refl, sym, subst, arith}
 use Rattle.std.specs.Prelude.{not, ◌&&◌, Ok}
 use Rattle.std.specs.Int.{bit_at}
 use Rattle.std.proofs.lemmas.Bool.{not-true, or_parts}
 use Rattle.gg_base.proofs.Facts.{second_true, all_append}
 use Rattle.tree_core.specs.declared.program.TreeProgram.{TreeProgram}
-use Rattle.md_reader.specs.declared.types.Kind.{Kind}
 use Rattle.md_reader.specs.declared.types.Kind.TheVariants as kind
 use Rattle.md_reader.specs.declared.types.Give.{Give}
 use Rattle.md_reader.specs.declared.types.Give.TheVariants as give
@@ -20,19 +19,17 @@ use Rattle.sel_target.specs.declared.attr.Attr.{Attr}
 use Rattle.sel_target.specs.declared.attr.Attr.TheVariants as attr
 use Rattle.sel_target.specs.Meaning.{Meaning, Spot, RegAt}
 use Rattle.sel_target.specs.Laws.{IsLawful}
-use Rattle.sel_target.specs.Instances.{attr_touches, Avoids, KindFits, IsResult, lines_of}
-use Rattle.sel_target.specs.Spelled.{TokenIsSpelled, AreSpelled}
+use Rattle.sel_target.specs.Instances.{attr_touches, Avoids, IsResult, lines_of}
 use Rattle.sel_parse_selected.specs.Entries.{Entry, attrs}
 use Rattle.sel_parse_selected.specs.Desk.{Stack, Desk, desk_of, held, is_free_register}
 use Rattle.sel_parse_selected.specs.Spills.{due}
 use Rattle.sel_parse_selected.specs.Reductions.{reloaded, finished, shaped, with_result, with_scratch, given_by, reduced}
 use Rattle.sel_parse_stands.specs.Lines.{LinesSave}
-use Rattle.sel_parse_stands.proofs.Loaded.{IsLoaded, AllLoaded}
+use Rattle.sel_parse_stands.proofs.Loaded.{all_loaded}
 use Rattle.sel_parse_lines.proofs.Each.{Each, each_bind}
 use Rattle.sel_parse_slots.proofs.Fine as fine
-use Rattle.sel_parse_slots.proofs.Fine.{IsFine}
-use Rattle.sel_parse_slots.proofs.Counting.{AllFine, Counted}
-use Rattle.sel_parse_slots.proofs.Finishing.{all_fit}
+use Rattle.sel_parse_slots.proofs.Counting.{Counted, fine_length}
+use Rattle.sel_parse_slots.proofs.Finishing.{all_fit, all_spelled}
 use Rattle.sel_parse_written.specs.Claims.{LinesPass}
 use Rattle.sel_parse_written.proofs.Rights.{right_none}
 use Rattle.sel_parse_written.proofs.Classes.{AllKinds}
@@ -52,39 +49,6 @@ module _ {O I S F : Type 0} (of : Meaning O I S F) (law : IsLawful of) (q : Tree
       (not-true (held of desk.symbols (RegAt r))
       (second_true (not (held of desk.below (RegAt r))) (not (held of desk.symbols (RegAt r)))
       (second_true (bit_at d.pool r == 1) (not (held of desk.below (RegAt r)) && not (held of desk.symbols (RegAt r))) h)))
-
-  -- ---- symbols in place can be spelled
-
-  class_spelled : (k : Option Kind) (a : Attr O) → KindFits of k a → TokenIsSpelled q a
-  class_spelled (Some kind.Reg) (attr.Reg r) h = tt
-  class_spelled (Some (kind.Value z)) (attr.Value o) h = tt
-  class_spelled (Some (kind.Place z)) (attr.Place o) h = tt
-  class_spelled (Some kind.Con) (attr.Con n) h = tt
-  class_spelled (Some kind.Ea) (attr.Ea o) h = tt
-  class_spelled k a h = absurd h
-
-  sym_spelled : (s : Sym) (a : Attr O) → IsFine of law q d first s a → TokenIsSpelled q a
-  sym_spelled s a (fine.token l fit own) = own.spelled
-  sym_spelled s a (fine.class c a' fit) = class_spelled (kind_at d.classes c) a fit
-  sym_spelled s a (fine.slot c w e lt) = tt
-  sym_spelled s a (fine.statement c e) = tt
-
-  all_spelled : (ss : List Sym) (es : List (Entry O)) → AllFine of law q d first ss es → AreSpelled q (attrs es)
-  all_spelled [] [] h = tt
-  all_spelled [] (e ∷ es) h = absurd h
-  all_spelled (s ∷ ss) [] h = absurd h
-  all_spelled (s ∷ ss) (e ∷ es) h = (sym_spelled s e.attr h.0, all_spelled ss es h.1)
-
-  fine_length : (ss : List Sym) (es : List (Entry O)) → AllFine of law q d first ss es → length es ≡ length ss
-  fine_length [] [] h = refl
-  fine_length [] (e ∷ es) h = absurd h
-  fine_length (s ∷ ss) [] h = absurd h
-  fine_length (s ∷ ss) (e ∷ es) h = ap suc (fine_length ss es h.1)
-
-  all_in : (es : List (Entry O)) (n : ℕ) → length es ≤ n → ((j : ℕ) (e : Entry O) → j < n → slice_get es j ≡ Some e → IsLoaded e.attr) → AllLoaded es
-  all_in [] n le h = tt
-  all_in (e ∷ es) zero le h = absurd (omega (arith, le))
-  all_in (e ∷ es) (suc n) le h = (h zero e (omega arith) refl, all_in es n (omega (arith, le)) (λ j x lt there. h (suc j) x (omega (arith, lt)) there))
 
   -- entries with their classes' kinds, and a code that passes
   pub record IsStacked (a : List Sym) (x : Stack O I) : Type 0 where
@@ -108,13 +72,13 @@ module _ {O I S F : Type 0} (of : Meaning O I S F) (law : IsLawful of) (q : Tree
     finished_passes : (y : Desk O I) (result given : Attr O) → Count (0 + length rule.right) y → Wrote y → IsResult of rule.give (attrs y.symbols) result
         → Each Stacked (finished of q d first rule result given y)
     finished_passes y result given h g is =
-        let size = fine_length rule.right y.symbols h.symbols_fine in
-        let loaded = all_in y.symbols (0 + length rule.right) (omega (arith, size)) h.loaded_to in
+        let size = fine_length of law q d first rule.right y.symbols h.symbols_fine in
+        let loaded = all_loaded y.symbols (0 + length rule.right) (omega (arith, size)) h.loaded_to in
         let fits = all_fit of law q can d first rule.right y.symbols h.symbols_fine loaded (right_none d.classes rule is_rule) in
         record {
           kinds = (refl, g.below);
           code = all_append (λ (i : I). good i ≡ true) y.code (lines_of of q rule (attrs y.symbols) result) g.code
-              (pass.rules rule effect (attrs y.symbols) result is_rule taken fits (all_spelled rule.right y.symbols h.symbols_fine) is);
+              (pass.rules rule effect (attrs y.symbols) result is_rule taken fits (all_spelled of law q can d first rule.right y.symbols h.symbols_fine) is);
         }
 
     abbrev Due : Bool → Desk O I → Type 0
