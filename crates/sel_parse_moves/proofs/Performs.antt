@@ -28,7 +28,7 @@ use Rattle.md_reader.specs.Valid.{IsRule}
 use Rattle.term_core.specs.Value.{State}
 use Rattle.sel_terms.specs.Effects.{EffectShape}
 use Rattle.sel_terms.specs.Wanted.{first_part}
-use Rattle.sel_terms.specs.Reading.{stack_from, effect_read}
+use Rattle.sel_terms.specs.Reading.{stack_from}
 use Rattle.lr_check_parse.specs.Moves.{Move, Shift, Reduce}
 use Rattle.lr_check_parse.specs.Attributes.{Selecting, answered}
 use Rattle.sel_parse_moves.specs.Made.{Made}
@@ -48,6 +48,7 @@ use Rattle.tree_meaning_tame.proofs.Sorts.{sort_tame}
 use Rattle.sel_terms_trees.proofs.Patterns.{numbered, pattern_law}
 use Rattle.sel_terms_trees.proofs.Rules.{effect_by, zero_there, sort_undivided, Comes, Fails, IsZeroAt, decided}
 use Rattle.sel_terms_trees.proofs.Statements.{ActIs, act_law}
+use Rattle.sel_terms_trees.proofs.Law.{effect_is}
 
 piled_both : {Y : Type 0} (us vs b : List Y) → piled (us ++ vs) b ≡ piled vs (piled us b)
 piled_both [] vs b = refl
@@ -190,9 +191,6 @@ module _ {X A : Type 0} (of : Selecting X A) (classes : List Class) (rules : Lis
       by (inl q) = inl (record { state = q.state; senses = r.sense ∷ q.senses; sensed = sense.class c r.sense passes no_tree beside r.is q.sensed; made = q.made; stands = q.stands })
 
   -- a reduction
-  effect_at : (r : Rule) (k : Kind) → kind_at classes r.left ≡ Some k → effect_read classes r ≡ effect_by (Some k) (first_part (stack_from classes 1 r.right))
-  effect_at r k e = ap (λ (o : Option Kind). effect_by o (first_part (stack_from classes 1 r.right))) e
-
   rule_done : (n : ℕ) (r : Rule) (k : Kind) (x0 y0 : Sort) (pattern : Trees (sorted_test classes) (y0 ∷ [])) (l : Leaf) (f : Forest) (a : List Sym) (us : List Sense) (rest : List (Move Leaf))
       (y : X) →
       slice_get rules n ≡ Some r → kind_at classes r.left ≡ Some k → y0 ≡ sort_of_kind k → (k ≡ kind.Nothing → ⊥) → fits y0 x0 ≡ true → onto pattern [] ≡ r.right
@@ -223,12 +221,12 @@ module _ {X A : Type 0} (of : Selecting X A) (classes : List Class) (rules : Lis
             made = q.made;
             stands = I.gives w.state q.state n r a us w.senses c.sense there size holds stands
                 (sense_fits objects s (tree_means objects s l f) c.sense (kind_at classes r.left) (subst (λ (o : Option Kind). IsSense objects s o (tree_means objects s l f) c.sense) (sym kind) c.is))
-                (λ m st. subst (λ (e : EffectShape). GivesBy objects s w.senses e c.sense m) (sym (effect_at r k kind)) (c.gives m st)) q.red;
+                (λ m st. subst (λ (e : EffectShape). GivesBy objects s w.senses e c.sense m) (sym (effect_is classes r k kind)) (c.gives m st)) q.red;
           })
           cases (inr c) = inr (record {
             trapped = trapped_on q.made
                 (I.traps w.state q.state n r a us w.senses there size holds stands
-                (λ m st. subst (λ (e : EffectShape). TrapsBy objects s w.senses e m) (sym (effect_at r k kind)) (c.traps m st)) q.red);
+                (λ m st. subst (λ (e : EffectShape). TrapsBy objects s w.senses e m) (sym (effect_is classes r k kind)) (c.traps m st)) q.red);
             zero = λ u. zero_there objects s y0 x0 (tree_means objects s l f) fit (subst (λ (t : Sort). IsZeroAt objects s t (tree_means objects s l f)) (sym same) c.zero) u.0;
           })
 
@@ -286,11 +284,11 @@ module _ {X A : Type 0} (of : Selecting X A) (classes : List Class) (rules : Lis
           → I.Did y d
       does d h p =
           subst (λ (t : X). I.Did t d) end
-          (I.does x z n r all d there size holds stands none_kind (λ m st. subst (λ (e : EffectShape). DoesBy objects s all e d m) (sym (effect_at r kind.Nothing none_kind)) (h m st)) p red)
+          (I.does x z n r all d there size holds stands none_kind (λ m st. subst (λ (e : EffectShape). DoesBy objects s all e d m) (sym (effect_is classes r kind.Nothing none_kind)) (h m st)) p red)
 
       traps : ((m : State) → StandsFor objects s all m → TrapsBy objects s all (effect_by (Some kind.Nothing) (first_part (stack_from classes 1 r.right))) m) → I.Trapped y
       traps h = subst (λ (t : X). I.Trapped t) end
-          (I.traps x z n r [] [] all there size holds stands (λ m st. subst (λ (e : EffectShape). TrapsBy objects s all e m) (sym (effect_at r kind.Nothing none_kind)) (h m st)) red)
+          (I.traps x z n r [] [] all there size holds stands (λ m st. subst (λ (e : EffectShape). TrapsBy objects s all e m) (sym (effect_is classes r kind.Nothing none_kind)) (h m st)) red)
 
       by : (d : Deed) → Acts all r d → IsPossible s.area d → Ran I y d
       by (Puts g k) h p = does (Puts g k) h p

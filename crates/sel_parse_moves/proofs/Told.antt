@@ -16,6 +16,7 @@ use Rattle.term_core.specs.declared.facts.Fact.{Fact}
 use Rattle.term_core.specs.Value.{State, Respects}
 use Rattle.term_core.proofs.Ordered.{size_same}
 use Rattle.sel_terms.specs.RuleFacts.{size_at, is_small_range, is_ranged, alike_once, repeated, fact_of, facts_below, facts_of}
+use Rattle.sel_terms.proofs.Settled.{facts_count}
 use Rattle.lr_check_parse.specs.Attributes.{Selecting, attribute_at, signed, in_range, same_spelling, constant_at, holds, all_hold}
 use Rattle.term_core.specs.Facts.{same_as}
 use Rattle.sel_parse_moves.specs.Told.{SameForAlike, FactsJoin, Tells, RestrictionsTell}
@@ -107,14 +108,6 @@ module _ (classes : List Class) (r : Rule) where
       by (inl e) = inl e
       by (inr e) = inr (ap (λ (n : ℕ). suc n) e.0, e.1)
 
-  snoc_length : (xs : List Fact) (y : Fact) → length (xs ++ y ∷ []) ≡ suc (length xs)
-  snoc_length [] y = refl
-  snoc_length (x ∷ xs) y = ap (λ (n : ℕ). suc n) (snoc_length xs y)
-
-  below_length : (n : ℕ) → length (facts_below classes r n) ≡ n
-  below_length zero = refl
-  below_length (suc n) = snoc_length (facts_below classes r n) (fact_of classes r n) ∙ ap (λ (k : ℕ). suc k) (below_length n)
-
   fact_or : (n i : ℕ) (d : Fact) → (slice_index_or (facts_below classes r n) i d ≡ fact_of classes r i) ⊎ (slice_index_or (facts_below classes r n) i d ≡ d)
   fact_or zero i d = inr (none_more i d)
   fact_or (suc n) i d = by (last_or (facts_below classes r n) (fact_of classes r n) i d) (fact_or n i d)
@@ -125,7 +118,7 @@ module _ (classes : List Class) (r : Rule) where
           (slice_index_or (facts_below classes r n ++ fact_of classes r n ∷ []) i d ≡ fact_of classes r i) ⊎ (slice_index_or (facts_below classes r n ++ fact_of classes r n ∷ []) i d ≡ d)
       by (inl e) (inl f) = inl (e ∙ f)
       by (inl e) (inr f) = inr (e ∙ f)
-      by (inr e) h = inl (e.1 ∙ ap (fact_of classes r) (sym (e.0 ∙ below_length n)))
+      by (inr e) h = inl (e.1 ∙ ap (fact_of classes r) (sym (e.0 ∙ facts_count classes r n)))
 
   unknown : ℕ → Fact
   unknown i = record { size = Long; is_count = false; same_as = i }

@@ -58,7 +58,7 @@ least_lesser : (rs : List Restriction) (i : ℕ) → least_alike rs i ≤ i
 least_lesser rs i = sinks (alike_once rs) (once_lesser rs) i i
 
 module _ (classes : List Class) (rule : Rule) where
-  facts_count : (k : ℕ) → length (facts_below classes rule k) ≡ k
+  pub facts_count : (k : ℕ) → length (facts_below classes rule k) ≡ k
   facts_count zero = refl
   facts_count (suc k) = length-append (facts_below classes rule k) (fact_of classes rule k ∷ []) ∙ ap (λ n. n + 1) (facts_count k) ∙ add-one k
 
