@@ -64,7 +64,7 @@ module _ (all : List Object) where
       by false e g more = let m = more g in (suc m.0, m.1, m.2, m.3)
 
   -- each object's label is there
-  has_object : (os : List Object) (k : ℕ) (o : Object) → slice_get os k ≡ Some o → has_area_label (blocks_of all os) o.label ≡ true
+  pub has_object : (os : List Object) (k : ℕ) (o : Object) → slice_get os k ≡ Some o → has_area_label (blocks_of all os) o.label ≡ true
   has_object [] zero o is = absurd cc
   has_object [] (suc k) o is = absurd cc
   has_object (x ∷ os) zero o is =

@@ -5,35 +5,18 @@ use Rattle.std.specs.Str.{bytes_eq}
 use Rattle.std.proofs.lemmas.Bool.{eqb-true, true≢false, or_left, or_right}
 use Rattle.std.proofs.lemmas.Slice.Eq.{bytes_eq-Decides}
 use Rattle.std.proofs.lemmas.Option.{same_Some}
-use Rattle.tree_core.specs.declared.program.Object.{Object}
 use Rattle.tree_core.specs.declared.program.TreeItem.{TreeItem}
 use Rattle.tree_core.specs.declared.program.TreeFn.{TreeFn}
 use Rattle.tree_core.specs.declared.program.TreeProgram.{TreeProgram}
 use Rattle.tree_core.specs.Names.{label_name, function_label}
-use Rattle.vax_core.specs.declared.code.AreaItem.{AreaItem}
 use Rattle.vax_core.specs.declared.code.CodeItem.{CodeItem}
 use Rattle.vax_core.specs.declared.code.CodeItem.TheVariants as item_kind
-use Rattle.vax_machine.specs.Area.{is_area_label, has_area_label}
 use Rattle.vax_machine.specs.Labels.{is_label, has_label}
 use Rattle.vax_frames.specs.Frames.{code_items, room_code, end_code}
 use Rattle.gg_compile_law.specs.Programs.{stands_in}
 use Rattle.gg_compile_law.specs.Assembled.{IsTreeCode, nothing, label, root, IsFunctionCode, AreFunctions, none, more}
-use Rattle.gg_compile_law.specs.Spelling.{block_of, blocks_of}
+use Rattle.gg_compile_law.proofs.Loaded.{has_object}
 use Rattle.gg_compile_names.specs.Claims.{LabelsStand}
-
--- ---- the data area
-
-area_behind : (xs ys : List AreaItem) (name : List ℕ) → has_area_label ys name ≡ true → has_area_label (xs ++ ys) name ≡ true
-area_behind [] ys name h = h
-area_behind (x ∷ xs) ys name h = or_right (is_area_label x name) (has_area_label (xs ++ ys) name) (area_behind xs ys name h)
-
-object_stands : (all os : List Object) (n : ℕ) (o : Object) → slice_get os n ≡ Some o → has_area_label (blocks_of all os) o.label ≡ true
-object_stands all [] n o e = absurd (cc)
-object_stands all (x ∷ os) zero o e =
-    or_left (bytes_eq x.label o.label) _ ((bytes_eq-Decides x.label o.label).1 (ap (λ (y : Object). y.label) (same_Some x o e)))
-object_stands all (x ∷ os) (suc n) o e = area_behind (block_of all x) (blocks_of all os) o.label (object_stands all os n o e)
-
--- ---- the code
 
 front : (xs ys : List CodeItem) (name : List ℕ) → has_label xs name ≡ true → has_label (xs ++ ys) name ≡ true
 front [] ys name h = absurd (true≢false (sym h))
@@ -88,7 +71,7 @@ module _ (q : TreeProgram) where
 pub labels_stand : LabelsStand
 labels_stand q code h = record {
   names = record {
-    objects = λ n o e. object_stands q.objects q.objects n o e;
+    objects = λ n o e. has_object q.objects q.objects n o e;
     functions = λ n f e. functions_stand q q.functions code h n f e;
   };
   trees = λ n l f e s. trees_stand q q.functions code h n l f e s;
