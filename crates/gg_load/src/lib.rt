@@ -8,9 +8,6 @@ ghost use Rattle.gg_load.specs.Source.{up_to, function_line, call_line, source_t
 use gg_base::{NoMemory, put_decimal};
 use std::alloc::{AllocError, Global};
 
-/// The most functions of a generated source.
-pub const MOST_FUNCTIONS: u32 = 1000;
-
 fn put_function(into: &mut Vec<u8>, number: u32) -> Result<(), AllocError>
     requires { number < 1000 }
     ensures { OnOk result (into.new.items ≡ into.old.items ++ function_line number) }

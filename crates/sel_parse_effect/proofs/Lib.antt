@@ -1,3 +1,4 @@
+-- Endings of names: _by goes by the cases of a part that it is given. See docs/READING.md.
 pub mod Effects
 pub mod Giving
 pub mod Homes

@@ -1,3 +1,4 @@
+-- Endings of names: _by goes by the cases of a part that it is given. See docs/READING.md.
 pub mod Filling
 pub mod Forms
 pub mod Machine
