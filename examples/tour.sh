@@ -14,7 +14,8 @@ trees=$here/crates/try_lowering/out/try_lowering
 # True where the program that writes trees is not there, or a source is newer.
 is_stale() {
     [ ! -x "$trees" ] && return 0
-    changed=$(find "$here/crates" "$here/crates.txt" -name out -prune -o -type f -newer "$trees" ! -name '*.md' ! -name '*.edit' -print | head -n 1)
+    changed=$(find "$here/crates" "$here/crates.txt" -name out -prune -o -type f -newer "$trees" \
+        ! -name '*.md' ! -name '*.edit' -print | head -n 1)
     [ -n "$changed" ]
 }
 
