@@ -7,7 +7,7 @@ use Rattle.std.proofs.lemmas.Bool.Decides.{nat_tests}
 use Rattle.gg_base.specs.declared.run.End.TheVariants as ends
 use Rattle.gg_base.specs.Runs.{Runs, stop}
 use Rattle.gg_base.specs.Arithmetic.{add32, sub32, mul32, neg32, com32, div32}
-use Rattle.gg_base.proofs.Words.{mul_turned, add_turned, mul_one}
+use Rattle.gg_base.proofs.Words.{mul_turned, add_turned, mul_one as one_times}
 use Rattle.tree_core.specs.declared.program.Object.{Object}
 use Rattle.tree_core.specs.declared.program.TreeItem.{TreeItem}
 use Rattle.tree_core.specs.declared.program.TreeFn.{TreeFn}
@@ -212,8 +212,8 @@ module _ (program : TreeProgram) (code : List TreeItem) (callers : List Activati
 
   stepped_is : (by : Direction) (t : CType) (x : ℕ) → stepped by t x ≡ stepping by x (scale t)
   unfolding advanced retreated
-  stepped_is directions.Up t x = ap (add32 x) (mul_one (scale t) (scale_small t))
-  stepped_is directions.Down t x = ap (sub32 x) (mul_one (scale t) (scale_small t))
+  stepped_is directions.Up t x = ap (add32 x) (one_times (scale t) (scale_small t))
+  stepped_is directions.Down t x = ap (sub32 x) (one_times (scale t) (scale_small t))
 
   step_maps : (by : Direction) (t : CType) → MapsOf (step_tree size count by t) (stepped by t)
   step_maps directions.Up t = record {
