@@ -67,6 +67,7 @@ use Rattle.vax_templates.specs.Filled.{slot_deferred, argument_deferred, operand
 use Rattle.vax_target_meaning.specs.Vax.{vax}
 use Rattle.vax_target_meaning.proofs.Own.{attr_alone}
 use Rattle.vax_target_writing.proofs.Each.{EachOk, bind_each, always_ok, still_ok, of_ok}
+use Rattle.vax_target_writing.proofs.Given.{at_its_line}
 use Rattle.vax_target_spelling.proofs.Own.{names_at, base_at, touches_is}
 
 -- ---- operands that touch nothing, and those that touch what a register touches
@@ -554,10 +555,6 @@ module _ (q : TreeProgram) (set : Setting) (hs' : List Hole) (hs : List (Attr Op
   pieces_told : (k : Option Kind) (o : Option Form) → EachOk (λ (x : ActShape). Touches (filled_or_spare q hs o)) (shape_read o >>= shape_given set hs' k)
   pieces_told k None = tt
   pieces_told k (Some f) = shape_told k f
-
-  at_its_line : {A : Type 0} (P : Type 0) (line : ℕ) (r : Result A TemplateKind) → EachOk (λ (x : A). P) r → EachOk (λ (x : A). P) (at_line line r)
-  at_its_line P line (Ok x) h = h
-  at_its_line P line (Err e) h = tt
 
   template_told : (k : Option Kind) (ls : List Line) (l : Line) (e : EffectShape) → template_found set hs' k ls (give.Shape l) ≡ Ok e → Touches (filled_operand q l.pieces hs)
   unfolding template_found ended

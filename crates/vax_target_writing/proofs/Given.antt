@@ -40,7 +40,7 @@ use Rattle.vax_target_writing.proofs.Lines.{shape_long}
 use Rattle.vax_target_writing.proofs.Operands.{IsMemory, AllSpell, OwnSpells, Stands, StandsBare, is_readable, readable_memory, memory_of_steady, base_stands, form_stands}
 use Rattle.vax_target_writing.proofs.Fitting.{all_spell, own_spells}
 
-at_its_line : {A : Type 0} (P : Type 0) (line : ℕ) (r : Result A TemplateKind) → EachOk (λ (x : A). P) r → EachOk (λ (x : A). P) (at_line line r)
+pub at_its_line : {A : Type 0} (P : Type 0) (line : ℕ) (r : Result A TemplateKind) → EachOk (λ (x : A). P) r → EachOk (λ (x : A). P) (at_line line r)
 at_its_line P line (Ok x) h = h
 at_its_line P line (Err e) h = tt
 
