@@ -33,6 +33,7 @@ use Rattle.md_reader.specs.Rows.{is_constant, only_symbol, shape_fits}
 use Rattle.md_reader.specs.State.{Content}
 use Rattle.md_reader.specs.Valid.{IsRule}
 use Rattle.term_core.specs.Shape.{Shape, Symbol}
+use Rattle.term_core.proofs.Values.{low_same}
 use Rattle.sel_terms.specs.Effects.{ActShape, Value, Number, Address, PlaceHome, PlaceAt, StoreHome, StoreAt, Branch, Push, Call, Save, Return, Jump}
 use Rattle.sel_terms.specs.Reading.{effect_read, stack_from}
 use Rattle.sel_terms.specs.Wanted.{whole, first_part}
@@ -320,9 +321,6 @@ module _ {O I S F : Type 0} (of : Meaning O I S F) (law : IsLawful of) (q : Tree
       known of law q d first f fs t s m0 frame m sees es rule.right vs (suc j) n holds
       (ap (λ w. read s (Rattle.sel_terms_trees.specs.Senses.means q.objects s w)) (e ∙ g))
 
-  long_number : (n : ℕ) → n < 2 ^ 32 → n % 2 ^ 32 ≡ n
-  long_number n lt = omega (arith, lt)
-
   pub register_given : kind_at d.classes rule.left ≡ Some kind.Reg → shape_fits d.classes rule.right (Some kind.Reg) l.pieces ≡ true
       → Result kind.Reg (own_register of q d first (hole (attrs es') (first_hole l.pieces)))
   register_given is fits =
@@ -345,7 +343,7 @@ module _ {O I S F : Type 0} (of : Meaning O I S F) (law : IsLawful of) (q : Tree
           (sym val.is ∙ law.shapes.register_shape d.classes rule shown.found (suc j) l shown.found_is mode is pieces) in
           let small = law.reads.reads_small q f fs t (of.register r) Long n m' later.seen.agrees reads in
           let number : value View0 (giving.wanted_term of law q valid d first f fs t s m0 frame rule) ≡ n =
-          sym val.alike.worth ∙ ap (value View0) term_is ∙ ap (λ o. unwrap_or o 0 % 2 ^ 32) symbol_is ∙ long_number n small in
+          sym val.alike.worth ∙ ap (value View0) term_is ∙ ap (λ o. unwrap_or o 0 % 2 ^ 32) symbol_is ∙ low_same n small in
           let sense : v ≡ OfNumber n =
           giving.gives_number of law q valid d first f fs t s m0 frame (term_state View0) vs (giving.wanted_term of law q valid d first f fs t s m0 frame rule) v
           (subst (λ a. Gives q.objects s (term_state View0) vs a v) act_is by.gives) ∙ ap OfNumber number in
