@@ -96,6 +96,10 @@ set_plainly m r v lt = by (reg_number r == 14) refl where
   by true e = absurd (let is : reg_number r ≡ 14 = eqb-true (reg_number r) 14 e in omega (arith, lt, is))
   by false e = refl
 
+pub returns_so : (n : State) → performed plain_return n ≡ ends (Returns n)
+unfolding performed
+returns_so n = refl
+
 module _ (c : Scene) (held : Option Shape) (m : State) (h : Sees c held m) where
   -- ---- results at their destination
 
@@ -439,10 +443,6 @@ module _ (c : Scene) (held : Option Shape) (m : State) (h : Sees c held m) where
   abbrev F : Instruction → Instr
   F i = filled_instruction c.program c.holes c.own (Some i)
 
-  returns_so : performed plain_return m ≡ ends (Returns m)
-  unfolding performed
-  returns_so = refl
-
   branches_did : (i : ℕ) (before : Last) (d : Deed) → CodesMean c m.conditions before → branches c.setting i before ≡ Ok d → Did d (performed (F (Relation i)) m)
   branches_did i Plain d k e = absurd (err_ok _ d e)
   branches_did i (Compared a b) d k e = statement_did c.setting.is_statement (act.Branch i a b) d _ refl e (inl k, refl)
@@ -473,7 +473,7 @@ module _ (c : Scene) (held : Option Shape) (m : State) (h : Sees c held m) where
   returned_did t (Relation i) d holds e = absurd (err_ok _ d e)
   returned_did t Jump d holds e = absurd (err_ok _ d e)
   returned_did t Calls d holds e = absurd (err_ok _ d e)
-  returned_did t Ret d holds e = ended (act.Return t) d (performed plain_return m) (inl holds.1) (returns_so, holds.0) e
+  returned_did t Ret d holds e = ended (act.Return t) d (performed plain_return m) (inl holds.1) (returns_so m, holds.0) e
   returned_did t (Operates op fs) d holds e = absurd (err_ok _ d e)
 
   behind_did : (is_first : Bool) (before : Last) (i : Instruction) (d : Deed) → IsShortLine i → CodesMean c m.conditions before → ZeroHolds c m before →

@@ -39,7 +39,7 @@ use Rattle.vax_templates.specs.Judging as judging
 use Rattle.vax_templates.specs.Progress.{Progress, start, kept_or_put, progressed, at_line, kept, judged}
 use Rattle.vax_templates.specs.Progress.{lines_judged}
 use Rattle.vax_templates.specs.Filled.{register_in, operand_in, deferred_in}
-use Rattle.vax_templates.specs.FilledLines.{filled_instruction, filled_line, plain_return}
+use Rattle.vax_templates.specs.FilledLines.{filled_instruction, filled_line}
 use Rattle.vax_templates.proofs.Judgements.{read_is}
 use Rattle.vax_target_meaning.specs.Vax.{vax}
 use Rattle.vax_target_operands.specs.Scenes.{Scene, worth, role_at, filling_at, is_lost, Means, OwnIs, Holds, Sees}
@@ -47,7 +47,7 @@ use Rattle.vax_target_operands.proofs.Binds.{Chained, chained}
 use Rattle.vax_target_operands.proofs.Worths.{worth_small}
 use Rattle.vax_target_lines.specs.Takings.{AreRead}
 use Rattle.vax_target_lines.specs.Lines.{CodesMean, ZeroHolds, DoesDeed, with_own, with_last, MayHold, GoesOn, DoesLine, EndIsRead, NoneIsZero}
-use Rattle.vax_target_lines.proofs.Performing.{lines_do}
+use Rattle.vax_target_lines.proofs.Performing.{lines_do, returns_so}
 use Rattle.vax_target_runs.specs.Kept.{Differs}
 use Rattle.vax_target_runs.proofs.Seen.{means_kept}
 use Rattle.vax_target_runs.specs.Runs.{OwnChanged, ZeroChanged, Changed, SeesBehind, Reaches, IsReturn, EndsIn, ComesTo, RunsTo, IsApart, line_of, AllRead, IsCalm, LinesRun}
@@ -144,10 +144,6 @@ module _ (c : Scene) where
       absurd (nothing_behind is_first p.own deed l.pieces j.deed (subst (λ x. line_did c.setting c.roles is_first p.own x l.pieces ≡ Ok j.deed) is j.did))
 
   -- `ret` stands behind a value that is to be returned
-  returns_so : (n : State) → performed plain_return n ≡ ends (Returns n)
-  unfolding performed
-  returns_so n = refl
-
   abbrev Leaves : Shape → State → Deed → Course → Type 0
   Leaves t n d did = (d.last ≡ Ended (Return t)) × (did ≡ ends (Returns n))
 
