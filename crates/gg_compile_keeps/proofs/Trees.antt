@@ -12,12 +12,13 @@ use Rattle.tree_core.specs.Trees.{IsTyped}
 use Rattle.tree_core.specs.Valid.{ItemStands, ItemsStand}
 use Rattle.md_reader.specs.State.{Content}
 use Rattle.sel_regs.specs.Slots.{larger_of}
+use Rattle.sel_regs.proofs.Larger.{larger}
 use Rattle.sel_parse_desk.specs.Selected.{tree_of}
 use Rattle.sel_parse_desk.specs.Selected as desk
 use Rattle.sel_parse_selected.specs.Selected.{Selected}
 use Rattle.sel_parse_effect.specs.Claims.{IsFit}
 use Rattle.sel_parse_effect.proofs.Growing.{larger as larger_left}
-use Rattle.sel_parse_lines.proofs.Words.{selections_use_few_words, larger}
+use Rattle.sel_parse_lines.proofs.Words.{selections_use_few_words}
 use Rattle.sel_parse_joined.proofs.Law.{same_code}
 use Rattle.vax_core.specs.declared.code.Instr.{Instr}
 use Rattle.vax_core.specs.declared.code.CodeItem.{CodeItem}

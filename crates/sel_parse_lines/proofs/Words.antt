@@ -1,7 +1,6 @@
 -- A selection uses words below 1,024 alone.
 use Rattle.std.proofs.Common.{◌≡◌, ℕ, zero, suc, ◌+◌, ◌-◌, ◌<◌, ◌≤◌, cond, List, [], length, Option, Some, None, Bool, false, true, refl, ap, ◌∙◌, subst, arith}
 use Rattle.std.specs.Prelude.{slice_get}
-use Rattle.std.proofs.lemmas.Bool.Decides.{nat_tests}
 use Rattle.std.proofs.lemmas.Option.{same_Some, none-some}
 use Rattle.tree_core.specs.declared.tree.Leaf.{Leaf}
 use Rattle.tree_core.specs.declared.program.TreeProgram.{TreeProgram}
@@ -14,7 +13,7 @@ use Rattle.lr_tables.specs.Statements.{stmt_of}
 use Rattle.lr_check_parse.specs.Moves.{Move, Ending, Accepts, Blocks, Loops, Refuses, Parses}
 use Rattle.lr_check_parse.specs.Moves as parse
 use Rattle.lr_check_parse.specs.Attributes.{by_attributes}
-use Rattle.sel_regs.specs.Slots.{larger_of}
+use Rattle.sel_regs.proofs.Larger.{larger}
 use Rattle.sel_target.specs.declared.attr.Attr.{Attr}
 use Rattle.sel_target.specs.declared.attr.Attr.TheVariants as attr
 use Rattle.sel_target.specs.Meaning.{Meaning}
@@ -28,9 +27,6 @@ use Rattle.sel_parse_selected.specs.Selected.{Kept, kept_of, reduced_by, selecti
 use Rattle.sel_parse_moves.proofs.Covering.{known}
 use Rattle.sel_parse_lines.specs.Claims.{SelectionsUseFewWords}
 use Rattle.sel_parse_lines.proofs.Each.{Each, each_bind}
-
-pub larger : (n k m : ℕ) → n ≤ m → k ≤ m → larger_of n k ≤ m
-larger n k m a b = grind (arith, nat_tests)
 
 -- the lowest number that passes is one of those that were tried
 lowest_below : (passes : ℕ → Bool) (k n w : ℕ) → lowest passes k n ≡ Some w → w < k + n

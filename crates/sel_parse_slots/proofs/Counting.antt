@@ -2,7 +2,6 @@
 use Rattle.std.proofs.Common.{◌≡◌, ◌⊎◌, inl, inr, ℕ, zero, suc, ◌+◌, ◌-◌, ◌<◌, ◌≤◌, List, [], ◌∷◌, ◌++◌, Option, Some, None, Bool, true, false, refl, sym, ap, ◌∙◌, subst, arith, length}
 use Rattle.std.proofs.Common.{slice_get, eq-or-lt_of_le, le_of_suc-le-suc}
 use Rattle.std.specs.Prelude.{not, if◌then◌else◌, slice_set}
-use Rattle.std.proofs.lemmas.Bool.Decides.{nat_tests}
 use Rattle.std.proofs.lemmas.Option.{same_Some, none-some, slice_get_within}
 use Rattle.std.proofs.lemmas.Bool.{not-true, cases_eq}
 use Rattle.gg_base.proofs.Facts.{first_true, second_true, true_or_false, slice_set_other, slice_set_same}
@@ -13,7 +12,7 @@ use Rattle.md_reader.specs.declared.types.Sym.{Sym}
 use Rattle.md_reader.specs.declared.types.Sym.TheVariants as grammar_symbol
 use Rattle.md_reader.specs.Patterns.{kind_at}
 use Rattle.md_reader.specs.State.{Content}
-use Rattle.sel_regs.specs.Slots.{larger_of}
+use Rattle.sel_regs.proofs.Larger.{larger}
 use Rattle.sel_target.specs.declared.attr.Attr.{Attr}
 use Rattle.sel_target.specs.declared.attr.Attr.TheVariants as attr
 use Rattle.sel_target.specs.Meaning.{Meaning, WordAt}
@@ -200,9 +199,6 @@ module _ {O I S F : Type 0} (of : Meaning O I S F) (law : IsLawful of) (q : Tree
         let z = charges_less a desk.below h.below_fine in
         let w = h.held_in_all in
         omega (arith, x, y, z, w)
-
-    larger : (n k m : ℕ) → n ≤ m → k ≤ m → larger_of n k ≤ m
-    larger n k m a b = grind (arith, nat_tests)
 
     in_slot_loaded : (b : Attr O) (w : ℕ) → (is_register b ≡ true → ⊥) → IsLoaded b → IsLoaded (in_slot of b w)
     in_slot_loaded (attr.Reg r) w apart h = absurd (apart refl)
