@@ -28,6 +28,7 @@ use Rattle.sel_target.specs.Instances.{some_touches, attr_touches, KindFits}
 use Rattle.sel_target.specs.Symbols.{size_of_entry}
 use Rattle.sel_parse_selected.specs.Entries as selected_entries
 use Rattle.sel_parse_desk.specs.Entries as computed_entries
+use Rattle.sel_parse_stands.proofs.Saving.{bits_none}
 use Rattle.sel_parse_slots.specs.Claims.{IsOwn}
 use Rattle.sel_parse_slots.proofs.Fine as fine
 use Rattle.sel_parse_slots.proofs.Counting.{AllFine}
@@ -68,7 +69,7 @@ module _ {O I S F : Type 0} (of : Meaning O I S F) (law : IsLawful of) (q : Tree
 
   slot_agrees : (u : ℕ) → u < 1024 → Agrees (attr.InSlot u)
   slot_agrees u lt = record {
-    register = λ v below. sym (fine.bits_none of law q d first (of.slot u) v (law.spells.slot_bits u lt));
+    register = λ v below. sym (bits_none of law (of.slot u) v (law.spells.slot_bits u lt));
     word = λ w from. ap (λ o. is_word o w) (sym (law.spells.slot_word u lt));
     spelled = refl;
   }
@@ -97,8 +98,8 @@ module _ {O I S F : Type 0} (of : Meaning O I S F) (law : IsLawful of) (q : Tree
   none_at x (att.Slot k) r = by x
     where
       by : (x : Tok) → false ≡ some_touches of (token_operand of x (att.Slot k)) (RegAt r)
-      by tok.Loc = sym (fine.bits_none of law q d first (of.local k) r (law.spells.local_bits k))
-      by tok.Arg = sym (fine.bits_none of law q d first (of.argument k) r (law.spells.argument_bits k))
+      by tok.Loc = sym (bits_none of law (of.local k) r (law.spells.local_bits k))
+      by tok.Arg = sym (bits_none of law (of.argument k) r (law.spells.argument_bits k))
       by x = refl
   none_at x (att.Branch rel label) r = refl
   none_at x (att.Label label) r = refl

@@ -21,13 +21,14 @@ use Rattle.sel_parse_moves.proofs.Covering.{known}
 use Rattle.sel_parse_selected.specs.Desk.{Stack, desk_of, Outcome, Full, Stuck, Done}
 use Rattle.sel_parse_selected.specs.Reductions.{reduced}
 use Rattle.sel_parse_selected.specs.Selected.{Kept, shifted, kept_of, reduced_by, selecting}
+use Rattle.sel_parse_stands.proofs.Saving.{token_none}
 use Rattle.sel_parse_slots.specs.Claims.{IsTaken}
 use Rattle.sel_parse_slots.proofs.Counts.{tick}
 use Rattle.sel_parse_slots.proofs.Law as walk
 use Rattle.sel_parse_slots.proofs.Prefixes.{gamma}
 use Rattle.sel_parse_registers.specs.Claims.{HasRegisters, NeverLacks}
 use Rattle.sel_parse_registers.proofs.Pools.{total_reverse, total_parted}
-use Rattle.sel_parse_registers.proofs.Owning.{Had, holds, Owned, OwnedAt, token_none}
+use Rattle.sel_parse_registers.proofs.Owning.{Had, holds, Owned, OwnedAt}
 use Rattle.sel_parse_registers.proofs.Serving.{OwnedStack, reduced_had}
 
 module _ {O I S F : Type 0} (of : Meaning O I S F) (law : IsLawful of) (q : TreeProgram) (can : of.can_write q) (d : Content) (fit : IsTaken of d) (enough : HasRegisters d) (first k : ℕ) where
@@ -52,7 +53,7 @@ module _ {O I S F : Type 0} (of : Meaning O I S F) (law : IsLawful of) (q : Tree
 
   shifted_owned : (l : Leaf) (x : Kept O I) → OwnedKept x → OwnedKept (shifted l x)
   shifted_owned l None h = h
-  shifted_owned l (Some x) h = λ r lt. (let a = ap tick (token_none of law q d first l.tok l.att r) in let b = h r lt in omega (arith, a, b))
+  shifted_owned l (Some x) h = λ r lt. (let a = ap tick (token_none of law l.tok l.att r) in let b = h r lt in omega (arith, a, b))
 
   -- set apart, all entries are there
   apart_owned : (n : ℕ) (x : Stack O I) → Owned of d x.entries → OwnedAt of d (desk_of n x)

@@ -7,10 +7,6 @@ use Rattle.std.proofs.lemmas.Nat.Bits.{bit_at-pow_other}
 use Rattle.std.proofs.lemmas.Option.{none-some}
 use Rattle.std.proofs.lemmas.Bool.{or_from}
 use Rattle.gg_base.proofs.Facts.{not_some, true_or_false}
-use Rattle.tree_core.specs.declared.token.Tok.{Tok}
-use Rattle.tree_core.specs.declared.token.Tok.TheVariants as tok
-use Rattle.tree_core.specs.declared.tree.Att.{Att}
-use Rattle.tree_core.specs.declared.tree.Att.TheVariants as att
 use Rattle.tree_core.specs.declared.program.TreeProgram.{TreeProgram}
 use Rattle.md_reader.specs.declared.types.Kind.{Kind}
 use Rattle.md_reader.specs.declared.types.Kind.TheVariants as kind
@@ -23,15 +19,14 @@ use Rattle.sel_regs.specs.Need as needs
 use Rattle.sel_target.specs.declared.attr.Attr.{Attr}
 use Rattle.sel_target.specs.declared.attr.Attr.TheVariants as attr
 use Rattle.sel_target.specs.Meaning.{Meaning, RegAt}
-use Rattle.sel_target.specs.Values.{token_operand}
 use Rattle.sel_target.specs.Laws.{IsLawful}
-use Rattle.sel_target.specs.Instances.{some_touches, attr_touches, KindFits}
+use Rattle.sel_target.specs.Instances.{attr_touches, KindFits}
 use Rattle.sel_target.specs.Symbols.{lowest, first_that, is_register}
 use Rattle.sel_parse_selected.specs.Entries.{Entry}
 use Rattle.sel_parse_selected.specs.Desk.{Desk, Outcome, Full, Stuck, Done, bind, held, is_free_register, free_register, is_free_word, free_slot}
 use Rattle.sel_parse_selected.specs.Spills.{Where, Below, Among, last_that, holds_register, may_go, deepest, victim, in_slot, entry_in_slot, saved, saved_in, spilled}
 use Rattle.sel_parse_selected.specs.Spills.{with_free, due_by, due}
-use Rattle.sel_parse_stands.proofs.Saving.{lowest_found}
+use Rattle.sel_parse_stands.proofs.Saving.{lowest_found, bits_none, token_none}
 use Rattle.sel_parse_slots.proofs.Counts.{tick, count, count_any, count_none, count_one, total, total_set, tick_small}
 use Rattle.sel_parse_slots.proofs.Fine as fine
 use Rattle.sel_parse_slots.proofs.Fine.{registers}
@@ -94,29 +89,15 @@ module _ {O I S F : Type 0} (of : Meaning O I S F) (law : IsLawful of) (q : Tree
       by r true e = (let a = tick_small (attr_touches of (attr.Reg v) (RegAt r)) in let b = ap tick e in omega (arith, a, b))
       by r false e = (let a = ap tick (register_other v r lt (apart_of v r e)) in omega (arith, a))
 
-  pub token_none : (x : Tok) (a : Att) (r : ℕ) → some_touches of (token_operand of x a) (RegAt r) ≡ false
-  token_none x att.Nothing r = refl
-  token_none x (att.Number n) r = refl
-  token_none x (att.Object object offset) r = refl
-  token_none x (att.Slot k) r = by x
-    where
-      by : (x : Tok) → some_touches of (token_operand of x (att.Slot k)) (RegAt r) ≡ false
-      by tok.Loc = fine.bits_none of law q d first (of.local k) r (law.spells.local_bits k)
-      by tok.Arg = fine.bits_none of law q d first (of.argument k) r (law.spells.argument_bits k)
-      by x = refl
-  token_none x (att.Branch rel label) r = refl
-  token_none x (att.Label label) r = refl
-  token_none x (att.Callee function count') r = refl
-
   pub slot_none : (w r : ℕ) → w < 1024 → attr_touches of (attr.InSlot w) (RegAt r) ≡ false
-  slot_none w r lt = fine.bits_none of law q d first (of.slot w) r (law.spells.slot_bits w lt)
+  slot_none w r lt = bits_none of law (of.slot w) r (law.spells.slot_bits w lt)
 
   deferred_none : (w r : ℕ) → w < 1024 → attr_touches of (attr.Ea (of.slot_deferred w)) (RegAt r) ≡ false
-  deferred_none w r lt = fine.bits_none of law q d first (of.slot_deferred w) r (law.spells.deferred_bits w lt)
+  deferred_none w r lt = bits_none of law (of.slot_deferred w) r (law.spells.deferred_bits w lt)
 
   -- what went to a slot holds no register
   gone : (s : Sym) (a : Attr O) (w r : ℕ) → w < 1024 → fine.IsFine of law q d first s a → attr_touches of (in_slot of a w) (RegAt r) ≡ false
-  gone s a w r lt (fine.token l fit own) = token_none l.tok l.att r
+  gone s a w r lt (fine.token l fit own) = token_none of law l.tok l.att r
   gone s a w r lt (fine.class c a' h) = by (kind_at d.classes c) a h
     where
       by : (k : Option Kind) (a : Attr O) → KindFits of k a → attr_touches of (in_slot of a w) (RegAt r) ≡ false

@@ -1,7 +1,5 @@
 -- What entries hold, in registers and slots.
 use Rattle.std.proofs.Common.{◌≡◌, ℕ, ◌+◌, ◌-◌, ◌<◌, ◌≤◌, ◌==◌, Option, Some, true, false, refl, sym, ap, ◌∙◌, subst, arith}
-use Rattle.std.specs.Int.{bit_at}
-use Rattle.std.proofs.lemmas.Nat.Bits.{bit_at-zero}
 use Rattle.tree_core.specs.declared.token.Tok.{Tok}
 use Rattle.tree_core.specs.declared.token.Tok.TheVariants as tok
 use Rattle.tree_core.specs.declared.tree.Att.{Att}
@@ -24,7 +22,7 @@ use Rattle.sel_target.specs.Laws.{IsLawful}
 use Rattle.sel_target.specs.Instances.{some_touches, attr_touches, KindFits}
 use Rattle.sel_target.specs.Symbols.{lowest, is_register}
 use Rattle.sel_parse_selected.specs.Spills.{holds_register, in_slot}
-use Rattle.sel_parse_stands.proofs.Saving.{lowest_found}
+use Rattle.sel_parse_stands.proofs.Saving.{lowest_found, bits_none}
 use Rattle.sel_parse_slots.specs.Claims.{IsOwn}
 use Rattle.sel_parse_slots.proofs.Counts.{count, count_none, count_less, count_one, count_some, tick, unequal}
 
@@ -74,9 +72,6 @@ module _ {O I S F : Type 0} (of : Meaning O I S F) (law : IsLawful of) (q : Tree
     slot : (c w : ℕ) → kind_at d.classes c ≡ Some kind.Reg → w < 1024 → IsFine (grammar_symbol.Class c) (attr.InSlot w)
     statement : (c : ℕ) → kind_at d.classes c ≡ Some kind.Nothing → IsFine (grammar_symbol.Class c) attr.Nothing
 
-  pub bits_none : (o : O) (r : ℕ) → of.registers o ≡ 0 → touches of o (RegAt r) ≡ false
-  bits_none o r e = ap (λ k. bit_at k r == 1) e ∙ ap (λ b. b == 1) (bit_at-zero r)
-
   -- ---- what is spelled by slots, registers and tokens
 
   word_one : (o : O) (w : ℕ) → of.word o ≡ Some w → count (λ v. touches of o (WordAt v)) first (1024 - first) ≤ 1
@@ -89,7 +84,7 @@ module _ {O I S F : Type 0} (of : Meaning O I S F) (law : IsLawful of) (q : Tree
       same v = (let f = ap (λ x. tick (is_word x v)) e in omega (arith, f))
 
   register_none : (o : O) → of.registers o ≡ 0 → count (λ r. touches of o (RegAt r)) 0 12 ≡ 0
-  register_none o e = count_none (λ r. touches of o (RegAt r)) 0 12 (λ r le. bits_none o r e)
+  register_none o e = count_none (λ r. touches of o (RegAt r)) 0 12 (λ r le. bits_none of law o r e)
 
   pub slot_charge : (w : ℕ) → w < 1024 → charge (attr.Value (of.slot w)) ≤ 1
   slot_charge w lt =

@@ -295,7 +295,7 @@ module _ {O I S F : Type 0} (of : Meaning O I S F) (law : IsLawful of) (q : Tree
 
           by : (i ≡ j) ⊎ (i ≡ j → ⊥) → slice_get (slice_set desk.symbols i (entry_in_slot of e w)) j ≡ Some (record { kind = k; attr = attr.InSlot u })
           by (inl g) =
-              absurd (slot_holds_none of law q d first f fs t s m0 frame lines k u lt (subst (λ (x : Entry O). holds_register of x ≡ true) (same_entry g) holding))
+              absurd (slot_holds_none of law k u lt (subst (λ (x : Entry O). holds_register of x ≡ true) (same_entry g) holding))
           by (inr g) = slice_set_other desk.symbols i (entry_in_slot of e w) j (λ z. g (sym z)) ∙ there
 
       loaded_still : (n : ℕ) → LoadedTo n desk.symbols → LoadedTo n (slice_set desk.symbols i (entry_in_slot of e w))

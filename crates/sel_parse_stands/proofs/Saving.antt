@@ -252,12 +252,11 @@ lowest_found passes k (suc n) r e = by (λ e'. lowest_found passes (k + 1) n r e
   by ih true is e' = let same : k ≡ r = cc in record { is = subst (λ x. passes x ≡ true) same is; from = omega arith; below = omega arith }
   by ih false is e' = let rest = ih e' in record { is = rest.is; from = omega (arith, rest.from); below = omega (arith, rest.below) }
 
-module _ {O I S F : Type 0} (of : Meaning O I S F) (law : IsLawful of) (q : TreeProgram) (d : Content) (first : ℕ) (f : Extent) (fs : List Extent) (t : State) (s : Sight) (m0 : S)
-    (frame : IsFrame of q d first f fs t s m0) (lines : LinesSave of d) where
-  bits_none : (o : O) (r : ℕ) → of.registers o ≡ 0 → touches of o (RegAt r) ≡ false
+module _ {O I S F : Type 0} (of : Meaning O I S F) (law : IsLawful of) where
+  pub bits_none : (o : O) (r : ℕ) → of.registers o ≡ 0 → touches of o (RegAt r) ≡ false
   bits_none o r e = ap (λ k. bit_at k r == 1) e ∙ ap (λ b. b == 1) (bit_at-zero r)
 
-  token_none : (x : Tok) (a : Att) (r : ℕ) → some_touches of (token_operand of x a) (RegAt r) ≡ false
+  pub token_none : (x : Tok) (a : Att) (r : ℕ) → some_touches of (token_operand of x a) (RegAt r) ≡ false
   token_none x att.Nothing r = refl
   token_none x (att.Number n) r = refl
   token_none x (att.Object object offset) r = refl
@@ -282,10 +281,12 @@ module _ {O I S F : Type 0} (of : Meaning O I S F) (law : IsLawful of) (q : Tree
       let r = holding (record { kind = k; attr = attr.InSlot w }) h in
       both_ways (touches of (of.slot w) (RegAt r.0)) (bits_none (of.slot w) r.0 (law.spells.slot_bits w lt)) r.1
 
+module _ {O I S F : Type 0} (of : Meaning O I S F) (law : IsLawful of) (q : TreeProgram) (d : Content) (first : ℕ) (f : Extent) (fs : List Extent) (t : State) (s : Sight) (m0 : S)
+    (frame : IsFrame of q d first f fs t s m0) (lines : LinesSave of d) where
   pub token_holds_none : (k : Option Kind) (l : Leaf) → holds_register of (record { kind = k; attr = attr.Token l }) ≡ true → ⊥
   token_holds_none k l h =
-      let r = holding (record { kind = k; attr = attr.Token l }) h in
-      both_ways (some_touches of (token_operand of l.tok l.att) (RegAt r.0)) (token_none l.tok l.att r.0) r.1
+      let r = holding of law (record { kind = k; attr = attr.Token l }) h in
+      both_ways (some_touches of (token_operand of l.tok l.att) (RegAt r.0)) (token_none of law l.tok l.att r.0) r.1
 
   -- an entry that holds a register is saved by the line for its kind
   pub record Saved (m : S) (x : Sym) (e : Entry O) (v : Sense) (w : ℕ) : Type 0 where
@@ -317,22 +318,22 @@ module _ {O I S F : Type 0} (of : Meaning O I S F) (law : IsLawful of) (q : Tree
         → holds_register of (record { kind = k; attr = a }) ≡ true → Moved k a v × ((is_register a ≡ true → ⊥) → IsLoaded (in_slot of a w))
     class_moved k a v (stands.register r n lt is) h =
         (register_saved of law q d first f fs t s m0 frame m sees (saving_line d (Some (kind.Value Long))) (lines.values Long) r n w lt is from below, λ no. absurd (no refl))
-    class_moved k a v (stands.in_slot u n le lt is) h = absurd (slot_holds_none k u lt h)
+    class_moved k a v (stands.in_slot u n le lt is) h = absurd (slot_holds_none of law k u lt h)
     class_moved k a v (stands.value z o n fits is) h =
         (value_saved of law q d first f fs t s m0 frame m sees (saving_line d (Some (kind.Value z))) z (lines.values z) o n w fits is from below, λ no. tt)
     class_moved k a v (stands.place z o g fits is) h = (by g is, λ no. tt)
       where
         spells : of.registers o ≡ 0 → ⊥
         spells e =
-            let r = holding (record { kind = Some (kind.Place z); attr = attr.Place o }) h in
-            both_ways (touches of o (RegAt r.0)) (bits_none o r.0 e) r.1
+            let r = holding of law (record { kind = Some (kind.Place z); attr = attr.Place o }) h in
+            both_ways (touches of o (RegAt r.0)) (bits_none of law o r.0 e) r.1
 
         by : (g : Place) → PlaceIs of f t m z o g → Moved (Some (kind.Place z)) (attr.Place o) (OfPlace g)
         by g (local k' long is' lt low) = absurd (spells (ap of.registers is' ∙ law.spells.local_bits k'))
         by g (argument k' long is' lt) = absurd (spells (ap of.registers is' ∙ law.spells.argument_bits (k' + 1)))
         by g (memory n names) =
             place_saved of law q d first f fs t s m0 frame m sees (saving_line d (Some (kind.Place z))) z (lines.places z) o n w fits spells names from below
-    class_moved k a v (stands.number n lt) h = absurd (let r = holding (record { kind = k; attr = attr.Con n }) h in both_ways false refl r.1)
+    class_moved k a v (stands.number n lt) h = absurd (let r = holding of law (record { kind = k; attr = attr.Con n }) h in both_ways false refl r.1)
     class_moved k a v (stands.address o n fits is) h =
         (address_saved of law q d first f fs t s m0 frame m sees (saving_line d (Some kind.Ea)) (lines.addresses) o n w fits is from below, λ no. tt)
 

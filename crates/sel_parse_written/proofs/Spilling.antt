@@ -1,10 +1,9 @@
 -- The instructions that save entries and reload registers' symbols pass.
 use Rattle.std.proofs.Common.{◌≡◌, ℕ, zero, suc, ◌+◌, ◌-◌, ◌<◌, ◌≤◌, List, [], ◌∷◌, Option, Some, None, Bool, true, false, refl, sym, subst, arith, slice_get}
 use Rattle.std.specs.List.{AllByRecursion as All}
-use Rattle.gg_base.proofs.Facts.{true_or_false, all_append}
+use Rattle.gg_base.proofs.Facts.{all_append}
 use Rattle.gg_base.specs.declared.size.Size.TheVariants.{Long}
 use Rattle.tree_core.specs.declared.program.TreeProgram.{TreeProgram}
-use Rattle.tree_core.proofs.Windows.{some_of}
 use Rattle.md_reader.specs.declared.types.Kind.{Kind}
 use Rattle.md_reader.specs.declared.types.Kind.TheVariants as kind
 use Rattle.md_reader.specs.declared.types.Sym.{Sym}
@@ -13,20 +12,20 @@ use Rattle.md_reader.specs.Patterns.{kind_at}
 use Rattle.md_reader.specs.State.{Content}
 use Rattle.sel_target.specs.declared.attr.Attr.{Attr}
 use Rattle.sel_target.specs.declared.attr.Attr.TheVariants as attr
-use Rattle.sel_target.specs.Meaning.{Meaning, RegAt}
+use Rattle.sel_target.specs.Meaning.{Meaning}
 use Rattle.sel_target.specs.Laws.{IsLawful}
-use Rattle.sel_target.specs.Instances.{attr_touches, KindFits}
+use Rattle.sel_target.specs.Instances.{KindFits}
 use Rattle.sel_target.specs.SavingLaws.{operand, register, saving, reloading}
-use Rattle.sel_target.specs.Symbols.{lowest, saving_line, reload_line}
+use Rattle.sel_target.specs.Symbols.{saving_line, reload_line}
 use Rattle.sel_parse_selected.specs.Entries.{Entry}
 use Rattle.sel_parse_selected.specs.Desk.{Desk, Outcome, Full, Stuck, Done, is_free_register, free_register, is_free_word, free_slot}
 use Rattle.sel_parse_selected.specs.Spills.{Where, holds_register, victim, entry_in_slot, saved, saved_in, spilled, with_free, due_by, due}
 use Rattle.sel_parse_selected.specs.Reductions.{loaded, reloaded_by, reloaded_at, reloaded}
 use Rattle.sel_parse_stands.specs.Lines.{LinesSave}
-use Rattle.sel_parse_stands.proofs.Saving.{lowest_found}
+use Rattle.sel_parse_stands.proofs.Saving.{lowest_found, slot_holds_none}
 use Rattle.sel_parse_lines.proofs.Each.{Each, each_bind}
 use Rattle.sel_parse_slots.proofs.Fine as fine
-use Rattle.sel_parse_slots.proofs.Fine.{charge, bits_none, IsFine, fine_spilled}
+use Rattle.sel_parse_slots.proofs.Fine.{charge, IsFine, fine_spilled}
 use Rattle.sel_parse_slots.proofs.Counting as counting
 use Rattle.sel_parse_slots.proofs.Counting.{Good, fine_at, slot_kind, Counted, Goes, goes_of, IsDue, due_good, one_good}
 use Rattle.sel_parse_written.specs.Claims.{LinesPass}
@@ -44,12 +43,6 @@ module _ {O I S F : Type 0} (of : Meaning O I S F) (law : IsLawful of) (q : Tree
   Passes code = All (λ (i : I). good i ≡ true) code
 
   -- ---- one entry
-
-  slot_none : (k : Option Kind) (w : ℕ) → w < 1024 → holds_register of (record { kind = k; attr = attr.InSlot w }) ≡ true → ⊥
-  slot_none k w low h =
-      let o = some_of (lowest (λ r. attr_touches of (attr.InSlot w) (RegAt r)) 0 12) h in
-      let r = lowest_found (λ r. attr_touches of (attr.InSlot w) (RegAt r)) 0 12 o.0 o.1 in
-      true_or_false _ r.is (bits_none of law q d first (of.slot w) o.0 (law.spells.slot_bits w low))
 
   abbrev IsSaved : Option Kind → Attr O → ℕ → Type 0
   IsSaved k a w = good (of.instr q (saving_line d k) (a ∷ []) (attr.Place (of.slot w))) ≡ true
@@ -70,7 +63,7 @@ module _ {O I S F : Type 0} (of : Meaning O I S F) (law : IsLawful of) (q : Tree
   entry_saved s k a w low (fine.class c a' fits) is h =
       let held = (fine_spilled of law q d first (grammar_symbol.Class c) k a' w low (fine.class c a' fits) h).held_less in
       subst (λ (x : Option Kind). IsSaved x a' w) (sym is) (class_saved w low (kind_at d.classes c) a' fits (omega (arith, held)))
-  entry_saved s k a w low (fine.slot c u e lt) is h = absurd (slot_none k u lt h)
+  entry_saved s k a w low (fine.slot c u e lt) is h = absurd (slot_holds_none of law k u lt h)
   entry_saved s k a w low (fine.statement c e) is h =
       absurd (let held = (fine_spilled of law q d first (grammar_symbol.Class c) k attr.Nothing w low (fine.statement c e) h).held_less in omega (arith, held))
 
