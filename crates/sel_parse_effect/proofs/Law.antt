@@ -336,7 +336,7 @@ module _ {O I S F : Type 0} (of : Meaning O I S F) (law : IsLawful of) (q : Tree
           let b = begins.few in
           local_is k lt ∙ law.reads.local_read q f fs t k n m begins.agrees (omega (arith, lt, a, b)) e
 
-  frame : IsFrame of q d first f fs t (frame_sight of f t m) m
+  pub frame : IsFrame of q d first f fs t (frame_sight of f t m) m
   frame = record {
     few = begins.few;
     own = begins.own;

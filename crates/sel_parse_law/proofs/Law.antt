@@ -3,7 +3,6 @@ use Rattle.std.proofs.Common.{◌≡◌, ℕ, ◌-◌, ◌<◌, ◌≤◌, List,
 use Rattle.std.specs.Prelude.{cond, count_ones, nat_lt, Ok}
 use Rattle.std.specs.List.{AllByRecursion as All}
 use Rattle.std.proofs.lemmas.Option.{none-some}
-use Rattle.std.proofs.lemmas.Bool.{ltb-true}
 use Rattle.gg_base.specs.declared.size.Size.TheVariants.{Long}
 use Rattle.tree_core.specs.declared.token.Tok.{Tok}
 use Rattle.tree_core.specs.declared.token.Tok.TheVariants as tok
@@ -33,10 +32,11 @@ use Rattle.sel_parse_moves.proofs.Covering.{AreLeaves}
 use Rattle.sel_parse_moves.proofs.Moves.{leaves_of, leaves_before}
 use Rattle.sel_parse_selected.specs.Selected as selected
 use Rattle.sel_parse_stands.specs.Stands as stands
-use Rattle.sel_parse_stands.specs.Stands.{NamedBy, Names, Sees, IsFrame}
+use Rattle.sel_parse_stands.specs.Stands.{NamedBy, Names, Sees}
 use Rattle.sel_parse_stands.proofs.Symbols.{symbol_fits}
 use Rattle.sel_parse_effect.specs.Claims.{frame_sight, IsFit, Begins}
 use Rattle.sel_parse_effect.proofs.Law as effect
+use Rattle.sel_parse_effect.proofs.Law.{frame}
 use Rattle.sel_parse_slots.specs.Claims.{IsOwn, IsTaken}
 use Rattle.sel_parse_slots.proofs.Law as slots
 use Rattle.sel_parse_ends.proofs.Law as ends
@@ -83,20 +83,6 @@ module _ {O I S F : Type 0} (of : Meaning O I S F) (d : Content) where
 
 module _ {O I S F : Type 0} (of : Meaning O I S F) (law : IsLawful of) (q : TreeProgram) (d : Content) (first : ℕ) (f : Extent) (fs : List Extent) (t : State) (m : S)
     (begins : Begins of q first f fs t m) where
-  frame : IsFrame of q d first f fs t (frame_sight of f t m) m
-  frame = record {
-    few = begins.few;
-    own = begins.own;
-    within = begins.within;
-    bounded = λ k n e. by k n (nat_lt k f.locals) refl e;
-    arguments = refl;
-    area = refl;
-  }
-    where
-      by : (k n : ℕ) (b : Bool) → nat_lt k f.locals ≡ b → cond b (of.reads (of.local k) Long m) None ≡ Some n → k < f.locals
-      by k n true h g = ltb-true k f.locals h
-      by k n false h g = absurd (none-some n g)
-
   sees : Sees of q d first f fs t (frame_sight of f t m) m m
   sees = record { agrees = begins.agrees; room = begins.room; locals = λ k n e. by k n (nat_lt k f.locals) e }
     where
@@ -113,8 +99,9 @@ module _ {O I S F : Type 0} (of : Meaning O I S F) (law : IsLawful of) (q : Tree
 
   own_leaf : (l : Leaf) → leaf_fits l ≡ true → Names of q d first f fs t (frame_sight of f t m) m l → IsOwn q first l.tok l.att
   own_leaf l fit named =
+      let framed = frame of law q d first f fs t m begins in
       let fits =
-      symbol_fits of law q d first f fs t (frame_sight of f t m) m frame m sees (grammar_symbol.Tok l.tok) None (attr.Token l) (OfLeaf l) tt (stands.token l fit named) in
+      symbol_fits of law q d first f fs t (frame_sight of f t m) m framed m sees (grammar_symbol.Tok l.tok) None (attr.Token l) (OfLeaf l) tt (stands.token l fit named) in
       record { in_frame = fits.2; own_local = λ k e g. own_local l.tok l.att named.0 k e g; spelled = named.1 }
 
   own_leaves : (w : List Leaf) → AreLeaves w → All (Names of q d first f fs t (frame_sight of f t m) m) w → All (λ (l : Leaf). IsOwn q first l.tok l.att) w
