@@ -27,12 +27,12 @@ use Rattle.sel_parse_selected.specs.Desk.{Desk, Outcome, Full, Stuck, Done, bind
 use Rattle.sel_parse_selected.specs.Spills.{Where, Below, Among, last_that, holds_register, may_go, deepest, victim, in_slot, entry_in_slot, saved, saved_in, spilled}
 use Rattle.sel_parse_selected.specs.Spills.{with_free, due_by, due}
 use Rattle.sel_parse_stands.proofs.Saving.{lowest_found, bits_none, token_none}
-use Rattle.sel_parse_slots.proofs.Counts.{tick, count, count_any, count_none, count_one, total, total_set, tick_small}
+use Rattle.sel_parse_slots.proofs.Counts.{tick, count, count_any, count_none, total, total_set, tick_small}
 use Rattle.sel_parse_slots.proofs.Fine as fine
-use Rattle.sel_parse_slots.proofs.Fine.{registers}
+use Rattle.sel_parse_slots.proofs.Fine.{registers, register_one}
 use Rattle.sel_parse_slots.proofs.Counting as counting
 use Rattle.sel_parse_slots.proofs.Counting.{Good, AllFine, Counted, Goes, goes_of, fine_at}
-use Rattle.sel_parse_registers.proofs.Pools.{tick_true, apart_of, count_less_in, none_count, lowest_none, ones_counted, total_none, none_last}
+use Rattle.sel_parse_registers.proofs.Pools.{tick_true, count_less_in, none_count, lowest_none, ones_counted, total_none, none_last}
 use Rattle.sel_parse_registers.proofs.Pools.{none_first, made_free, not_free}
 
 -- ---- what comes of a step: a register was never missing
@@ -77,17 +77,6 @@ module _ {O I S F : Type 0} (of : Meaning O I S F) (law : IsLawful of) (q : Tree
 
   pub register_other : (v r : ℕ) → v < 12 → (r ≡ v → ⊥) → attr_touches of (attr.Reg v) (RegAt r) ≡ false
   register_other v r lt apart = ap (λ k. bit_at k r == 1) (law.spells.register_bits v lt) ∙ ap (λ k. k == 1) (bit_at-pow_other v r apart)
-
-  -- a register's operand spells one
-  register_one : (v : ℕ) → v < 12 → registers of law q d first (attr.Reg v) ≤ 1
-  register_one v lt =
-      let a = count_less_in (λ r. attr_touches of (attr.Reg v) (RegAt r)) (λ r. v == r) 0 12 (λ r from below. by r (v == r) refl) in
-      let b = count_one v 0 12 in
-      omega (arith, a, b)
-    where
-      by : (r : ℕ) (b : Bool) → (v == r) ≡ b → tick (attr_touches of (attr.Reg v) (RegAt r)) ≤ tick (v == r)
-      by r true e = (let a = tick_small (attr_touches of (attr.Reg v) (RegAt r)) in let b = ap tick e in omega (arith, a, b))
-      by r false e = (let a = ap tick (register_other v r lt (apart_of v r e)) in omega (arith, a))
 
   pub slot_none : (w r : ℕ) → w < 1024 → attr_touches of (attr.InSlot w) (RegAt r) ≡ false
   slot_none w r lt = bits_none of law (of.slot w) r (law.spells.slot_bits w lt)
@@ -160,7 +149,7 @@ module _ {O I S F : Type 0} (of : Meaning O I S F) (law : IsLawful of) (q : Tree
           omega (arith, n)
 
       by : (a : Attr O) → fine.IsFine of law q d first s a → may_go of (record { kind = e.kind; attr = a }) ≡ false → registers of law q d first a ≤ tick (is_register a)
-      by (attr.Reg v) f g = register_one v (small s v (attr.Reg v) f refl)
+      by (attr.Reg v) f g = register_one of law q d first v (small s v (attr.Reg v) f refl)
       by (attr.InSlot w) f g = none (attr.InSlot w) g
       by (attr.Value o) f g = none (attr.Value o) g
       by (attr.Place o) f g = none (attr.Place o) g

@@ -9,7 +9,7 @@ use Rattle.std.proofs.lemmas.Bool.Decides.{nat_tests}
 use Rattle.std.proofs.lemmas.Grind.{reverse_onto}
 use Rattle.std.proofs.lemmas.Nat.{ones-le}
 use Rattle.std.proofs.lemmas.Nat.Bits.{bit_at-suc, bit_at_lowest}
-use Rattle.std.proofs.lemmas.Bool.{eqb-true, true≢false, eqb-false}
+use Rattle.std.proofs.lemmas.Bool.{eqb-true, true≢false}
 use Rattle.std.proofs.lemmas.Option.{none-some, same_Some}
 use Rattle.sel_target.specs.Symbols.{lowest, behind_one, first_that}
 use Rattle.sel_parse_selected.specs.Spills.{later_of, last_that}
@@ -22,14 +22,6 @@ tick_true false le = absurd (omega (arith, le))
 pub tick_none : (b : Bool) → tick b ≤ 0 → b ≡ false
 tick_none true le = absurd (omega (arith, le))
 tick_none false le = refl
-
--- where one implies the other
-pub tick_implied : (b c : Bool) → (b ≡ true → c ≡ true) → tick b ≤ tick c
-tick_implied true c h = (let e = ap tick (h refl) in omega (arith, e))
-tick_implied false c h = omega arith
-
-pub apart_of : (v r : ℕ) → (v == r) ≡ false → r ≡ v → ⊥
-apart_of v r e g = eqb-false v r e (sym g)
 
 -- ---- counts of ranges
 

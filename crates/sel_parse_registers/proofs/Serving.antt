@@ -27,10 +27,10 @@ use Rattle.sel_parse_selected.specs.Desk.{Stack, Desk, desk_of, held}
 use Rattle.sel_parse_selected.specs.Spills.{due}
 use Rattle.sel_parse_selected.specs.Reductions.{own_register, own_number, shaped, finished, with_result, with_scratch, given_by, loaded, reloaded_by, reloaded_at, reloaded, reduced}
 use Rattle.sel_parse_stands.proofs.Loaded.{AllLoaded, all_loaded}
-use Rattle.sel_parse_slots.proofs.Counts.{tick, total_set, tick_small}
+use Rattle.sel_parse_slots.proofs.Counts.{tick, total_set, tick_small, tick_implied}
 use Rattle.sel_parse_slots.proofs.Counting.{Counted, IsDue, due_good, one_good, fine_at, slot_kind, fine_length}
 use Rattle.sel_parse_slots.proofs.Finishing.{all_fit, right_none}
-use Rattle.sel_parse_registers.proofs.Pools.{tick_implied, none_total, map_total, map_at, free_parts}
+use Rattle.sel_parse_registers.proofs.Pools.{none_total, map_total, map_at, free_parts}
 use Rattle.sel_parse_registers.proofs.Owning.{Had, had_bind, had_both, holds, holders, in_pool, Owned, OwnedAt, register_other, slot_none}
 use Rattle.sel_parse_registers.proofs.Owning.{symbols_kinds, symbols_less, room_now, room_given, IsGot, due_had}
 

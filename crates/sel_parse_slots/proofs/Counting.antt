@@ -24,7 +24,7 @@ use Rattle.sel_parse_selected.specs.Desk.{Desk, Outcome, Full, Stuck, Done, bind
 use Rattle.sel_parse_selected.specs.Spills.{Where, Below, Among, last_that, holds_register, may_go, deepest, victim, entry_at, in_slot, entry_in_slot, saved, saved_in}
 use Rattle.sel_parse_selected.specs.Spills.{spilled, with_free, due_by, due}
 use Rattle.sel_parse_selected.specs.Reductions.{loaded, reloaded_by, reloaded_at, reloaded}
-use Rattle.sel_parse_stands.proofs.Loaded.{IsLoaded}
+use Rattle.sel_parse_stands.proofs.Loaded.{IsLoaded, in_slot_loaded}
 use Rattle.sel_parse_stands.proofs.Saving.{lowest_found}
 use Rattle.sel_parse_stands.proofs.Desks.{first_passes, last_passes, set_is}
 use Rattle.sel_parse_slots.proofs.Counts.{count, tick, count_any, below_lowest, none_lowest, total, total_set, total_append}
@@ -200,16 +200,6 @@ module _ {O I S F : Type 0} (of : Meaning O I S F) (law : IsLawful of) (q : Tree
         let w = h.held_in_all in
         omega (arith, x, y, z, w)
 
-    in_slot_loaded : (b : Attr O) (w : ℕ) → (is_register b ≡ true → ⊥) → IsLoaded b → IsLoaded (in_slot of b w)
-    in_slot_loaded (attr.Reg r) w apart h = absurd (apart refl)
-    in_slot_loaded (attr.InSlot u) w apart h = h
-    in_slot_loaded (attr.Value o) w apart h = tt
-    in_slot_loaded (attr.Place o) w apart h = tt
-    in_slot_loaded (attr.Con n) w apart h = tt
-    in_slot_loaded (attr.Ea o) w apart h = tt
-    in_slot_loaded (attr.Token l) w apart h = tt
-    in_slot_loaded attr.Nothing w apart h = tt
-
     pub record After (i : ℕ) (old new : Desk O I) : Type 0 where
       pub counted : Counted i new
       pub stays : SlotsStay old.symbols new.symbols
@@ -276,7 +266,7 @@ module _ {O I S F : Type 0} (of : Meaning O I S F) (law : IsLawful of) (q : Tree
             by : (j ≡ k) ⊎ (j ≡ k → ⊥) → IsLoaded b.attr
             by (inl g) =
                 subst (λ (x : Entry O). IsLoaded x.attr) (set_is desk.symbols j (entry_in_slot of e w) b (ap (slice_get (slice_set desk.symbols j (entry_in_slot of e w))) g ∙ there))
-                (in_slot_loaded e.attr w apart (h.loaded_to j e (subst (λ n. n < i) (sym g) lt) at))
+                (in_slot_loaded of e.attr w apart (h.loaded_to j e (subst (λ n. n < i) (sym g) lt) at))
             by (inr g) = h.loaded_to k b lt (sym (slice_set_other desk.symbols j (entry_in_slot of e w) k (λ z. g (sym z))) ∙ there)
 
         slots : (k u : ℕ) (kd : Option Kind) → slice_get desk.symbols k ≡ Some (record { kind = kd; attr = attr.InSlot u })

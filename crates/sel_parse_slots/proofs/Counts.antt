@@ -25,6 +25,11 @@ pub tick_small : (a : Bool) → tick a ≤ 1
 tick_small true = omega arith
 tick_small false = omega arith
 
+-- where one implies the other
+pub tick_implied : (b c : Bool) → (b ≡ true → c ≡ true) → tick b ≤ tick c
+tick_implied true c h = (let e = ap tick (h refl) in omega (arith, e))
+tick_implied false c h = omega arith
+
 -- where each that passes one test passes one of two others
 pub count_two : (p q r : ℕ → Bool) → ((v : ℕ) → tick (p v) ≤ tick (q v) + tick (r v)) → (k n : ℕ) → count p k n ≤ count q k n + count r k n
 count_two p q r h k zero = omega arith

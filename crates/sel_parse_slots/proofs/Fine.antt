@@ -1,5 +1,8 @@
 -- What entries hold, in registers and slots.
-use Rattle.std.proofs.Common.{◌≡◌, ℕ, ◌+◌, ◌-◌, ◌<◌, ◌≤◌, ◌==◌, Option, Some, true, false, refl, sym, ap, ◌∙◌, subst, arith}
+use Rattle.std.proofs.Common.{◌≡◌, ℕ, ◌+◌, ◌-◌, ◌<◌, ◌≤◌, ◌==◌, Option, Some, true, false, refl, sym, ap, ◌∙◌, subst, arith, Bool}
+use Rattle.std.proofs.lemmas.Bool.{eqb-false}
+use Rattle.std.proofs.lemmas.Nat.Bits.{bit_at-pow_other}
+use Rattle.std.specs.Int.{bit_at}
 use Rattle.tree_core.specs.declared.token.Tok.{Tok}
 use Rattle.tree_core.specs.declared.token.Tok.TheVariants as tok
 use Rattle.tree_core.specs.declared.tree.Att.{Att}
@@ -24,7 +27,7 @@ use Rattle.sel_target.specs.Symbols.{lowest, is_register}
 use Rattle.sel_parse_selected.specs.Spills.{holds_register, in_slot}
 use Rattle.sel_parse_stands.proofs.Saving.{lowest_found, bits_none}
 use Rattle.sel_parse_slots.specs.Claims.{IsOwn}
-use Rattle.sel_parse_slots.proofs.Counts.{count, count_none, count_less, count_one, count_some, tick, unequal}
+use Rattle.sel_parse_slots.proofs.Counts.{count, count_none, count_less, count_one, count_some, tick, unequal, tick_small}
 
 module _ {O I S F : Type 0} (of : Meaning O I S F) (law : IsLawful of) (q : TreeProgram) (d : Content) (first : ℕ) where
   abbrev pub registers : Attr O → ℕ
@@ -64,6 +67,24 @@ module _ {O I S F : Type 0} (of : Meaning O I S F) (law : IsLawful of) (q : Tree
   weight_charge (attr.Ea o) = omega arith
   weight_charge (attr.Token l) = omega arith
   weight_charge attr.Nothing = omega arith
+
+  -- a register's operand spells one
+  pub register_one : (r : ℕ) → r < 12 → registers (attr.Reg r) ≤ 1
+  register_one r lt =
+      let a = count_less (λ v. touches of (of.register r) (RegAt v)) (λ v. r == v) (λ v. same v) 0 12 in
+      let b = count_one r 0 12 in
+      omega (arith, a, b)
+    where
+      same : (v : ℕ) → tick (touches of (of.register r) (RegAt v)) ≤ tick (r == v)
+      same v = by (r == v) refl
+        where
+          by : (b : Bool) → (r == v) ≡ b → tick (touches of (of.register r) (RegAt v)) ≤ tick (r == v)
+          by true e = (let a = tick_small (touches of (of.register r) (RegAt v)) in let b = ap tick e in omega (arith, a, b))
+          by false e =
+              let bit : (bit_at (of.registers (of.register r)) v == 1) ≡ false =
+              ap (λ k. bit_at k v == 1) (law.spells.register_bits r lt) ∙ ap (λ k. k == 1) (bit_at-pow_other r v (λ f. eqb-false r v e (sym f))) in
+              let a = ap tick bit in
+              omega (arith, a)
 
   -- an entry that may stand for its symbol
   pub data IsFine : (s : Sym) (a : Attr O) → Type 0 where

@@ -1,12 +1,9 @@
 -- What a reduction gives is fine, and holds no more than it may.
-use Rattle.std.proofs.Common.{◌≡◌, ℕ, zero, suc, ◌+◌, ◌-◌, ◌^◌, ◌<◌, ◌≤◌, ◌==◌, List, [], ◌∷◌, length, Option, Some, None, Bool, true, false, refl, sym, ap, ◌∙◌, subst}
+use Rattle.std.proofs.Common.{◌≡◌, ℕ, zero, suc, ◌+◌, ◌-◌, ◌^◌, ◌<◌, ◌≤◌, List, [], ◌∷◌, length, Option, Some, None, true, false, refl, sym, ap, ◌∙◌, subst}
 use Rattle.std.proofs.Common.{arith, slice_get}
 use Rattle.std.specs.Prelude.{Ok, option_map}
 use Rattle.std.specs.List.{AllByRecursion as All, list_any}
-use Rattle.std.specs.Int.{bit_at}
-use Rattle.std.proofs.lemmas.Nat.Bits.{bit_at-pow_other}
 use Rattle.std.proofs.lemmas.Option.{same_Some, none-some}
-use Rattle.std.proofs.lemmas.Bool.{eqb-false}
 use Rattle.gg_base.specs.declared.size.Size.TheVariants.{Byte, Word, Long}
 use Rattle.tree_core.specs.declared.token.Tok.{Tok}
 use Rattle.tree_core.specs.declared.token.Sort.{Sort}
@@ -48,9 +45,9 @@ use Rattle.sel_parse_effect.proofs.Shapes as shapes
 use Rattle.sel_target.specs.Spelled.{IsSpelled, TokenIsSpelled, AreSpelled}
 use Rattle.sel_target.specs.Symbols.{first_hole}
 use Rattle.sel_parse_slots.specs.Claims.{IsOwn}
-use Rattle.sel_parse_slots.proofs.Counts.{count, count_less, count_any, count_one, tick, total}
+use Rattle.sel_parse_slots.proofs.Counts.{count, count_less, count_any, total, tick_implied}
 use Rattle.sel_parse_slots.proofs.Fine as fine
-use Rattle.sel_parse_slots.proofs.Fine.{registers, words, charge, IsFine}
+use Rattle.sel_parse_slots.proofs.Fine.{registers, words, charge, IsFine, register_one}
 use Rattle.sel_parse_slots.proofs.Counting.{Good, good_bind, sum, charge_of, AllFine, Within, within_total, weights, Counted, IsDue, due_good, reloaded_good, fine_length}
 
 -- ---- no class of statements stands in a right side
@@ -129,32 +126,8 @@ module _ {O I S F : Type 0} (of : Meaning O I S F) (law : IsLawful of) (q : Tree
 
   -- ---- a shape holds no more than its symbols
 
-  register_one : (r : ℕ) → r < 12 → registers of law q d first (attr.Reg r) ≤ 1
-  register_one r lt =
-      let a = count_less (λ v. touches of (of.register r) (RegAt v)) (λ v. r == v) (λ v. same v) 0 12 in
-      let b = count_one r 0 12 in
-      omega (arith, a, b)
-    where
-      other : (v : ℕ) → (r == v) ≡ false → v ≡ r → ⊥
-      other v e f = eqb-false r v e (sym f)
-
-      same : (v : ℕ) → tick (touches of (of.register r) (RegAt v)) ≤ tick (r == v)
-      same v = by (r == v) refl
-        where
-          small : (b : Bool) → tick b ≤ 1
-          small true = omega arith
-          small false = omega arith
-
-          by : (b : Bool) → (r == v) ≡ b → tick (touches of (of.register r) (RegAt v)) ≤ tick (r == v)
-          by true e = (let a = small (touches of (of.register r) (RegAt v)) in let b = ap tick e in omega (arith, a, b))
-          by false e =
-              let bit : (bit_at (of.registers (of.register r)) v == 1) ≡ false =
-              ap (λ k. bit_at k v == 1) (law.spells.register_bits r lt) ∙ ap (λ k. k == 1) (bit_at-pow_other r v (λ f. other v e f)) in
-              let a = ap tick bit in
-              omega (arith, a)
-
   class_held : (k : Option Kind) (a : Attr O) → KindFits of k a → registers of law q d first a + words of law q d first a ≤ charge of law q d first a
-  class_held (Some kind.Reg) (attr.Reg r) h = (let x = register_one r h in let y = fine.register_words of law q d first r h in omega (arith, x, y))
+  class_held (Some kind.Reg) (attr.Reg r) h = (let x = register_one of law q d first r h in let y = fine.register_words of law q d first r h in omega (arith, x, y))
   class_held (Some (kind.Value z)) (attr.Value o) h = omega arith
   class_held (Some (kind.Place z)) (attr.Place o) h = omega arith
   class_held (Some kind.Con) (attr.Con n) h = (let y = fine.no_words of law q d first in omega (arith, y))
@@ -177,18 +150,14 @@ module _ {O I S F : Type 0} (of : Meaning O I S F) (law : IsLawful of) (q : Tree
   held_all (s ∷ ss) [] h k = absurd h
   held_all (s ∷ ss) (e ∷ es) h k = (let x = held_fine s e.attr h.0 k.0 in let y = held_all ss es h.1 k.1 in omega (arith, x, y))
 
-  implied : (b c : Bool) → (b ≡ true → c ≡ true) → tick b ≤ tick c
-  implied true c h = (let e = ap tick (h refl) in omega (arith, e))
-  implied false c h = omega arith
-
   -- the operand of a shape
   operand_held : (ss : List Sym) (es : List (Entry O)) (o : O) → AllFine of law q d first ss es → AllLoaded es
       → ((s : Spot) → touches of o s ≡ true → list_any (λ h. attr_touches of h s) (attrs es) ≡ true)
       → count (λ r. touches of o (RegAt r)) 0 12 + count (λ w. touches of o (WordAt w)) first (1024 - first) ≤ total (charge_of of law q d first) es
   operand_held ss es o h k t =
-      let a = count_less (λ r. touches of o (RegAt r)) (λ r. list_any (λ h. attr_touches of h (RegAt r)) (attrs es)) (λ r. implied (touches of o (RegAt r)) _ (λ e. t (RegAt r) e)) 0 12 in
+      let a = count_less (λ r. touches of o (RegAt r)) (λ r. list_any (λ h. attr_touches of h (RegAt r)) (attrs es)) (λ r. tick_implied (touches of o (RegAt r)) _ (λ e. t (RegAt r) e)) 0 12 in
       let b = count_any (λ (h : Attr O) r. attr_touches of h (RegAt r)) (attrs es) 0 12 in
-      let c = count_less (λ w. touches of o (WordAt w)) (λ w. list_any (λ h. attr_touches of h (WordAt w)) (attrs es)) (λ w. implied (touches of o (WordAt w)) _ (λ e. t (WordAt w) e)) first
+      let c = count_less (λ w. touches of o (WordAt w)) (λ w. list_any (λ h. attr_touches of h (WordAt w)) (attrs es)) (λ w. tick_implied (touches of o (WordAt w)) _ (λ e. t (WordAt w) e)) first
       (1024 - first) in
       let e = count_any (λ (h : Attr O) w. attr_touches of h (WordAt w)) (attrs es) first (1024 - first) in
       let f = held_all ss es h k in

@@ -36,7 +36,7 @@ use Rattle.sel_parse_selected.specs.Reductions.{loaded, reloaded_by, reloaded_at
 use Rattle.sel_parse_stands.specs.Stands as stands
 use Rattle.sel_parse_stands.specs.Stands.{ClassIs, SymbolIs, Sees, IsFrame, Holds}
 use Rattle.sel_parse_stands.specs.Lines.{LinesSave}
-use Rattle.sel_parse_stands.proofs.Loaded.{IsLoaded}
+use Rattle.sel_parse_stands.proofs.Loaded.{IsLoaded, in_slot_loaded}
 use Rattle.sel_parse_stands.proofs.Carrying.{AllUntouched, Carried, on, stays, AllCarried, all_carried_on}
 use Rattle.sel_parse_stands.proofs.Keeping.{holds_kept, sees_kept, not_held, comes_on}
 use Rattle.sel_parse_stands.proofs.Saving.{lowest_found, entry_saved, slot_holds_none, register_loaded}
@@ -269,16 +269,6 @@ module _ {O I S F : Type 0} (of : Meaning O I S F) (law : IsLawful of) (q : Tree
         is_free : (w : ℕ) → Word desk w → w < f.words → IsFree f (WordAt w)
         is_free w word lt = (let own = frame.own in let from = word.from in (omega (arith, own, from), lt))
 
-    in_slot_loaded : (b : Attr O) (w : ℕ) → (is_register b ≡ true → ⊥) → IsLoaded b → IsLoaded (in_slot of b w)
-    in_slot_loaded (attr.Reg r) w apart h = absurd (apart refl)
-    in_slot_loaded (attr.InSlot u) w apart h = h
-    in_slot_loaded (attr.Value o) w apart h = tt
-    in_slot_loaded (attr.Place o) w apart h = tt
-    in_slot_loaded (attr.Con n) w apart h = tt
-    in_slot_loaded (attr.Ea o) w apart h = tt
-    in_slot_loaded (attr.Token l) w apart h = tt
-    in_slot_loaded attr.Nothing w apart h = tt
-
     moved_stays : (desk : Desk O I) (p : Where) (e : Entry O) (w : ℕ) → MayMove desk p e → Stays desk.symbols (saved of q d first desk p e w).symbols
     moved_stays desk p e w (below i e' at holding) = unchanged desk.symbols
     moved_stays desk p e w (among i e' at holding apart) = record {
@@ -306,7 +296,7 @@ module _ {O I S F : Type 0} (of : Meaning O I S F) (law : IsLawful of) (q : Tree
               subst (λ (x : Entry O). IsLoaded x.attr)
               (same_Some (entry_in_slot of e w) b (sym (slice_set_same desk.symbols i (entry_in_slot of e w) (slice_get_within desk.symbols i e at))
               ∙ ap (slice_get (slice_set desk.symbols i (entry_in_slot of e w))) g ∙ there))
-              (in_slot_loaded e.attr w apart (h i e (subst (λ k. k < n) (sym g) lt) at))
+              (in_slot_loaded of e.attr w apart (h i e (subst (λ k. k < n) (sym g) lt) at))
           by (inr g) = h j b lt (sym (slice_set_other desk.symbols i (entry_in_slot of e w) j (λ z. g (sym z))) ∙ there)
 
     -- ---- a register is due
