@@ -5,7 +5,6 @@ use Rattle.std.proofs.lemmas.Option.{same_Some}
 use Rattle.gg_base.proofs.Facts.{nil_of}
 use Rattle.lr_tables.proofs.Members.{In, In-cases, In-Contains, Contains-In}
 use Rattle.tree_core.specs.declared.token.Tok.{Tok}
-use Rattle.tree_core.specs.declared.token.Tok.TheVariants as tok
 use Rattle.tree_core.specs.declared.token.Sort.{Sort}
 use Rattle.tree_core.specs.Grammar.{kids}
 use Rattle.md_reader.specs.declared.types.Sym.TheVariants as grammar_symbol
@@ -15,7 +14,6 @@ use Rattle.lr_check_found.specs.declared.places.Place.{Place}
 use Rattle.lr_check_found.specs.declared.settlings.How.TheVariants as how
 use Rattle.lr_check_found.specs.Found.{FoundView, place_of, IsPlaceAt, Settles}
 use Rattle.lr_check_found.specs.Items.{Made, HasMade}
-use Rattle.lr_check_found.specs.Sound.{IsFound}
 use Rattle.lr_check_found.proofs.Below.{Below, none_below, one_more_at}
 use Rattle.lr_check_complete.specs.Kids.{OnlyIn, BothIn, KidsIn, IsFrame, FrameIn}
 
@@ -80,21 +78,21 @@ kids_two A f p k w v numbers two g n c x at = subst (KidsIn A f n x p) (sym two)
 
 pub record Places (f : FoundView) (q : ℕ) (k : Tok) (tokens : List Tok) (n : ℕ) (numbers : List ℕ) : Type 0 where
   pub places : (i : ℕ) → Contains numbers i → (b : Tok) × IsPlaceAt f i (place_of q k b)
-  pub all : Below tokens n (λ b. (A : Automaton) (i : ℕ) → IsFound A f → IsPlaceAt f i (place_of q k b) → Contains numbers i)
+  pub all : Below tokens n (λ b. (i : ℕ) → IsPlaceAt f i (place_of q k b) → Contains numbers i)
 
 pub no_places : (f : FoundView) (q : ℕ) (k : Tok) (tokens : List Tok) (numbers : List ℕ) → numbers ≡ [] → Places f q k tokens 0 numbers
 no_places f q k tokens numbers e = record {
   places = λ i c. absurd (let m = subst (λ l. Contains l i) e c in let lt = m.1 in omega (arith, lt));
-  all = none_below tokens (λ b. (A : Automaton) (i : ℕ) → IsFound A f → IsPlaceAt f i (place_of q k b) → Contains numbers i);
+  all = none_below tokens (λ b. (i : ℕ) → IsPlaceAt f i (place_of q k b) → Contains numbers i);
 }
 
 pub more_places : (f : FoundView) (q : ℕ) (k d : Tok) (tokens : List Tok) (n : ℕ) (before after : List ℕ) → Places f q k tokens n before → n < length tokens →
     ((i : ℕ) → Contains before i → Contains after i) → ((i : ℕ) → Contains after i → Contains before i ⊎ IsPlaceAt f i (place_of q k (get_or tokens n d))) →
-    ((A : Automaton) (i : ℕ) → IsFound A f → IsPlaceAt f i (place_of q k (get_or tokens n d)) → Contains after i) → Places f q k tokens (n + 1) after
+    ((i : ℕ) → IsPlaceAt f i (place_of q k (get_or tokens n d)) → Contains after i) → Places f q k tokens (n + 1) after
 more_places f q k d tokens n before after p lt kept only there = record {
   places = λ i c. ⊎_elim (λ m. p.places i m) (λ at. (get_or tokens n d, at)) (only i c);
-  all = one_more_at tokens n (λ b. (A : Automaton) (i : ℕ) → IsFound A f → IsPlaceAt f i (place_of q k b) → Contains after i) d
-      (record { each = λ j b less e A i found at. kept i (p.all.each j b less e A i found at) }) lt there;
+  all = one_more_at tokens n (λ b. (i : ℕ) → IsPlaceAt f i (place_of q k b) → Contains after i) d
+      (record { each = λ j b less e i at. kept i (p.all.each j b less e i at) }) lt there;
 }
 
 pub number_only : (f : FoundView) (x : Place) (i : ℕ) (before after : List ℕ) → after ≡ before ++ i ∷ [] → IsPlaceAt f i x → (n : ℕ) → Contains after n → Contains before n ⊎ IsPlaceAt f n x

@@ -4,19 +4,16 @@ ghost use Rattle.tree_core.specs.declared.token.Tok.{Tok};
 ghost use Rattle.tree_core.specs.declared.token.Tok.TheVariants as tok;
 ghost use Rattle.tree_core.specs.declared.token.Sort.TheVariants as sort;
 ghost use Rattle.lr_check_sets.specs.Trees.{May};
-ghost use Rattle.lr_check_sets.specs.Automaton.{Automaton};
 ghost use Rattle.lr_check_sets.specs.Table.{automaton_of};
 ghost use Rattle.lr_check_sets.specs.Closed.{IsClosed};
 ghost use Rattle.lr_check_found.specs.declared.settlings.Item.{Item};
 ghost use Rattle.lr_check_found.specs.Sound.{IsFound};
 ghost use Rattle.lr_check_found.specs.Items.{IsItem};
-ghost use Rattle.lr_check_complete.specs.declared.window.Window as view;
-ghost use Rattle.lr_check_complete.specs.Looks.{Looks};
+ghost use Rattle.lr_check_complete.specs.Looks.{automaton, WasFound, Looks};
 ghost use Rattle.lr_check_complete.specs.Sets.{HasPlace, HasSettling, HasSum, IsComplete};
 ghost use Rattle.lr_check_complete.specs.Kids.{FrameIn, ReducesIn};
 
-use crate::frames::frame;
-use crate::reductions::reductions;
+use crate::look::Look;
 use crate::window::Window;
 use gg_base::NoMemory;
 use lr_check_found::{Found, Item, Origin, Place, may, tokens};
@@ -24,123 +21,95 @@ use lr_tables::{State, Tables};
 use std::alloc::Global;
 use tree_core::{Sort, Tok};
 
-// The whole tree's place that begins with the token, if it may.
-fn start(found: &Found, token: Tok, into: &mut Vec<Item>) -> Result<(), NoMemory>
-    ensures { (A : Automaton) (w : view.Window) →
-        OnOk result (Looks A found.now w into.old.items into.new.items (May token sort.Stmt → HasPlace found.now 0 token tok.End)) }
-{
-    if !may(token, Sort::Stmt) {
-        return Ok(());
-    }
-    let place = Place {
-        state: State::START,
-        token,
-        behind: Tok::End,
-    };
-    match found.find(&place) {
-        Some(_) => Ok(()),
-        None => {
-            into.push(Item::Place(place, Origin::Root))?;
-            Ok(())
+impl<'a> Look<'a> {
+    // The whole tree's place that begins with the token, if it may.
+    fn start(&self, token: Tok, into: &mut Vec<Item>) -> Result<(), NoMemory>
+        ensures { OnOk result (Looks self.now into.old.items into.new.items
+            (May token sort.Stmt → HasPlace self.now.found.now 0 token tok.End)) }
+    {
+        if !may(token, Sort::Stmt) {
+            return Ok(());
+        }
+        let place = Place {
+            state: State::START,
+            token,
+            behind: Tok::End,
+        };
+        match self.found.find(&place) {
+            Some(_) => Ok(()),
+            None => {
+                into.push(Item::Place(place, Origin::Root))?;
+                Ok(())
+            }
         }
     }
-}
 
-fn starts(found: &Found, into: &mut Vec<Item>) -> Result<(), NoMemory>
-    ensures { (A : Automaton) (w : view.Window) →
-        OnOk result (Looks A found.now w into.old.items into.new.items ((k : Tok) → May k sort.Stmt → HasPlace found.now 0 k tok.End)) }
-{
-    for token in tokens() {
-        start(found, *token, into)?;
+    fn starts(&self, into: &mut Vec<Item>) -> Result<(), NoMemory>
+        ensures { OnOk result (Looks self.now into.old.items into.new.items
+            ((k : Tok) → May k sort.Stmt → HasPlace self.now.found.now 0 k tok.End)) }
+    {
+        for token in tokens() {
+            self.start(*token, into)?;
+        }
+        Ok(())
     }
-    Ok(())
-}
 
-// What follows from the places of the state.
-fn frames_of(
-    alloc: Global,
-    tables: &Tables,
-    found: &Found,
-    window: Window,
-    state: State,
-    into: &mut Vec<Item>,
-) -> Result<(), NoMemory>
-    requires { IsFound (automaton_of tables.now) found.now }
-    ensures { OnOk result (Looks (automaton_of tables.now) found.now window into.old.items into.new.items
-        ((k : Tok) → FrameIn (automaton_of tables.now) found.now state k)) }
-{
-    for token in tokens() {
-        frame(alloc, tables, found, window, state, *token, into)?;
+    // What follows from the places of the state.
+    fn frames_of(&self, alloc: Global, state: State, into: &mut Vec<Item>) -> Result<(), NoMemory>
+        requires { WasFound self.now }
+        ensures { OnOk result (Looks self.now into.old.items into.new.items
+            ((k : Tok) → FrameIn (automaton self.now) self.now.found.now state k)) }
+    {
+        for token in tokens() {
+            self.frame(alloc, state, *token, into)?;
+        }
+        Ok(())
     }
-    Ok(())
-}
 
-fn frames(
-    alloc: Global,
-    tables: &Tables,
-    found: &Found,
-    window: Window,
-    into: &mut Vec<Item>,
-) -> Result<(), NoMemory>
-    requires { IsFound (automaton_of tables.now) found.now }
-    ensures { OnOk result (Looks (automaton_of tables.now) found.now window into.old.items into.new.items
-        ((q : ℕ) → q < length tables.now.rows → (k : Tok) → FrameIn (automaton_of tables.now) found.now q k)) }
-{
-    tables.is_numbered();
-    for number in 0..tables.states() {
-        frames_of(alloc, tables, found, window, State::of(number as u16), into)?;
+    fn frames(&self, alloc: Global, into: &mut Vec<Item>) -> Result<(), NoMemory>
+        requires { WasFound self.now }
+        ensures { OnOk result (Looks self.now into.old.items into.new.items
+            ((q : ℕ) → q < length self.now.tables.now.rows → (k : Tok) → FrameIn (automaton self.now) self.now.found.now q k)) }
+    {
+        self.tables.is_numbered();
+        for number in 0..self.tables.states() {
+            self.frames_of(alloc, State::of(number as u16), into)?;
+        }
+        Ok(())
     }
-    Ok(())
-}
 
-// Reductions of the settling with the number, unless it is old.
-fn new_reductions(
-    tables: &Tables,
-    found: &Found,
-    window: Window,
-    number: usize,
-    into: &mut Vec<Item>,
-) -> Result<(), NoMemory>
-    requires { IsFound (automaton_of tables.now) found.now }
-    ensures { OnOk result (Looks (automaton_of tables.now) found.now window into.old.items into.new.items
-        (ReducesIn (automaton_of tables.now) found.now number)) }
-{
-    if number < window.settlings {
-        return Ok(());
+    // Reductions of the settling with the number, unless it is old.
+    fn new_reductions(&self, number: usize, into: &mut Vec<Item>) -> Result<(), NoMemory>
+        requires { WasFound self.now }
+        ensures { OnOk result (Looks self.now into.old.items into.new.items
+            (ReducesIn (automaton self.now) self.now.found.now number)) }
+    {
+        if number < self.window.settlings {
+            return Ok(());
+        }
+        self.reductions(number, into)
     }
-    reductions(tables, found, number, into)
-}
 
-fn all_reductions(
-    tables: &Tables,
-    found: &Found,
-    window: Window,
-    into: &mut Vec<Item>,
-) -> Result<(), NoMemory>
-    requires { IsFound (automaton_of tables.now) found.now }
-    ensures { OnOk result (Looks (automaton_of tables.now) found.now window into.old.items into.new.items
-        ((i : ℕ) → i < length found.now.settlings → ReducesIn (automaton_of tables.now) found.now i)) }
-{
-    for number in 0..found.settlings().len() {
-        new_reductions(tables, found, window, number, into)?;
+    fn all_reductions(&self, into: &mut Vec<Item>) -> Result<(), NoMemory>
+        requires { WasFound self.now }
+        ensures { OnOk result (Looks self.now into.old.items into.new.items
+            ((i : ℕ) → i < length self.now.found.now.settlings → ReducesIn (automaton self.now) self.now.found.now i)) }
+    {
+        for number in 0..self.found.settlings().len() {
+            self.new_reductions(number, into)?;
+        }
+        Ok(())
     }
-    Ok(())
-}
 
-fn push_lacking(
-    alloc: Global,
-    tables: &Tables,
-    found: &Found,
-    window: Window,
-    into: &mut Vec<Item>,
-) -> Result<(), NoMemory>
-    requires { IsFound (automaton_of tables.now) found.now }
-    ensures { OnOk result (Looks (automaton_of tables.now) found.now window into.old.items into.new.items
-        (IsClosed (automaton_of tables.now) (HasPlace found.now) (HasSettling found.now) (HasSum found.now))) }
-{
-    starts(found, into)?;
-    frames(alloc, tables, found, window, into)?;
-    all_reductions(tables, found, window, into)
+    fn push_lacking(&self, alloc: Global, into: &mut Vec<Item>) -> Result<(), NoMemory>
+        requires { WasFound self.now }
+        ensures { OnOk result (Looks self.now into.old.items into.new.items
+            (IsClosed (automaton self.now) (HasPlace self.now.found.now) (HasSettling self.now.found.now) (HasSum self.now.found.now))) }
+    {
+        self.starts(into)?;
+        self.frames(alloc, into)?;
+        self.all_reductions(into)
+    }
 }
 
 /// What follows from what was found and isn't there, as far as it was not looked at before.
@@ -156,6 +125,11 @@ pub fn lacking(
     ensures complete { IfOk result (λ v. length v.items ≡ 0 → window.settlings ≡ 0 → IsComplete (automaton_of tables.now) found.now) }
 {
     let mut items = Vec::new(alloc);
-    push_lacking(alloc, tables, found, window, &mut items)?;
+    let look = Look {
+        tables,
+        found,
+        window,
+    };
+    look.push_lacking(alloc, &mut items)?;
     Ok(items)
 }

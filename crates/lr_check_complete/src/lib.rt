@@ -6,6 +6,7 @@ mod firsts;
 mod frames;
 mod kids;
 mod lacking;
+mod look;
 mod looking;
 mod reductions;
 mod rounds;

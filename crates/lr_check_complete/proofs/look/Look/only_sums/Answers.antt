@@ -1,0 +1,13 @@
+use Rattle.std.proofs.lemmas.List.Elements.{Contains-get_or}
+use Rattle.lr_check_complete.proofs.Turns.{looks_none, looks_turn_at, looks_all}
+use Rattle.lr_check_complete.proofs.look.Look.only_sums.Goals as goal
+
+pub loop-sum-init : goal.loop-sum-init
+loop-sum-init c = λ each. looks_none c.args.self.now _ _ _
+
+pub loop-sum-preserved : goal.loop-sum-preserved
+loop-sum-preserved c = λ each. looks_turn_at c.args.self.now _ _ _ _ _ _ _ (c.loop-sum.invariant each) c.loop-sum-test.true
+    (c.in_ok-only_sum.ensures (each _ (Contains-get_or c.args.sums.now c.loop-sum.sum-index _ c.loop-sum-test.true)))
+
+pub returns : goal.returns
+returns c = λ each. looks_all c.args.self.now _ _ _ _ _ (c.loop-sum.invariant each) c.loop-sum-test.false

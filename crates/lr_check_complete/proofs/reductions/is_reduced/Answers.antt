@@ -1,8 +1,0 @@
-use Rattle.std.proofs.Common.{[], ◌∷◌, subst}
-use Rattle.md_reader.specs.declared.types.Sym.TheVariants as grammar_symbol
-use Rattle.lr_check_found.specs.Lists.{ListsView, IsPushed}
-use Rattle.lr_check_complete.proofs.reductions.is_reduced.Goals as goal
-
-pub returns-in-Some : goal.returns-in-Some
-returns-in-Some c = λ t. c.settles.ensures.there c.requires.0 c.requires.1 t (grammar_symbol.Class c.args.class ∷ [])
-    (subst (λ (v : ListsView). IsPushed v (grammar_symbol.Class c.args.class) 0 c.in-Some.list) c.lists.ensures c.in-Some.ensures [] c.requires.1.lists.first)
