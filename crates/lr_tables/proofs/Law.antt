@@ -148,12 +148,12 @@ module _ (rules : List Rule) (stmt classes : ℕ) (g : IsGrammar rules stmt clas
   ks = found rules stmt classes (length rows)
 
   -- the row of a state
-  row_at : (q : ℕ) (k : List Item) → slice_get (found rules stmt classes (length rows)) q ≡ Some k → slice_get rows q ≡ Some (row_of rules stmt classes (found rules stmt classes (length rows)) k)
+  pub row_at : (q : ℕ) (k : List Item) → slice_get (found rules stmt classes (length rows)) q ≡ Some k → slice_get rows q ≡ Some (row_of rules stmt classes (found rules stmt classes (length rows)) k)
   row_at q k e = ap (λ (x : List RowView). slice_get x q) b.each ∙ (slice_get-map (row_of rules stmt classes (found rules stmt classes (length rows)))
       (found rules stmt classes (length rows)) q ∙ ap (option_map (row_of rules stmt classes (found rules stmt classes (length rows)))) e)
 
   -- where a kernel's row leads
-  target_is : (k : List Item) (s : ℕ) → s < 40 + classes → get_or (row_of rules stmt classes (found rules stmt classes (length rows)) k).targets s None
+  pub target_is : (k : List Item) (s : ℕ) → s < 40 + classes → get_or (row_of rules stmt classes (found rules stmt classes (length rows)) k).targets s None
       ≡ target_of (found rules stmt classes (length rows)) (moved rules stmt s (item_set rules stmt classes (chains rules) k))
   unfolding row_of targets_of
   target_is k s lt = get_or-map-range_with_len (λ (m : ℕ). target_of (found rules stmt classes (length rows)) (moved rules stmt m (item_set rules stmt classes (chains rules) k))) 0
