@@ -1,9 +1,7 @@
 -- Stacks that lead to states, and states that stacks lead to.
-use Rattle.std.proofs.Common.{◌≡◌, ℕ, zero, suc, ◌+◌, ◌<◌, List, [], ◌∷◌, Option, Some, None, length, get_or, slice_get, refl, sym, ap, ◌∙◌, subst, arith}
+use Rattle.std.proofs.Common.{◌≡◌, ℕ, zero, suc, ◌+◌, ◌<◌, List, [], ◌∷◌, Option, Some, length, slice_get, refl, sym, ap, ◌∙◌, subst, arith}
 use Rattle.std.specs.Prelude.{position}
-use Rattle.std.specs.Option.{option_map}
-use Rattle.std.proofs.lemmas.List.FromFn.{get_or-map-range_with_len}
-use Rattle.std.proofs.lemmas.Option.{slice_get-map, slice_get_within, same_Some, none-some}
+use Rattle.std.proofs.lemmas.Option.{slice_get_within, same_Some, none-some}
 use Rattle.gg_base.proofs.Facts.{slice_some}
 use Rattle.md_reader.specs.declared.types.Rule.{Rule}
 use Rattle.md_reader.specs.declared.types.Sym.{Sym}
@@ -13,10 +11,9 @@ use Rattle.lr_tables.specs.Symbols.{symbol_number}
 use Rattle.lr_tables.specs.Items.{advanced, Items, starts, opens, moves}
 use Rattle.lr_tables.specs.Grammar.{IsGrammar}
 use Rattle.lr_tables.specs.Statements.{stmt_of}
-use Rattle.lr_tables.specs.Sets.{chains, item_set, moved}
+use Rattle.lr_tables.specs.Sets.{chains, item_set}
 use Rattle.lr_tables.specs.Kernels.{kernel_at}
 use Rattle.lr_tables.specs.Numbering.{same_kernel, found}
-use Rattle.lr_tables.specs.Rows.{target_of, targets_of, row_of}
 use Rattle.lr_tables.specs.View.{RowView, TableView}
 use Rattle.lr_tables.specs.Built.{IsRows}
 use Rattle.lr_tables.specs.Leads.{target_in, target_at, Leads, nowhere, further}
@@ -26,7 +23,7 @@ use Rattle.lr_tables.proofs.Closing.{kernel_valid, set_valid, valid_set, moved_t
 use Rattle.lr_tables.proofs.Order.{kernel_in, kernel_sorted, set_kernel, sorted_same}
 use Rattle.lr_tables.proofs.Found.{Apart, position_there, head_in, in_some, found_reached, found_apart, found_complete, symbol_within}
 use Rattle.lr_tables.proofs.Loops.{target_some}
-use Rattle.lr_tables.proofs.Law.{leads_kernel}
+use Rattle.lr_tables.proofs.Law.{leads_kernel, row_at, target_is}
 use Rattle.lr_tables.specs.Over.{SameItems}
 use Rattle.lr_tables_states.specs.States.{StatesAreItemSets}
 
@@ -54,20 +51,14 @@ module _ (rules : List Rule) (stmt classes : ℕ) (g : IsGrammar rules stmt clas
   kernel_of : (a : List Sym) (q : ℕ) → Leads table a q → slice_get ks q ≡ Some (kernel a)
   kernel_of a q l = leads_kernel rules stmt classes g content rows b l
 
-  row_of_state : (q : ℕ) (k : List Item) → slice_get ks q ≡ Some k → slice_get rows q ≡ Some (row_of rules stmt classes ks k)
-  row_of_state q k e = ap (λ (x : List RowView). slice_get x q) b.each ∙ (slice_get-map (row_of rules stmt classes ks) ks q ∙ ap (option_map (row_of rules stmt classes ks)) e)
-
-  target_is : (k : List Item) (s : ℕ) → s < 40 + classes → get_or (row_of rules stmt classes ks k).targets s None ≡ target_of ks (moved rules stmt s (set k))
-  unfolding row_of targets_of
-  target_is k s lt = get_or-map-range_with_len (λ (m : ℕ). target_of ks (moved rules stmt m (set k))) 0 (40 + classes) s s None lt (omega arith)
-
   -- where an item's dot goes over a symbol, the stack with it leads on
   leads_next : (a : List Sym) (q : ℕ) (X : Sym) → Leads table a q → 0 < length (kernel (X ∷ a)) → symbol_number X < 40 + classes → (p : ℕ) × Leads table (X ∷ a) p
   leads_next a q X l some lt =
       let next = kernel (X ∷ a) in
       let p : (n : ℕ) × (position (same_kernel next) ks ≡ Some n) = position_there ks next (found_complete rules stmt classes g (length rows) (let m = b.many in omega (arith, m)) (X ∷ a) some) in
       let e : target_at table q X ≡ Some p.0 =
-      ap (λ (o : Option RowView). target_in o (symbol_number X)) (row_of_state q (kernel a) (kernel_of a q l)) ∙ (target_is (kernel a) (symbol_number X) lt ∙ (target_some ks next some ∙ p.1)) in
+      ap (λ (o : Option RowView). target_in o (symbol_number X)) (row_at rules stmt classes g content rows b q (kernel a) (kernel_of a q l))
+      ∙ (target_is rules stmt classes g content rows b (kernel a) (symbol_number X) lt ∙ (target_some ks next some ∙ p.1)) in
       (p.0, further l e)
 
   states : {a : List Sym} {i : Item} → Items rules stmt a i → (q : ℕ) × Leads table a q
