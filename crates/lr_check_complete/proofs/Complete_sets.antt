@@ -33,6 +33,9 @@ row_within t q p X e = by (slice_get t.rows q) refl
     by None f = absurd (none-some p (sym (ap (λ (o : Option RowView). target_in o (symbol_number X)) f) ∙ e))
     by (Some r) f = slice_get_within t.rows q r f
 
+pub place_is : (f : FoundView) (q : ℕ) (k b : Tok) (s : List Sym) (h : HasSettling f q k b s) → IsPlaceAt f h.settles.entry.place (place_of q k b)
+place_is f q k b s h = subst (λ n. IsPlaceAt f n (place_of q k b)) (sym h.settles.place) h.at
+
 module _ (t : TableView) (f : FoundView) (found : IsFound (automaton_of t) f) (starts : (k : Tok) → May k sort.Stmt → HasPlace f 0 k tok.End)
     (frames : (q : ℕ) → q < length t.rows → (k : Tok) → FrameIn (automaton_of t) f q k) (reductions : (i : ℕ) → i < length f.settlings → ReducesIn (automaton_of t) f i) where
   kids_at : (q p : ℕ) (k b : Tok) (xs : List Sort) (place : HasPlace f q k b) → kids k ≡ xs → (automaton_of t).go q (grammar_symbol.Tok k) ≡ Some p
@@ -47,11 +50,8 @@ module _ (t : TableView) (f : FoundView) (found : IsFound (automaton_of t) f) (s
   sound_at : (q : ℕ) (k b : Tok) (s : List Sym) (h : HasSettling f q k b s) → IsSoundSettling (automaton_of t) f h.settles.number h.settles.entry
   sound_at q k b s h = found.settlings h.settles.number h.settles.entry h.settles.there
 
-  place_is : (q : ℕ) (k b : Tok) (s : List Sym) (h : HasSettling f q k b s) → IsPlaceAt f h.settles.entry.place (place_of q k b)
-  place_is q k b s h = subst (λ n. IsPlaceAt f n (place_of q k b)) (sym h.settles.place) h.at
-
   same_place : (q : ℕ) (k b : Tok) (s : List Sym) (h : HasSettling f q k b s) → (sound_at q k b s h).place ≡ place_of q k b
-  same_place q k b s h = same_Some (sound_at q k b s h).place (place_of q k b) (sym (sound_at q k b s h).there ∙ place_is q k b s h)
+  same_place q k b s h = same_Some (sound_at q k b s h).place (place_of q k b) (sym (sound_at q k b s h).there ∙ place_is f q k b s h)
 
   same_list : (q : ℕ) (k b : Tok) (s : List Sym) (h : HasSettling f q k b s) → (sound_at q k b s h).list ≡ s
   same_list q k b s h = same_Some (sound_at q k b s h).list s (sym (sound_at q k b s h).symbols ∙ h.settles.list)
@@ -78,7 +78,7 @@ module _ (t : TableView) (f : FoundView) (found : IsFound (automaton_of t) f) (s
       settles = subst (λ n. Settles f n (reduced r s)) h.settles.place
           (subst (Settles f h.settles.entry.place) (sym (whole_left r s size))
           ((reductions h.settles.number (slice_get_within f.settlings h.settles.number h.settles.entry h.settles.there)).each h.settles.entry (place_of q k b) s p r h.settles.there
-          (place_is q k b s h)
+          (place_is f q k b s h)
           h.settles.list (behind_is q p k b s h ws) free size));
     };
     sums = λ q p k b s c h ws free out.
@@ -89,7 +89,7 @@ module _ (t : TableView) (f : FoundView) (found : IsFound (automaton_of t) f) (s
           sum = record {
             entry = h.settles.entry;
             there = h.settles.there;
-            place = place_is q k b s h;
+            place = place_is f q k b s h;
             list = h.settles.list;
             behind = behind_is q p k b s h ws;
             is_sum = e.sums p c (sym e.behind ∙ behind_is q p k b s h ws) (subst (λ (x : Place). Free ((automaton_of t).candidates p x.behind) c) (sym (same_place q k b s h)) free)
