@@ -16,9 +16,6 @@ pub record Ordering (nodes : List Node) (order rest : List ℕ) (n : ℕ) : Type
   pub many : length order ≡ n
   pub within : (k : ℕ) → Contains rest k → k < length nodes
 
-reverse_push : (rest : List ℕ) (n : ℕ) → reverse (rest ++ n ∷ []) ≡ n ∷ reverse rest
-reverse_push rest n = reverse-append rest (n ∷ [])
-
 reverse_kids : (rest kids : List ℕ) → reverse (rest ++ reverse kids) ≡ kids ++ reverse rest
 reverse_kids rest kids = reverse-append rest (reverse kids) ∙ ap (λ (x : List ℕ). x ++ reverse rest) (reverse-reverse kids)
 
@@ -48,7 +45,7 @@ next_within nodes order old rest n k o e = o.within k (subst (λ (x : List ℕ).
 pub ordering_turn : (nodes : List Node) (order old rest order' rest' : List ℕ) (n k : ℕ) (v : Node) → IsSample nodes → Ordering nodes order old n → old ≡ rest ++ k ∷ [] → slice_get nodes k
     ≡ Some v → order' ≡ order ++ k ∷ [] → rest' ≡ rest ++ reverse v.kids → Ordering nodes order' rest' (n + 1)
 ordering_turn nodes order old rest order' rest' n k v s o e there f g =
-    let turned : reverse old ≡ k ∷ reverse rest = ap reverse e ∙ reverse_push rest k in
+    let turned : reverse old ≡ k ∷ reverse rest = ap reverse e ∙ reverse-append rest (k ∷ []) in
     let next : reverse rest' ≡ v.kids ++ reverse rest = ap reverse g ∙ reverse_kids rest v.kids in
     record {
       onto = λ w p.
