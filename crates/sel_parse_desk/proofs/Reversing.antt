@@ -2,7 +2,7 @@
 use Rattle.std.proofs.Common.{◌≡◌, ℕ, zero, suc, ◌-◌, ◌<◌, ◌≤◌, List, [], ◌∷◌, ◌++◌, length, take, drop, refl, ap, sym, ◌∙◌, ⊎_elim, arith, length-drop}
 use Rattle.std.specs.Prelude.{reverse}
 use Rattle.std.proofs.lemmas.Bool.{cases_lt}
-use Rattle.std.proofs.lemmas.List.{reverse-reverse, length-reverse, reverse-append, take-append-drop}
+use Rattle.std.proofs.lemmas.List.{reverse-reverse, length-reverse, reverse-append, take-append-drop, take_all, drop_all}
 
 module _ {X : Type 0} where
   take_first : (a b : List X) (k : ℕ) → k ≡ length a → take k (a ++ b) ≡ a
@@ -16,18 +16,6 @@ module _ {X : Type 0} where
   drop_first [] b (suc k) e = absurd (omega (arith, e))
   drop_first (x ∷ a) b zero e = absurd (omega (arith, e))
   drop_first (x ∷ a) b (suc k) e = drop_first a b k (omega (arith, e))
-
-  take_over : (a : List X) (k : ℕ) → length a ≤ k → take k a ≡ a
-  take_over [] zero le = refl
-  take_over [] (suc k) le = refl
-  take_over (x ∷ a) zero le = absurd (omega (arith, le))
-  take_over (x ∷ a) (suc k) le = ap (λ (c : List X). x ∷ c) (take_over a k (omega (arith, le)))
-
-  drop_over : (a : List X) (k : ℕ) → length a ≤ k → drop k a ≡ []
-  drop_over [] zero le = refl
-  drop_over [] (suc k) le = refl
-  drop_over (x ∷ a) zero le = absurd (omega (arith, le))
-  drop_over (x ∷ a) (suc k) le = drop_over a k (omega (arith, le))
 
   parted : (a : List X) (m : ℕ) → reverse a ≡ reverse (drop m a) ++ reverse (take m a)
   parted a m = ap (λ (c : List X). reverse c) (sym (take-append-drop m a)) ∙ reverse-append (take m a) (drop m a)
@@ -46,7 +34,7 @@ module _ {X : Type 0} where
       short lt =
           let r = length-reverse a in
           let n : length a - k ≡ 0 = omega (arith, lt) in
-          ap (λ (c : List X). reverse c) (drop_over (reverse a) k (omega (arith, r, lt))) ∙ ap (λ (m : ℕ). take m a) (sym n)
+          ap (λ (c : List X). reverse c) (drop_all k (reverse a) (omega (arith, r, lt))) ∙ ap (λ (m : ℕ). take m a) (sym n)
 
       long : k ≤ length a → reverse (drop k (reverse a)) ≡ take (length a - k) a
       long le =
@@ -62,7 +50,7 @@ module _ {X : Type 0} where
       short lt =
           let r = length-reverse a in
           let n : length a - k ≡ 0 = omega (arith, lt) in
-          ap (λ (c : List X). reverse c) (take_over (reverse a) k (omega (arith, r, lt))) ∙ (reverse-reverse a ∙ ap (λ (m : ℕ). drop m a) (sym n))
+          ap (λ (c : List X). reverse c) (take_all k (reverse a) (omega (arith, r, lt))) ∙ (reverse-reverse a ∙ ap (λ (m : ℕ). drop m a) (sym n))
 
       long : k ≤ length a → reverse (take k (reverse a)) ≡ drop (length a - k) a
       long le =
