@@ -58,6 +58,3 @@ module _ {X : Type 0} where
           ap (λ (c : List X). reverse (take k c)) (parted a m)
           ∙ (ap (λ (c : List X). reverse c) (take_first (reverse (drop m a)) (reverse (take m a)) k (length-back a k le))
           ∙ reverse-reverse (drop m a))
-
-  pub reverse-snoc : (a : List X) (x : X) → reverse (a ++ x ∷ []) ≡ x ∷ reverse a
-  reverse-snoc a x = reverse-append a (x ∷ [])
