@@ -12,7 +12,7 @@ use Rattle.tree_core.specs.Grammar.{kids, sort_of, fits}
 use Rattle.tree_core.specs.Attributes.{leaf_fits, end_leaf}
 use Rattle.tree_core.specs.Trees.{Forest, none, tree, leaves_onto, sort_fits, stands_for, Typed, IsTyped}
 use Rattle.sel_parse_moves.specs.Claims.{root}
-use Rattle.sel_parse_moves.proofs.Moves.{leaves_before}
+use Rattle.sel_parse_moves.proofs.Piles.{leaves_before}
 use Rattle.sel_parse_desk.specs.Selected.{tree_of}
 
 -- the leaves of a typed root's tree

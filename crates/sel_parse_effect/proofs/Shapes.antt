@@ -63,6 +63,7 @@ use Rattle.sel_parse_effect.proofs.Effects.{home_alike, value_alike, number_alik
 use Rattle.sel_parse_effect.proofs.Giving as giving
 use Rattle.sel_parse_effect.proofs.Giving.{V, Later, Shaped}
 use Rattle.sel_parse_effect.proofs.Homes.{home_found, home_later}
+use Rattle.sel_parse_effect.proofs.Reducing.{reg_is}
 
 -- a place has one size
 one_size : (z y : Size) (g : Place) → IsPlace z g → IsPlace y g → z ≡ y
@@ -98,16 +99,7 @@ one_hole right (piece.Count ∷ ps) x e = absurd (none-some x e)
 pub reg_symbol : (classes : List Class) (o : Option Sym) → is_reg (kind_of_symbol classes o) ≡ true → (c : ℕ) × (o ≡ Some (grammar_symbol.Class c)) × (kind_at classes c ≡ Some kind.Reg)
 reg_symbol classes None e = absurd (cc)
 reg_symbol classes (Some (grammar_symbol.Tok x)) e = absurd (cc)
-reg_symbol classes (Some (grammar_symbol.Class c)) e = (c, refl, is_kind (kind_at classes c) e)
-  where
-    is_kind : (k : Option Kind) → is_reg k ≡ true → k ≡ Some kind.Reg
-    is_kind None e = absurd (cc)
-    is_kind (Some kind.Reg) e = refl
-    is_kind (Some (kind.Value z)) e = absurd (cc)
-    is_kind (Some (kind.Place z)) e = absurd (cc)
-    is_kind (Some kind.Con) e = absurd (cc)
-    is_kind (Some kind.Ea) e = absurd (cc)
-    is_kind (Some kind.Nothing) e = absurd (cc)
+reg_symbol classes (Some (grammar_symbol.Class c)) e = (c, refl, reg_is (kind_at classes c) e)
 
 pub data IsNumeric (classes : List Class) : (x : Sym) → Type 0 where
   constant : (x : Tok) → is_constant (Some (grammar_symbol.Tok x)) ≡ true → IsNumeric classes (grammar_symbol.Tok x)

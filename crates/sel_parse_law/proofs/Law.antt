@@ -29,7 +29,8 @@ use Rattle.sel_target.specs.Laws.{IsLawful}
 use Rattle.sel_parse.specs.Shown.{IsShown}
 use Rattle.sel_parse_moves.specs.Claims.{root}
 use Rattle.sel_parse_moves.proofs.Covering.{AreLeaves}
-use Rattle.sel_parse_moves.proofs.Moves.{leaves_of, leaves_before}
+use Rattle.sel_parse_moves.proofs.Moves.{leaves_of}
+use Rattle.sel_parse_moves.proofs.Piles.{leaves_before}
 use Rattle.sel_parse_selected.specs.Selected as selected
 use Rattle.sel_parse_stands.specs.Stands as stands
 use Rattle.sel_parse_stands.specs.Stands.{NamedBy, Names, Sees}

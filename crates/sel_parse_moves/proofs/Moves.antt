@@ -19,7 +19,7 @@ use Rattle.lr_check.specs.declared.sample.Outcome.TheVariants as outcome
 use Rattle.lr_check_parse.specs.Moves.{Move, Ending, Accepts, Blocks, Loops, Refuses}
 use Rattle.lr_check_parse.specs.Attributes.{Selecting, by_attributes}
 use Rattle.sel_parse_moves.specs.Made.{Made}
-use Rattle.sel_parse_moves.specs.Covers.{Covers, CoversAll}
+use Rattle.sel_parse_moves.specs.Covers.{Covers}
 use Rattle.sel_parse_moves.specs.Covers as cover
 use Rattle.tree_meaning.specs.Deeds.{Deed, Puts, Branches, Pushes, Returns, Calls, Saves, Jumps, Traps, Strays, deed_of, tree_deed}
 use Rattle.sel_parse_moves.specs.Possible.{IsPossible}
@@ -31,16 +31,13 @@ use Rattle.sel_parse_moves.specs.Claims.{root, IsParsed, IsFair, MovesMeanTree, 
 use Rattle.lr_check_parse.proofs.Sources.{parse_answered}
 use Rattle.lr_check_parse.proofs.Typing.{snoc_same}
 use Rattle.sel_parse_moves.proofs.Covering.{AreLeaves, covers_whole}
+use Rattle.sel_parse_moves.proofs.Piles.{leaves_before}
 use Rattle.sel_parse_moves.proofs.Performs.{named, statement}
 use Rattle.tree_meaning_tame.specs.Claims.{IsDeed}
 use Rattle.tree_meaning_tame.proofs.Strict.{deed_settled}
 use Rattle.tree_meaning_tame.proofs.Calm.{trap_tame}
 use Rattle.tree_meaning_tame.proofs.Sights.{tree_deed_grows}
 use Rattle.sel_parse_moves.proofs.Typing.{covers_typed, typed_leaves, stmt_kind}
-
-pub leaves_before : (f : Forest) (v w : List Leaf) → leaves_onto f v ++ w ≡ leaves_onto f (v ++ w)
-leaves_before none v w = refl
-leaves_before (tree l below behind) v w = ap (λ (t : List Leaf). l ∷ t) (leaves_before below (leaves_onto behind v) w ∙ ap (leaves_onto below) (leaves_before behind v w))
 
 -- the leaves of a typed tree
 pub leaves_of : (w : List Leaf) → IsTyped (root w) sort.Stmt → AreLeaves w

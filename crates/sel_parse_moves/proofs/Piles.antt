@@ -10,16 +10,13 @@ use Rattle.md_reader.specs.declared.types.Sym.{Sym}
 use Rattle.md_reader.specs.declared.types.Sym.TheVariants as grammar_symbol
 use Rattle.md_reader.specs.Patterns.{Trees, no_tree, node, onto, sorted_test}
 use Rattle.lr_check_parse.specs.Moves.{Move, Shift}
-use Rattle.sel_parse_moves.specs.Covers.{Covers, Fills, Parts, Pile}
+use Rattle.sel_parse_moves.specs.Covers.{Fills, Parts, Pile}
 use Rattle.sel_parse_moves.specs.Covers as cover
 use Rattle.sel_terms_trees.specs.Senses.{piled}
 
-leaves_before : (f : Forest) (w : List Leaf) → leaves_onto f [] ++ w ≡ leaves_onto f w
-leaves_before f w = leaves_append f [] w
-  where
-    leaves_append : (f : Forest) (v w : List Leaf) → leaves_onto f v ++ w ≡ leaves_onto f (v ++ w)
-    leaves_append none v w = refl
-    leaves_append (tree l below behind) v w = ap (λ (t : List Leaf). l ∷ t) (leaves_append below (leaves_onto behind v) w ∙ ap (leaves_onto below) (leaves_append behind v w))
+pub leaves_before : (f : Forest) (v w : List Leaf) → leaves_onto f v ++ w ≡ leaves_onto f (v ++ w)
+leaves_before none v w = refl
+leaves_before (tree l below behind) v w = ap (λ (t : List Leaf). l ∷ t) (leaves_before below (leaves_onto behind v) w ∙ ap (leaves_onto below) (leaves_before behind v w))
 
 module _ (classes : List Class) (rules : List Rule) where
   -- what the symbols cover, and what lies below them
@@ -52,7 +49,7 @@ module _ (classes : List Class) (rules : List Rule) where
     last = ns ++ last;
     below = p;
     parts = cover.class c q;
-    leaves = append_assoc w (l ∷ leaves_onto f []) high ∙ ap (λ (t : List Leaf). w ++ (l ∷ t)) (leaves_before f high);
+    leaves = append_assoc w (l ∷ leaves_onto f []) high ∙ ap (λ (t : List Leaf). w ++ (l ∷ t)) (leaves_before f [] high);
     moves = append_assoc ms ns last;
   }
 
