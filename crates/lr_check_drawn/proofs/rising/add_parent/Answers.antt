@@ -8,7 +8,7 @@ add_over_first-requires-clause-fit c = first_fits c.args.found.now c.args.kid.pl
 pub add_over_both-requires-clause-fit : goal.add_over_both-requires-clause-fit
 add_over_both-requires-clause-fit c = second_fits c.args.found.now c.args.kid.place c.origin_of.result c.origin_of.ensures c.requires.begun c.args.growing.now c.args.kid.node
     c.in-Second.place c.in-Second.settling
-    c.in_ok-first-in-Second.first c.token_of-token-in-Second.result c.requires.settled c.requires.stands c.in-Second.is c.token_of-token-in-Second.ensures c.in_ok-first-in-Second.ensures
+    c.in_ok-first-in-Second.first c.token_of-token-in-Second.result c.requires.settled c.requires.stands c.in-Second.is c.token_of-token-in-Second.ensures c.in_ok-first-in-Second.ensures.number
 
 pub returns-in-Root : goal.returns-in-Root
 returns-in-Root c = root_after c.args.found.now c.args.kid.place c.origin_of.result c.origin_of.ensures c.requires.begun c.args.growing.now c.args.kid.node c.requires.stands c.in-Root.is
@@ -21,4 +21,4 @@ returns-in_ok-node-in-First c = first_after c.args.found.now c.args.kid.place c.
 pub returns-in_ok-node-in-Second : goal.returns-in_ok-node-in-Second
 returns-in_ok-node-in-Second c = second_after c.args.found.now c.args.kid.place c.origin_of.result c.origin_of.ensures c.requires.begun c.args.growing.now c.add_over_both.new.growing c.args.kid.node
     c.in-Second.place c.in-Second.settling c.in_ok-first-in-Second.first c.in_ok-node-in-Second.node c.token_of-token-in-Second.result c.requires.stands c.in-Second.is
-    c.token_of-token-in-Second.ensures c.in_ok-first-in-Second.ensures c.in_ok-node-in-Second.ensures
+    c.token_of-token-in-Second.ensures c.in_ok-first-in-Second.ensures.number c.in_ok-node-in-Second.ensures
