@@ -15,10 +15,7 @@ use tree_core::Tok;
 fn is_marked(marks: &[bool], class: u16) -> bool
     ensures { result ≡ slice_index_or marks.now class false }
 {
-    match marks.get(class as usize) {
-        Some(mark) => *mark,
-        None => false,
-    }
+    marks.get(class as usize).copied().unwrap_or(false)
 }
 
 fn unless_marked(marks: &[bool], class: u16) -> Option<u16>
