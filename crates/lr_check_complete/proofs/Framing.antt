@@ -15,7 +15,7 @@ use Rattle.lr_check_found.specs.declared.settlings.How.TheVariants as how
 use Rattle.lr_check_found.specs.Found.{FoundView, place_of, IsPlaceAt, Settles}
 use Rattle.lr_check_found.specs.Items.{Made, HasMade}
 use Rattle.lr_check_found.proofs.Below.{Below, none_below, one_more_at}
-use Rattle.lr_check_complete.specs.Kids.{OnlyIn, BothIn, KidsIn, IsFrame, FrameIn}
+use Rattle.lr_check_complete.specs.Kids.{OnlyIn, BothIn, KidsIn, IsFrame, AtPlaces, FrameIn}
 
 one_of : {X : Type 0} (xs : List X) (d : X) → length xs ≡ 1 → xs ≡ get_or xs 0 d ∷ []
 one_of [] d e = absurd (omega (arith, e))
@@ -62,16 +62,16 @@ token_is A f q p n k numbers x frame c at =
 -- ---- what follows from the kids
 
 pub kids_none : (A : Automaton) (f : FoundView) (q p : ℕ) (k : Tok) (numbers : List ℕ) → IsFrame A f q k p numbers → kids k ≡ [] →
-    ((n : ℕ) → Contains numbers n → Settles f n (grammar_symbol.Tok k ∷ [])) → (n : ℕ) → Contains numbers n → (x : Place) → IsPlaceAt f n x → KidsIn A f n x p (kids k)
+    ((n : ℕ) → Contains numbers n → Settles f n (grammar_symbol.Tok k ∷ [])) → AtPlaces f numbers (λ n x. KidsIn A f n x p (kids k))
 kids_none A f q p k numbers frame none g n c x at =
     subst (KidsIn A f n x p) (sym none) (subst (λ (t : Tok). Settles f n (grammar_symbol.Tok t ∷ [])) (token_is A f q p n k numbers x frame c at) (g n c))
 
 pub kids_one : (A : Automaton) (f : FoundView) (p : ℕ) (k : Tok) (w : Sort) (numbers : List ℕ) → kids k ≡ w ∷ [] →
-    ((n : ℕ) → Contains numbers n → (x : Place) → IsPlaceAt f n x → OnlyIn f n x p w) → (n : ℕ) → Contains numbers n → (x : Place) → IsPlaceAt f n x → KidsIn A f n x p (kids k)
+    AtPlaces f numbers (λ n x. OnlyIn f n x p w) → AtPlaces f numbers (λ n x. KidsIn A f n x p (kids k))
 kids_one A f p k w numbers one g n c x at = subst (KidsIn A f n x p) (sym one) (g n c x at)
 
 pub kids_two : (A : Automaton) (f : FoundView) (p : ℕ) (k : Tok) (w v : Sort) (numbers : List ℕ) → kids k ≡ w ∷ v ∷ [] →
-    ((n : ℕ) → Contains numbers n → (x : Place) → IsPlaceAt f n x → BothIn A f n x p w v) → (n : ℕ) → Contains numbers n → (x : Place) → IsPlaceAt f n x → KidsIn A f n x p (kids k)
+    AtPlaces f numbers (λ n x. BothIn A f n x p w v) → AtPlaces f numbers (λ n x. KidsIn A f n x p (kids k))
 kids_two A f p k w v numbers two g n c x at = subst (KidsIn A f n x p) (sym two) (g n c x at)
 
 -- ---- the places of a state and a token
@@ -110,7 +110,7 @@ number_there i before after e n same = subst (λ l. Contains l n) (sym e) (Conta
 
 pub frame_in : (A : Automaton) (f : FoundView) (q p : ℕ) (k : Tok) (numbers : List ℕ) → A.go q (grammar_symbol.Tok k) ≡ Some p
     → ((n : ℕ) (b : Tok) → IsPlaceAt f n (place_of q k b) → Contains numbers n) →
-    ((n : ℕ) → Contains numbers n → (x : Place) → IsPlaceAt f n x → KidsIn A f n x p (kids k)) → FrameIn A f q k
+    AtPlaces f numbers (λ n x. KidsIn A f n x p (kids k)) → FrameIn A f q k
 frame_in A f q p k numbers go all g = record {
   each = λ j n b go' at. subst (λ i. KidsIn A f n (place_of q k b) i (kids k)) (same_Some p j (sym go ∙ go')) (g n (all n b at) (place_of q k b) at);
 }

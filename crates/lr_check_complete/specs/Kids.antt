@@ -102,6 +102,10 @@ pub record IsFrame (A : Automaton) (f : FoundView) (q : ℕ) (k : Tok) (p : ℕ)
   pub places : (n : ℕ) → Contains numbers n → (b : Tok) × IsPlaceAt f n (place_of q k b)
   pub all : (n : ℕ) (b : Tok) → IsPlaceAt f n (place_of q k b) → Contains numbers n
 
+-- P is true of each place with one of the numbers
+abbrev pub AtPlaces : FoundView → List ℕ → (ℕ → Place → Type 0) → Type 0
+AtPlaces f numbers P = (n : ℕ) → Contains numbers n → (x : Place) → IsPlaceAt f n x → P n x
+
 -- what follows from a choice at a list that settles at the place
 abbrev pub LeadsIn : FoundView → ℕ → Leads → Type 0
 LeadsIn f n (Out k) = Unit {0}

@@ -7,7 +7,7 @@ ghost use Rattle.lr_check_found.specs.declared.places.Place.{Place};
 ghost use Rattle.lr_check_found.specs.Found.{place_of, IsPlaceAt, Settles};
 ghost use Rattle.lr_check_found.specs.Items.{HasOne};
 ghost use Rattle.lr_check_complete.specs.Looks.{automaton, WasFound, Looks};
-ghost use Rattle.lr_check_complete.specs.Kids.{OnlyIn, KidsIn, IsFrame, FrameIn};
+ghost use Rattle.lr_check_complete.specs.Kids.{OnlyIn, KidsIn, IsFrame, AtPlaces, FrameIn};
 
 use crate::look::Look;
 use gg_base::NoMemory;
@@ -60,8 +60,7 @@ impl<'a> Look<'a> {
         requires { WasFound self.now }
         ensures { (q : ℕ) (k : Tok) → IsFrame (automaton self.now) self.now.found.now q k over numbers.now → kids k ≡ wanted ∷ [] →
             OnOk result (Looks self.now into.old.items into.new.items
-            ((n : ℕ) → Contains numbers.now n → (x : Place) → IsPlaceAt self.now.found.now n x
-            → OnlyIn self.now.found.now n x over wanted)) }
+            (AtPlaces self.now.found.now numbers.now (λ n x. OnlyIn self.now.found.now n x over wanted))) }
     {
         for number in numbers {
             self.only_of(*number, over, wanted, into)?;
@@ -81,8 +80,7 @@ impl<'a> Look<'a> {
         requires { WasFound self.now }
         ensures { (q : ℕ) → IsFrame (automaton self.now) self.now.found.now q token over numbers.now →
             OnOk result (Looks self.now into.old.items into.new.items
-            ((n : ℕ) → Contains numbers.now n → (x : Place) → IsPlaceAt self.now.found.now n x
-            → KidsIn (automaton self.now) self.now.found.now n x over (kids token))) }
+            (AtPlaces self.now.found.now numbers.now (λ n x. KidsIn (automaton self.now) self.now.found.now n x over (kids token)))) }
     {
         let kids = token.kids();
         if kids.len() == 0 {

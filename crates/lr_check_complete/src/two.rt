@@ -9,7 +9,7 @@ ghost use Rattle.lr_check_found.specs.declared.settlings.Settling.{Settling};
 ghost use Rattle.lr_check_found.specs.Found.{IsPlaceAt, IsSettlingAt};
 ghost use Rattle.lr_check_found.specs.Items.{HasMade};
 ghost use Rattle.lr_check_complete.specs.Looks.{automaton, WasFound, Looks};
-ghost use Rattle.lr_check_complete.specs.Kids.{TwoKids, TwoIn, SecondAt, FirstIn, BothIn, IsFrame};
+ghost use Rattle.lr_check_complete.specs.Kids.{TwoKids, TwoIn, SecondAt, FirstIn, BothIn, IsFrame, AtPlaces};
 ghost use Rattle.lr_check_complete.specs.Seconds.{SecondKid, SecondFound};
 
 use crate::look::Look;
@@ -134,11 +134,9 @@ impl<'a> Look<'a> {
     ) -> Result<(), NoMemory>
         requires { WasFound self.now }
         ensures { (e : Settling) → IsSettlingAt self.now.found.now first e → e.behind ≡ Some behind →
-            ((n : ℕ) → Contains numbers.now n → (x : Place) → IsPlaceAt self.now.found.now n x
-            → TwoKids (automaton self.now) self.now.found.now n x token first) →
+            AtPlaces self.now.found.now numbers.now (λ n x. TwoKids (automaton self.now) self.now.found.now n x token first) →
             OnOk result (Looks self.now into.old.items into.new.items
-            ((n : ℕ) → Contains numbers.now n → (x : Place) → IsPlaceAt self.now.found.now n x
-            → SecondAt self.now.found.now n x token first)) }
+            (AtPlaces self.now.found.now numbers.now (λ n x. SecondAt self.now.found.now n x token first))) }
     {
         for number in numbers {
             self.second(*number, first, behind, token, into)?;
@@ -155,11 +153,9 @@ impl<'a> Look<'a> {
         into: &mut Vec<Item>,
     ) -> Result<(), NoMemory>
         requires { WasFound self.now }
-        ensures { ((n : ℕ) → Contains numbers.now n → (x : Place) → IsPlaceAt self.now.found.now n x
-            → TwoKids (automaton self.now) self.now.found.now n x token first) →
+        ensures { AtPlaces self.now.found.now numbers.now (λ n x. TwoKids (automaton self.now) self.now.found.now n x token first) →
             OnOk result (Looks self.now into.old.items into.new.items
-            ((n : ℕ) → Contains numbers.now n → (x : Place) → IsPlaceAt self.now.found.now n x
-            → SecondAt self.now.found.now n x token first)) }
+            (AtPlaces self.now.found.now numbers.now (λ n x. SecondAt self.now.found.now n x token first))) }
     {
         match behind(self.found, first) {
             Some(state) => self.seconds_at(numbers, first, state, token, into),
@@ -176,11 +172,11 @@ impl<'a> Look<'a> {
         into: &mut Vec<Item>,
     ) -> Result<(), NoMemory>
         requires { WasFound self.now }
-        ensures { ((i n : ℕ) → Contains sums.now i → Contains numbers.now n → (x : Place) → IsPlaceAt self.now.found.now n x
-            → TwoKids (automaton self.now) self.now.found.now n x token i) →
+        ensures { ((i : ℕ) → Contains sums.now i →
+            AtPlaces self.now.found.now numbers.now (λ n x. TwoKids (automaton self.now) self.now.found.now n x token i)) →
             OnOk result (Looks self.now into.old.items into.new.items
-            ((i : ℕ) → Contains sums.now i → (n : ℕ) → Contains numbers.now n → (x : Place) → IsPlaceAt self.now.found.now n x
-            → SecondAt self.now.found.now n x token i)) }
+            ((i : ℕ) → Contains sums.now i →
+            AtPlaces self.now.found.now numbers.now (λ n x. SecondAt self.now.found.now n x token i))) }
     {
         for sum in sums {
             self.seconds(numbers, *sum, token, into)?;
@@ -202,8 +198,7 @@ impl<'a> Look<'a> {
         ensures { (q : ℕ) (k : Tok) (second : Sort) → IsFrame (automaton self.now) self.now.found.now q k over numbers.now →
             kids k ≡ wanted ∷ second ∷ [] → May token second →
             OnOk result (Looks self.now into.old.items into.new.items
-            ((n : ℕ) → Contains numbers.now n → (x : Place) → IsPlaceAt self.now.found.now n x
-            → FirstIn (automaton self.now) self.now.found.now n x over wanted token)) }
+            (AtPlaces self.now.found.now numbers.now (λ n x. FirstIn (automaton self.now) self.now.found.now n x over wanted token))) }
     {
         if numbers.len() == 0 {
             return Ok(());
@@ -227,8 +222,8 @@ impl<'a> Look<'a> {
         ensures { (q : ℕ) (k : Tok) → IsFrame (automaton self.now) self.now.found.now q k over numbers.now → kids k
             ≡ wanted ∷ second ∷ [] →
             OnOk result (Looks self.now into.old.items into.new.items
-            (May token second → (n : ℕ) → Contains numbers.now n → (x : Place) → IsPlaceAt self.now.found.now n x
-            → FirstIn (automaton self.now) self.now.found.now n x over wanted token)) }
+            (May token second →
+            AtPlaces self.now.found.now numbers.now (λ n x. FirstIn (automaton self.now) self.now.found.now n x over wanted token))) }
     {
         if !may(token, second) {
             return Ok(());
@@ -250,8 +245,7 @@ impl<'a> Look<'a> {
         ensures { (q : ℕ) (k : Tok) → IsFrame (automaton self.now) self.now.found.now q k over numbers.now → kids k
             ≡ wanted ∷ second ∷ [] →
             OnOk result (Looks self.now into.old.items into.new.items
-            ((n : ℕ) → Contains numbers.now n → (x : Place) → IsPlaceAt self.now.found.now n x
-            → BothIn (automaton self.now) self.now.found.now n x over wanted second)) }
+            (AtPlaces self.now.found.now numbers.now (λ n x. BothIn (automaton self.now) self.now.found.now n x over wanted second))) }
     {
         for token in tokens() {
             self.pair_from(alloc, numbers, over, wanted, second, *token, into)?;

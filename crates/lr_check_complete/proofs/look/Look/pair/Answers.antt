@@ -19,6 +19,6 @@ returns c = λ q k v frame kid may.
     (λ firsts each n d x at. first_in (automaton c.args.self.now) c.args.self.now.found.now n c.args.over x c.args.token c.args.wanted c.in_ok-sums.sums.items c.requires firsts
     (λ i e. each i (subst (λ (l : List ℕ). Contains l i) (sym c.deref.ensures.value) e) n d x at))
     (c.in_ok-sums.ensures.looks _ v p.1 (frame_two (automaton c.args.self.now) c.args.self.now.found.now q c.args.over _ k c.args.wanted v c.args.numbers.now _ frame kid m p.1) may))
-    (c.all_seconds.ensures (λ i n e d x at. two_kids (automaton c.args.self.now) c.args.self.now.found.now n i c.args.over x c.args.token c.args.wanted v at
+    (c.all_seconds.ensures (λ i e n d x at. two_kids (automaton c.args.self.now) c.args.self.now.found.now n i c.args.over x c.args.token c.args.wanted v at
     (frame_two (automaton c.args.self.now) c.args.self.now.found.now q c.args.over n k c.args.wanted v c.args.numbers.now x frame kid d at) may
     (c.in_ok-sums.ensures.only i (subst (λ (l : List ℕ). Contains l i) c.deref.ensures.value e))))
