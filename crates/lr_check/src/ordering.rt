@@ -14,9 +14,7 @@ pub const MAX_TOKENS: usize = 100_000;
 fn push_kids(kids: &[u32], rest: &mut Vec<usize>) -> Result<(), NoMemory>
     ensures { IfOk result (λ _. rest.new.items ≡ rest.old.items ++ reverse kids.now) }
 {
-    for kid in kids.iter().rev() {
-        rest.push(*kid as usize)?;
-    }
+    rest.extend(kids.iter().rev().map(|kid| *kid as usize))?;
     Ok(())
 }
 
