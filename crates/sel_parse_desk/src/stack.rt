@@ -208,13 +208,6 @@ pub fn put<T: Templates>(
     stack.entries.put(at, attr);
 }
 
-fn smaller(a: usize, b: usize) -> usize
-    ensures a { result ≤ a }
-    ensures b { result ≤ b }
-{
-    if a < b { a } else { b }
-}
-
 /// The top entries, so many of them, are taken off.
 pub fn part<T: Templates>(
     target: &T,
@@ -235,7 +228,7 @@ pub fn part<T: Templates>(
         &mut stack.words,
         taken.attrs(),
     );
-    stack.settled = smaller(stack.settled, base);
+    stack.settled = stack.settled.min(base);
     Ok(taken)
 }
 

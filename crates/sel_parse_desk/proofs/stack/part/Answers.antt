@@ -21,8 +21,8 @@ lower_all-requires-clause-in_words g c = λ w small.
 pub returns-clause-tallied : goal.returns-clause-tallied
 returns-clause-tallied g c =
     part_tallied g.T.Templates.meaning c.args.stack.now.entries c.split_off.new.self c.in_ok-taken.taken c.saturating_sub-base.result
-    c.args.stack.now.registers.items c.args.stack.now.words.items c.lower_all.new.registers.items c.lower_all.new.words.items c.args.stack.now.settled c.smaller-stack.result
-    c.in_ok-taken.ensures.before c.in_ok-taken.ensures.behind c.smaller-stack.ensures.b c.smaller-stack.ensures.a
+    c.args.stack.now.registers.items c.args.stack.now.words.items c.lower_all.new.registers.items c.lower_all.new.words.items c.args.stack.now.settled c.min-stack.result
+    c.in_ok-taken.ensures.before c.in_ok-taken.ensures.behind (let m = c.min-stack.ensures in omega (arith, m)) (let m = c.min-stack.ensures in omega (arith, m))
     (let s = c.saturating_sub-base.ensures in let l = c.len-long.ensures in omega (arith, s, l))
     c.requires.tallied c.lower_all.ensures.twelve c.lower_all.ensures.all_words
     (subst (λ (hs : List (Attr g.row.T-Operand.Denot)). HaveFallen 12 c.args.stack.now.registers.items c.lower_all.new.registers.items (registers_among g.T.Templates.meaning hs)) c.attrs.ensures.attrs c.lower_all.ensures.registers)
