@@ -1,5 +1,5 @@
 -- The code of one item more.
-use Rattle.std.proofs.Common.{◌≡◌, ℕ, ◌+◌, List, [], ◌∷◌, ◌++◌, take, get_or, slice_get, zero, suc, length, Some, ◌<◌, refl, sym, ap, ◌∙◌, subst, append-nil, arith}
+use Rattle.std.proofs.Common.{◌≡◌, ℕ, ◌+◌, max, List, [], ◌∷◌, ◌++◌, take, get_or, slice_get, zero, suc, length, Some, ◌<◌, refl, sym, ap, ◌∙◌, subst, append-nil, arith}
 use Rattle.std.proofs.Math.Seq.{take-suc}
 use Rattle.tree_core.specs.declared.tree.Leaf.{Leaf}
 use Rattle.tree_core.specs.declared.program.TreeItem.{TreeItem}
@@ -8,7 +8,7 @@ use Rattle.tree_core.specs.declared.program.TreeFn.{TreeFn}
 use Rattle.tree_core.specs.declared.program.TreeProgram.{TreeProgram}
 use Rattle.tree_core.specs.Names.{label_name}
 use Rattle.md_reader.specs.State.{Content}
-use Rattle.sel_regs.specs.Slots.{Frame, larger_of}
+use Rattle.sel_regs.specs.Slots.{Frame}
 use Rattle.sel_target.specs.Meaning.{Meaning}
 use Rattle.sel_parse_desk.specs.Selected.{HasCode}
 use Rattle.vax_core.specs.declared.operand.Operand.{Operand}
@@ -49,7 +49,7 @@ module _ {S F : Type 0} (of : Meaning Operand Instr S F) (d : Content) (q : Tree
     put = e ∙ ap (λ (l : List CodeItem). old ++ l) (sym (append-nil (code_items instrs)));
     selected =
         subst (λ (n : ℕ). AreSelected of d q before.first before.used (tree_item.Root w ∷ []) (code_items instrs ++ []) n) (sym h.used)
-        (tree before.used h.most (larger_of before.used h.most) w [] instrs [] h.selected (nothing (larger_of before.used h.most)));
+        (tree before.used h.most (max before.used h.most) w [] instrs [] h.selected (nothing (max before.used h.most)));
     first = first;
   }
 

@@ -1,6 +1,6 @@
 -- The code of a whole program: each function is a frame round the code that is selected of its trees, in order, and the data area is that
 -- of the objects.
-use Rattle.std.specs.Prelude.{◌≡◌, ℕ, List, [], ◌∷◌, ◌++◌}
+use Rattle.std.specs.Prelude.{◌≡◌, ℕ, max, List, [], ◌∷◌, ◌++◌}
 use Rattle.tree_core.specs.declared.tree.Leaf.{Leaf}
 use Rattle.tree_core.specs.declared.program.TreeItem.{TreeItem}
 use Rattle.tree_core.specs.declared.program.TreeItem.TheVariants as tree_item
@@ -8,7 +8,7 @@ use Rattle.tree_core.specs.declared.program.TreeFn.{TreeFn}
 use Rattle.tree_core.specs.declared.program.TreeProgram.{TreeProgram}
 use Rattle.tree_core.specs.Names.{label_name}
 use Rattle.md_reader.specs.State.{Content}
-use Rattle.sel_regs.specs.Slots.{Frame, larger_of}
+use Rattle.sel_regs.specs.Slots.{Frame}
 use Rattle.sel_target.specs.Meaning.{Meaning}
 use Rattle.sel_parse_desk.specs.Selected.{tree_of, Selected}
 use Rattle.vax_core.specs.declared.operand.Operand.{Operand}
@@ -27,7 +27,7 @@ module _ {S F : Type 0} (of : Meaning Operand Instr S F) (d : Content) (program 
     label : (used most l : ℕ) (is : List TreeItem) (code : List CodeItem) → AreSelected locals used is code most
         → AreSelected locals used (tree_item.Label l ∷ is) (item_kind.Label (label_name l) ∷ code) most
     tree : (used words most : ℕ) (w : List Leaf) (is : List TreeItem) (instrs : List Instr) (code : List CodeItem)
-        → Selected of program d locals (tree_of w) instrs words → AreSelected locals (larger_of used words) is code most
+        → Selected of program d locals (tree_of w) instrs words → AreSelected locals (max used words) is code most
         → AreSelected locals used (tree_item.Root w ∷ is) (code_items instrs ++ code) most
 
   -- The code of one item more stands behind that of others, with the slots before and behind it.

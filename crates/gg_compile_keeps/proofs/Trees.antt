@@ -1,7 +1,6 @@
 -- The code that is selected of a function's trees, one after another.
-use Rattle.std.proofs.Common.{◌≡◌, ℕ, suc, ◌≤◌, List, ◌∷◌, length, Some, refl, sym, subst, arith}
+use Rattle.std.proofs.Common.{◌≡◌, ℕ, suc, ◌≤◌, max, List, ◌∷◌, length, Some, refl, sym, subst, arith}
 use Rattle.std.specs.Prelude.{slice_get}
-use Rattle.std.proofs.lemmas.Bool.Decides.{nat_tests}
 use Rattle.tree_core.specs.declared.token.Sort.TheVariants as sort
 use Rattle.tree_core.specs.declared.tree.Leaf.{Leaf}
 use Rattle.tree_core.specs.declared.program.TreeItem.{TreeItem}
@@ -11,13 +10,10 @@ use Rattle.tree_core.specs.declared.program.TreeProgram.{TreeProgram}
 use Rattle.tree_core.specs.Trees.{IsTyped}
 use Rattle.tree_core.specs.Valid.{ItemStands, ItemsStand}
 use Rattle.md_reader.specs.State.{Content}
-use Rattle.sel_regs.specs.Slots.{larger_of}
-use Rattle.sel_regs.proofs.Larger.{larger}
 use Rattle.sel_parse_desk.specs.Selected.{tree_of}
 use Rattle.sel_parse_desk.specs.Selected as desk
 use Rattle.sel_parse_selected.specs.Selected.{Selected}
 use Rattle.sel_parse_effect.specs.Claims.{IsFit}
-use Rattle.sel_parse_effect.proofs.Growing.{larger as larger_left}
 use Rattle.sel_parse_lines.proofs.Words.{selections_use_few_words}
 use Rattle.sel_parse_joined.proofs.Law.{same_code}
 use Rattle.vax_core.specs.declared.code.Instr.{Instr}
@@ -34,9 +30,6 @@ use Rattle.gg_compile_effect.proofs.Law.{all_taken, selected_trees_have_effect}
 use Rattle.gg_compile_code.specs.Selecting.{AreSelected, nothing, label, tree}
 use Rattle.gg_compile_keeps.specs.Programs.{IsSelectable}
 use Rattle.gg_compile_keeps.proofs.Leaves.{tree_own}
-
-larger_right : (n m : ℕ) → m ≤ larger_of n m
-larger_right n m = grind (arith, nat_tests)
 
 -- where a frame has more words, the code has its effect all the more
 wider : (q : TreeProgram) (locals args most words : ℕ) (w : List Leaf) (code : List Instr) → most ≤ words → HasEffect q locals args most w code → HasEffect q locals args words w code
@@ -98,22 +91,20 @@ module _ (q : TreeProgram) (ok : IsSelectable q) (d : Content) (fit : IsFit vax 
   used_up used most is code (nothing u) = omega arith
   used_up used most is code (label u m l js rest h) = used_up u most js rest h
   used_up used most is code (tree u k m w js instrs rest one h) =
-      let a = used_up (larger_of u k) most js rest h in
-      let b = larger_left u k in
-      omega (arith, a, b)
+      let a = used_up (max u k) most js rest h in
+      omega (arith, a)
 
   pub words_few : (used most : ℕ) (is : List TreeItem) (code : List CodeItem) → Among is → used ≤ 1024 → AreSelected vax d q g.locals used is code most → most ≤ 1024
   words_few used most is code sub le (nothing u) = le
   words_few used most is code sub le (label u m l js rest h) = words_few u most js rest (behind (tree_item.Label l) js sub) le h
   words_few used most is code sub le (tree u k m w js instrs rest one h) =
-      words_few (larger_of u k) most js rest (behind (tree_item.Root w) js sub) (larger u k 1024 le (few w (sub w (0, refl)) instrs k one)) h
+      words_few (max u k) most js rest (behind (tree_item.Root w) js sub) (let low : k ≤ 1024 = few w (sub w (0, refl)) instrs k one in omega (arith, le, low)) h
 
   pub tree_code : (words used most : ℕ) (is : List TreeItem) (code : List CodeItem) → Among is → most ≤ words → AreSelected vax d q g.locals used is code most
       → IsTreeCode q g words is code
   tree_code words used most is code sub le (nothing u) = assembled.nothing
   tree_code words used most is code sub le (label u m l js rest h) = assembled.label l js rest (tree_code words u most js rest (behind (tree_item.Label l) js sub) le h)
   tree_code words used most is code sub le (tree u k m w js instrs rest one h) =
-      let up = used_up (larger_of u k) most js rest h in
-      let right = larger_right u k in
-      assembled.root w js instrs rest (wider q g.locals g.args k words w instrs (omega (arith, up, right, le)) (effect w (sub w (0, refl)) instrs k one))
-      (tree_code words (larger_of u k) most js rest (behind (tree_item.Root w) js sub) le h)
+      let up = used_up (max u k) most js rest h in
+      assembled.root w js instrs rest (wider q g.locals g.args k words w instrs (omega (arith, up, le)) (effect w (sub w (0, refl)) instrs k one))
+      (tree_code words (max u k) most js rest (behind (tree_item.Root w) js sub) le h)

@@ -1,9 +1,8 @@
 -- The code of a program's functions can be written.
-use Rattle.std.proofs.Common.{◌≡◌, ℕ, zero, suc, ◌*◌, ◌^◌, ◌≤◌, Bool, true, false, List, [], ◌∷◌, ◌++◌, Some, refl, sym, subst, arith}
+use Rattle.std.proofs.Common.{◌≡◌, ℕ, zero, suc, ◌*◌, ◌^◌, ◌≤◌, max, Bool, true, false, List, [], ◌∷◌, ◌++◌, Some, refl, sym, subst, arith}
 use Rattle.std.specs.Prelude.{◌&&◌, slice_get}
 use Rattle.std.specs.List.{AllByRecursion as All}
 use Rattle.std.proofs.lemmas.Bool.{le-leb, lt-ltb}
-use Rattle.std.proofs.lemmas.Bool.Decides.{nat_tests}
 use Rattle.gg_base.proofs.Facts.{all_append}
 use Rattle.tree_core.specs.declared.tree.Leaf.{Leaf}
 use Rattle.tree_core.specs.declared.program.TreeItem.{TreeItem}
@@ -13,7 +12,6 @@ use Rattle.tree_core.specs.declared.program.TreeProgram.{TreeProgram}
 use Rattle.tree_core.specs.Valid.{IsValid}
 use Rattle.tree_core.specs.Names.{function_label}
 use Rattle.md_reader.specs.State.{Content}
-use Rattle.sel_regs.specs.Slots.{larger_of}
 use Rattle.sel_parse_effect.specs.Claims.{IsFit}
 use Rattle.vax_core.specs.declared.code.CodeItem.{CodeItem}
 use Rattle.vax_core.specs.declared.code.Instr.{Instr}
@@ -48,9 +46,6 @@ room_fine : (words : ℕ) → words ≤ 1024 → All Fine (code_items (room_code
 room_fine zero le = tt
 room_fine (suc n) le = (long_first (is_long (4 * suc n)) (room_long (suc n) le), tt)
 
-larger_low : (n k : ℕ) → n ≤ 1024 → k ≤ 1024 → larger_of n k ≤ 1024
-larger_low n k a b = grind (arith, nat_tests)
-
 -- ---- what stands at a place of the lists of functions
 
 small_at : (fs : List TreeFn) (n : ℕ) (g : TreeFn) → HaveSmall fs → slice_get fs n ≡ Some g → AreSmall g.items
@@ -83,8 +78,8 @@ module _ (q : TreeProgram) (valid : IsValid q) (limits : IsWithinLimits q) (can 
         record { fine = (label_spelled l small.0, k.fine); low = k.low }
     body_written used most is body sub small le (tree u words m w js instrs rest one h) =
         let at = sub w (0, refl) in
-        let few = words_low q valid limits can d fit n g there w at instrs words one in
-        let k = body_written (larger_of u words) most js rest (behind (tree_item.Root w) js sub) small (larger_low u words le few) h in
+        let few : words ≤ 1024 = words_low q valid limits can d fit n g there w at instrs words one in
+        let k = body_written (max u words) most js rest (behind (tree_item.Root w) js sub) small (omega (arith, le, few)) h in
         record { fine = all_append Fine (code_items instrs) rest (instrs_fine instrs (instrs_valid q valid limits can d fit n g there w at instrs words one)) k.fine; low = k.low }
 
     function_fine : (part : List CodeItem) → IsSelectedFunction vax d q g part → All Fine part

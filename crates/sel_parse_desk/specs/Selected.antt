@@ -1,12 +1,12 @@
 -- The code that the parse of a tree selects, each question answered by the attributes.
 -- This is how the code computes it; what is selected is defined in sel_parse_selected, and sel_parse_joined proves the two alike.
-use Rattle.std.specs.Prelude.{◌≡◌, ℕ, ◌-◌, List, [], ◌∷◌, Option, Some, None, option_and_then, length, take, slice_get}
+use Rattle.std.specs.Prelude.{◌≡◌, ℕ, ◌-◌, max, List, [], ◌∷◌, Option, Some, None, option_and_then, length, take, slice_get}
 use Rattle.tree_core.specs.declared.tree.Leaf.{Leaf}
 use Rattle.tree_core.specs.declared.program.TreeProgram.{TreeProgram}
 use Rattle.md_reader.specs.declared.types.Rule.{Rule}
 use Rattle.md_reader.specs.State.{Content}
 use Rattle.lr_tables.specs.Statements.{stmt_of}
-use Rattle.sel_regs.specs.Slots.{Frame, larger_of}
+use Rattle.sel_regs.specs.Slots.{Frame}
 use Rattle.lr_check_parse.specs.Moves.{Move, Shift, Reduce, Ending, Accepts, Blocks, Loops, Refuses, Parses}
 use Rattle.lr_check_parse.specs.Attributes.{Selecting, by_attributes}
 use Rattle.sel_target.specs.declared.attr.Attr.TheVariants as attr
@@ -95,4 +95,4 @@ pub record HasCode {O I S F : Type 0} (of : Meaning O I S F) (q : TreeProgram) (
     : Type 0 where
   pub most : ℕ
   pub selected : Selected of q d before.first (tree_of w) code most
-  pub used : behind.used ≡ larger_of before.used most
+  pub used : behind.used ≡ max before.used most

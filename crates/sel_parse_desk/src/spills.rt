@@ -1,7 +1,6 @@
 // A register that is due.
 ghost use Rattle.std.specs.Prelude.{◌≡◌, ◌==◌, ◌∷◌, ◌++◌, [], ◌<◌, ◌≤◌, true, Some, length, OnOk, IfOk, IfErr, IfSome, slice_get};
 ghost use Rattle.std.specs.List.{list_any};
-ghost use Rattle.sel_regs.specs.Slots.{larger_of};
 ghost use Rattle.sel_target.specs.SavingLaws.{saving};
 ghost use Rattle.sel_target.specs.Symbols.{saving_place, saving_line};
 ghost use Rattle.sel_parse_desk.specs.Entries.{kind_in, word_of};
@@ -120,13 +119,6 @@ fn in_slot<T: Templates>(target: &T, attr: &Attr<T::Operand>, word: u32) -> Attr
     }
 }
 
-fn larger(a: u32, b: u32) -> u32
-    ensures larger { result ≡ larger_of a b }
-    ensures within { a ≤ 1024 → b ≤ 1024 → result ≤ 1024 }
-{
-    if a < b { b } else { a }
-}
-
 // The line follows that saves an attribute, the only one of a list.
 fn save_line<T: Templates>(
     setting: &Setting<T>,
@@ -204,7 +196,7 @@ fn save_below<T: Templates>(
         &mut desk.code,
     )?;
     put(setting.target, &mut desk.stack, at, attr);
-    desk.most = larger(desk.most, word + 1);
+    desk.most = desk.most.max(word + 1);
     Ok(())
 }
 
@@ -232,7 +224,7 @@ fn save_symbol<T: Templates>(
         &mut desk.code,
     )?;
     desk.symbols.put(at, attr);
-    desk.most = larger(desk.most, word + 1);
+    desk.most = desk.most.max(word + 1);
     Ok(())
 }
 

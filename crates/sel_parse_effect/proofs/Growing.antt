@@ -1,7 +1,6 @@
 -- A reduction adds lines to the code, and uses no fewer frame words.
-use Rattle.std.proofs.Common.{◌≡◌, ℕ, zero, suc, ◌+◌, ◌≤◌, List, [], ◌++◌, length, Option, Some, None, Bool, true, false, refl, sym, ap, ◌∙◌, subst, arith, append_assoc, slice_get}
+use Rattle.std.proofs.Common.{◌≡◌, ℕ, zero, suc, ◌+◌, ◌≤◌, max, List, [], ◌++◌, length, Option, Some, None, Bool, true, false, refl, sym, ap, ◌∙◌, subst, arith, append_assoc, slice_get}
 use mathlib.Core.List.{append-nil}
-use Rattle.std.proofs.lemmas.Bool.Decides.{nat_tests}
 use Rattle.sel_parse_stands.proofs.Desks.{full_done, stuck_done, done_same}
 use Rattle.tree_core.specs.declared.program.TreeProgram.{TreeProgram}
 use Rattle.md_reader.specs.declared.types.Give.{Give}
@@ -9,7 +8,6 @@ use Rattle.md_reader.specs.declared.types.Give.TheVariants as give
 use Rattle.md_reader.specs.declared.types.Rule.{Rule}
 use Rattle.md_reader.specs.Patterns.{kind_at}
 use Rattle.md_reader.specs.State.{Content}
-use Rattle.sel_regs.specs.Slots.{larger_of}
 use Rattle.sel_target.specs.declared.attr.Attr.{Attr}
 use Rattle.sel_target.specs.declared.attr.Attr.TheVariants as attr
 use Rattle.sel_target.specs.Meaning.{Meaning}
@@ -43,8 +41,8 @@ on a b c k m n g h = record {
   grows = (let x = g.grows in let y = h.grows in omega (arith, x, y));
 }
 
-pub larger : (n k : ℕ) → n ≤ larger_of n k
-larger n k = grind (arith, nat_tests)
+larger : (n k : ℕ) → n ≤ max n k
+larger n k = omega arith
 
 module _ {O I S F : Type 0} (of : Meaning O I S F) (q : TreeProgram) (d : Content) (first : ℕ) where
   abbrev DeskGrows : Desk O I → Desk O I → Type 0

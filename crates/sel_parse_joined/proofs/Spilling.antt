@@ -1,6 +1,6 @@
 -- A register that is due is the same by both definitions.
 use Rattle.std.proofs.Common.{◌≡◌, ℕ, suc, ◌+◌, ◌-◌, ◌<◌, ◌≤◌, ◌==◌, List, [], ◌∷◌, ◌++◌, length, map, slice_get, Option, Some, None, Bool, true, false, refl, sym, ap, ◌∙◌, subst, arith}
-use Rattle.std.specs.Prelude.{reverse, slice_set, option_map, is_some, not, ◌&&◌, ◌||◌, if◌then◌else◌}
+use Rattle.std.specs.Prelude.{max, reverse, slice_set, option_map, is_some, not, ◌&&◌, ◌||◌, if◌then◌else◌}
 use Rattle.std.specs.List.{AllByRecursion as All, list_any}
 use Rattle.std.specs.Int.{bit_at}
 use Rattle.std.proofs.lemmas.List.{length-map}
@@ -10,7 +10,6 @@ use Rattle.std.proofs.ByRecursion.{All-push}
 use Rattle.gg_base.proofs.Facts.{all_get}
 use Rattle.tree_core.specs.declared.program.TreeProgram.{TreeProgram}
 use Rattle.md_reader.specs.State.{Content}
-use Rattle.sel_regs.specs.Slots.{larger_of}
 use Rattle.sel_target.specs.declared.attr.Attr.{Attr}
 use Rattle.sel_target.specs.declared.attr.Attr.TheVariants as attr
 use Rattle.sel_target.specs.Meaning.{Meaning, RegAt, WordAt, is_word}
@@ -304,7 +303,7 @@ module _ {O I S F : Type 0} (of : Meaning O I S F) (law : IsLawful of) (q : Tree
       (computed_spills.put_among of (map entry x.symbols) (place (length x.below) p) (computed_spills.entry_in_slot of (entry e) w))
       (map entry (selected_spills.put_among of x.symbols p (selected_spills.entry_in_slot of e w)))
       (let_go x.former ++ computed_spills.let_go (computed_entries.word_of of e.attr)) (let_go (x.former ++ e ∷ [])) (x.code ++ saving of q (saving_line d e.kind) e.attr w)
-      (x.code ++ saving of q (saving_line d e.kind) e.attr w) (larger_of x.most (w + 1)) (larger_of x.most (w + 1))
+      (x.code ++ saving of q (saving_line d e.kind) e.attr w) (max x.most (w + 1)) (max x.most (w + 1))
       (ap (computed_spills.put_below of (reverse (map entry x.below)) (place (length x.below) p)) (slot_entry e w) ∙ below_put x p (selected_spills.entry_in_slot of e w) h)
       (ap (computed_spills.put_among of (map entry x.symbols) (place (length x.below) p)) (slot_entry e w) ∙ among_put x p (selected_spills.entry_in_slot of e w))
       (sym (let_go_more x.former e))

@@ -1,5 +1,5 @@
 -- A selection uses words below 1,024 alone.
-use Rattle.std.proofs.Common.{◌≡◌, ℕ, zero, suc, ◌+◌, ◌-◌, ◌<◌, ◌≤◌, cond, List, [], length, Option, Some, None, Bool, false, true, refl, ap, ◌∙◌, subst, arith}
+use Rattle.std.proofs.Common.{◌≡◌, ℕ, zero, suc, ◌+◌, ◌-◌, ◌<◌, ◌≤◌, max, cond, List, [], length, Option, Some, None, Bool, false, true, refl, ap, ◌∙◌, subst, arith}
 use Rattle.std.specs.Prelude.{slice_get}
 use Rattle.std.proofs.lemmas.Option.{same_Some, none-some}
 use Rattle.tree_core.specs.declared.tree.Leaf.{Leaf}
@@ -13,7 +13,6 @@ use Rattle.lr_tables.specs.Statements.{stmt_of}
 use Rattle.lr_check_parse.specs.Moves.{Move, Ending, Accepts, Blocks, Loops, Refuses, Parses}
 use Rattle.lr_check_parse.specs.Moves as parse
 use Rattle.lr_check_parse.specs.Attributes.{by_attributes}
-use Rattle.sel_regs.proofs.Larger.{larger}
 use Rattle.sel_target.specs.declared.attr.Attr.{Attr}
 use Rattle.sel_target.specs.declared.attr.Attr.TheVariants as attr
 use Rattle.sel_target.specs.Meaning.{Meaning}
@@ -52,7 +51,9 @@ module _ {O I S F : Type 0} (of : Meaning O I S F) (q : TreeProgram) (d : Conten
   saved_few desk p (Some e) None h free = tt
   saved_few desk p (Some e) (Some w) h free =
       let b = lowest_below (is_free_word of desk) first (1024 - first) w free in
-      larger desk.most (w + 1) 1024 h (omega (arith, b, low))
+      let now : desk.most ≤ 1024 = h in
+      let most : max desk.most (w + 1) ≤ 1024 = omega (arith, b, low, now) in
+      most
 
   spilled_few : (desk : Desk O I) (p : Option Where) → Few desk → Each Few (spilled of q d first desk p)
   spilled_few desk None h = tt

@@ -1,9 +1,8 @@
 -- A register that is due: the lowest free one, or one that an entry gives up.
-use Rattle.std.specs.Prelude.{ℕ, ◌+◌, ◌&&◌, List, [], ◌∷◌, ◌++◌, Option, Some, None, is_some, slice_get, slice_set}
+use Rattle.std.specs.Prelude.{ℕ, ◌+◌, max, ◌&&◌, List, [], ◌∷◌, ◌++◌, Option, Some, None, is_some, slice_get, slice_set}
 use Rattle.std.specs.Prelude.{Bool, not, if◌then◌else◌}
 use Rattle.tree_core.specs.declared.program.TreeProgram.{TreeProgram}
 use Rattle.md_reader.specs.State.{Content}
-use Rattle.sel_regs.specs.Slots.{larger_of}
 use Rattle.sel_target.specs.declared.attr.Attr.{Attr}
 use Rattle.sel_target.specs.declared.attr.Attr.TheVariants as attr
 use Rattle.sel_target.specs.Meaning.{Meaning, RegAt}
@@ -77,7 +76,7 @@ module _ {O I S F : Type 0} (of : Meaning O I S F) where
       symbols = put_among desk.symbols p (entry_in_slot e w);
       former = desk.former ++ e ∷ [];
       code = desk.code ++ saving of q (saving_line d e.kind) e.attr w;
-      most = larger_of desk.most (w + 1);
+      most = max desk.most (w + 1);
     }
 
     abbrev pub saved_in : Desk O I → Where → Option (Entry O) → Option ℕ → Outcome (Desk O I)

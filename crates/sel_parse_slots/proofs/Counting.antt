@@ -1,7 +1,7 @@
 -- A reduction uses no more words than the entries before it hold registers and slots.
 use Rattle.std.proofs.Common.{◌≡◌, ◌⊎◌, inl, inr, ℕ, zero, suc, ◌+◌, ◌-◌, ◌<◌, ◌≤◌, List, [], ◌∷◌, ◌++◌, Option, Some, None, Bool, true, false, refl, sym, ap, ◌∙◌, subst, arith, length}
 use Rattle.std.proofs.Common.{slice_get, eq-or-lt_of_le, le_of_suc-le-suc}
-use Rattle.std.specs.Prelude.{not, if◌then◌else◌, slice_set}
+use Rattle.std.specs.Prelude.{max, not, if◌then◌else◌, slice_set}
 use Rattle.std.proofs.lemmas.Option.{same_Some, none-some, slice_get_within}
 use Rattle.std.proofs.lemmas.Bool.{not-true, cases_eq}
 use Rattle.gg_base.proofs.Facts.{first_true, second_true, true_or_false, slice_set_other, slice_set_same}
@@ -12,7 +12,6 @@ use Rattle.md_reader.specs.declared.types.Sym.{Sym}
 use Rattle.md_reader.specs.declared.types.Sym.TheVariants as grammar_symbol
 use Rattle.md_reader.specs.Patterns.{kind_at}
 use Rattle.md_reader.specs.State.{Content}
-use Rattle.sel_regs.proofs.Larger.{larger}
 use Rattle.sel_target.specs.declared.attr.Attr.{Attr}
 use Rattle.sel_target.specs.declared.attr.Attr.TheVariants as attr
 use Rattle.sel_target.specs.Meaning.{Meaning, WordAt}
@@ -222,7 +221,7 @@ module _ {O I S F : Type 0} (of : Meaning O I S F) (law : IsLawful of) (q : Tree
         record {
           counted = record {
             held_in_all = omega (arith, set, add, all, g0, g1);
-            most_within = larger desk.most (w + 1) (first + c) h.most_within (omega (arith, w_low, room));
+            most_within = (let now : desk.most ≤ first + c = h.most_within in let most : max desk.most (w + 1) ≤ first + c = omega (arith, w_low, room, now) in most);
             below_within = within_set desk.below gb j e (entry_in_slot of e w) at (omega (arith, g0, g1)) h.below_within;
             symbols_within = h.symbols_within;
             below_fine = fine_set a desk.below j e (entry_in_slot of e w) s.0 h.below_fine at s.1 sp.fine;
@@ -250,7 +249,7 @@ module _ {O I S F : Type 0} (of : Meaning O I S F) (law : IsLawful of) (q : Tree
         record {
           counted = record {
             held_in_all = omega (arith, set, add, all, g0, g1, g2);
-            most_within = larger desk.most (w + 1) (first + c) h.most_within (omega (arith, w_low, room));
+            most_within = (let now : desk.most ≤ first + c = h.most_within in let most : max desk.most (w + 1) ≤ first + c = omega (arith, w_low, room, now) in most);
             below_within = h.below_within;
             symbols_within = within_set desk.symbols gs j e (entry_in_slot of e w) at (omega (arith, g0, g3)) h.symbols_within;
             below_fine = h.below_fine;

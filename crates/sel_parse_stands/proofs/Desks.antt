@@ -2,9 +2,8 @@
 use Rattle.std.proofs.Common.{◌≡◌, ◌⊎◌, inl, inr, ℕ, zero, suc, ◌+◌, ◌-◌, ◌<◌, ◌≤◌, ◌==◌, List, [], ◌∷◌, ◌++◌, length, Option, Some, None, Bool, true, false, refl, sym, ap, ◌∙◌, subst, slice_get}
 use Rattle.std.proofs.Common.{eq-or-lt_of_le, le_of_suc-le-suc}
 use Rattle.std.proofs.Common.{arith}
-use Rattle.std.specs.Prelude.{not, ◌&&◌, ◌||◌, if◌then◌else◌, slice_set}
+use Rattle.std.specs.Prelude.{max, not, ◌&&◌, ◌||◌, if◌then◌else◌, slice_set}
 use Rattle.std.specs.Int.{bit_at}
-use Rattle.std.proofs.lemmas.Bool.Decides.{nat_tests}
 use Rattle.std.proofs.lemmas.Option.{same_Some, none-some, slice_get_within}
 use Rattle.std.proofs.lemmas.Bool.{not-true, cases_eq}
 use Rattle.gg_base.proofs.Facts.{first_true, second_true, true_or_false, slice_set_other, slice_set_same}
@@ -17,7 +16,6 @@ use Rattle.md_reader.specs.declared.types.Sym.{Sym}
 use Rattle.md_reader.specs.declared.types.Sym.TheVariants as grammar_symbol
 use Rattle.md_reader.specs.Patterns.{kind_at}
 use Rattle.md_reader.specs.State.{Content}
-use Rattle.sel_regs.specs.Slots.{larger_of}
 use Rattle.sel_terms.specs.RuleFacts.{size_of_kind, size_of_symbol}
 use Rattle.sel_terms_trees.specs.Senses.{Sense, OfNumber}
 use Rattle.sel_target.specs.declared.attr.Attr.{Attr}
@@ -307,8 +305,8 @@ module _ {O I S F : Type 0} (of : Meaning O I S F) (law : IsLawful of) (q : Tree
       pub grows : desk.most ≤ new.most
       pub works : new.most ≤ f.words → Works desk → Works new
 
-    grown : (n k : ℕ) → (n ≤ larger_of n k) × (k ≤ larger_of n k)
-    grown n k = (grind (arith, nat_tests), grind (arith, nat_tests))
+    grown : (n k : ℕ) → n ≤ max n k
+    grown n k = omega arith
 
     spilled_by : (given : Bool) (desk new : Desk O I) (p : Where) (e : Entry O) (r : ℕ) → MayMove desk p e
         → saved_in of q d first desk p (Some e) (free_slot of first desk) ≡ Done new → free_register of d given new ≡ Some r → Behind given desk r new
@@ -318,11 +316,11 @@ module _ {O I S F : Type 0} (of : Meaning O I S F) (law : IsLawful of) (q : Tree
         done w at same = record {
           due = due_found given new r due;
           stays = subst (λ (x : Desk O I). Stays desk.symbols x.symbols) same (moved_stays desk p e w may);
-          grows = subst (λ (x : Desk O I). desk.most ≤ x.most) same (grown desk.most (w + 1)).0;
+          grows = subst (λ (x : Desk O I). desk.most ≤ x.most) same (grown desk.most (w + 1));
           works = λ within old. subst Works same (moved_works desk p e w may (word_found desk w at) (below_words w (subst (λ (x : Desk O I). x.most ≤ f.words) (sym same) within)) old);
         } where
-          below_words : (w : ℕ) → larger_of desk.most (w + 1) ≤ f.words → w < f.words
-          below_words w h = (let g = (grown desk.most (w + 1)).1 in omega (arith, g, h))
+          below_words : (w : ℕ) → max desk.most (w + 1) ≤ f.words → w < f.words
+          below_words w h = omega (arith, h)
 
         by : (o : Option ℕ) → free_slot of first desk ≡ o → saved_in of q d first desk p (Some e) o ≡ Done new → Behind given desk r new
         by None at h = absurd (full_done new h)
