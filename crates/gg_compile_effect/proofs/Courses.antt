@@ -1,5 +1,5 @@
 -- A course of the target's words is the machine's own, and a step that a course is, it does.
-use Rattle.std.proofs.Common.{◌≡◌, ℕ, List, [], ◌∷◌, length, map, Option, Some, None, refl, ap, ◌∙◌, subst}
+use Rattle.std.proofs.Common.{◌≡◌, ℕ, List, [], ◌∷◌, length, map, option_to_list, refl, ap, subst}
 use Rattle.tree_core.specs.declared.program.TreeProgram.{TreeProgram}
 use Rattle.tree_core.specs.Names.{label_name, function_label}
 use Rattle.tree_meaning.specs.State.{State as Trees}
@@ -12,7 +12,7 @@ use Rattle.sel_target.specs.StatementLaws.{IsStep}
 use Rattle.vax_core.specs.declared.code.Instr.{Instr}
 use Rattle.vax_machine.specs.declared.turn.Stop.TheVariants as stops
 use Rattle.vax_machine.specs.State.{State}
-use Rattle.vax_machine_lists.specs.Instructions.{Course, Ending, Comes, Goes, Calls, Returns, Stops, one_byte}
+use Rattle.vax_machine_lists.specs.Instructions.{Course, Ending, Comes, Goes, Calls, Returns, Stops}
 use Rattle.vax_states.specs.Stack as stack
 use Rattle.vax_states.specs.Agreeing.{Agrees}
 use Rattle.vax_target_meaning.specs.Running.{ending_of, course_of}
@@ -99,10 +99,6 @@ pub all_back : (es : List stack.Extent) → map extent_of (map back es) ≡ es
 all_back [] = refl
 all_back (e ∷ es) = ap (λ (x : List stack.Extent). e ∷ x) (all_back es)
 
-same_byte : (b : Option ℕ) → steps.one_byte b ≡ one_byte b
-same_byte None = refl
-same_byte (Some b) = refl
-
 -- ---- a step
 
 -- a step that isn't a trap
@@ -128,8 +124,7 @@ module _ (q : TreeProgram) (e : stack.Extent) (es : List stack.Extent) (t : Tree
   step_does c (GoesOn s) fair h = (h.0, course_is c [] (target.Comes h.0) (Comes h.0) h.1 (ends_comes c.ending h.0), stays s h.0 h.2)
   step_does c (Serves b s) fair h = (
     h.0,
-    course_is c (one_byte b) (target.Comes h.0) (Comes h.0) (h.1 ∙ ap (λ (w : List ℕ). record { written = w; ending = target.Comes h.0 }) (same_byte b))
-        (ends_comes c.ending h.0),
+    course_is c (option_to_list b) (target.Comes h.0) (Comes h.0) h.1 (ends_comes c.ending h.0),
     stays s h.0 h.2,
     h.3,
   )

@@ -1,5 +1,5 @@
 -- What the machine does of one tree, by the tree's deed.
-use Rattle.std.proofs.Common.{◌≡◌, ℕ, ◌+◌, ◌-◌, ◌<◌, ◌≤◌, Bool, true, false, List, [], ◌∷◌, ◌++◌, length, Option, Some, None, Ok, refl, sym, ap, subst, ◌∙◌, arith}
+use Rattle.std.proofs.Common.{◌≡◌, ℕ, ◌+◌, ◌-◌, ◌<◌, ◌≤◌, Bool, true, false, List, [], ◌∷◌, ◌++◌, length, Option, Some, None, option_to_list, Ok, refl, sym, ap, subst, ◌∙◌, arith}
 use Rattle.std.specs.Prelude.{slice_get, ◌==◌, cond}
 use Rattle.std.proofs.lemmas.List.{length-take-le, length-drop}
 use Rattle.std.proofs.lemmas.Bool.{false≢true}
@@ -24,7 +24,7 @@ use Rattle.tree_meaning.specs.State.{State as Trees}
 use Rattle.gg_base.specs.declared.run.Finish.TheVariants as finish
 use Rattle.tree_meaning.specs.Steps.{Step, Goes, Serves, GoesTo, Enters, GoesBack, Ends, without_pushed, with_label, with_call as entering_with, tree_step}
 use Rattle.vax_states.specs.Agreeing.{Agrees, HasResult}
-use Rattle.vax_machine_lists.specs.Instructions.{Course, one_byte, exec, Comes, Goes as GoesAway, Calls as CallsOut, Returns, Stops}
+use Rattle.vax_machine_lists.specs.Instructions.{Course, exec, Comes, Goes as GoesAway, Calls as CallsOut, Returns, Stops}
 use Rattle.gg_compile_law.specs.Roles.{Role, Pushes, Calls, Saves, Plain, role_of, target_of}
 use Rattle.vax_machine_lists.specs.Runs.{Leads, Halts, HasInstrs, at_of, Carries}
 use Rattle.vax_frames_law.specs.Calling.{with_call}
@@ -172,10 +172,10 @@ module _ (program : TreeProgram) (code : List CodeItem) (emitted : (n : ℕ) (g 
     count_is : (number count : ℕ) → role_of w ≡ Calls number count → length t.running.pushed ≡ count
     count_is number count e = calls_with (role_of w) order number count e
 
-    serves : (b : Option ℕ) (n : State) (s : Trees) (number count : ℕ) → exec root.instrs m ≡ record { written = one_byte b; ending = Comes n } → Stays program.objects here.e here.es s m n
-        → HasResult s n → role_of w ≡ Calls number count → Keeps t s (length t.running.pushed - count) → Arrives m (one_byte b) s
+    serves : (b : Option ℕ) (n : State) (s : Trees) (number count : ℕ) → exec root.instrs m ≡ record { written = option_to_list b; ending = Comes n } → Stays program.objects here.e here.es s m n
+        → HasResult s n → role_of w ≡ Calls number count → Keeps t s (length t.running.pushed - count) → Arrives m (option_to_list b) s
     serves b n s number count course stays result r k =
-        went (one_byte b) n s (length t.running.pushed - count) true course stays k
+        went (option_to_list b) n s (length t.running.pushed - count) true course stays k
         (in_order_zero (length t.running.pushed - count) true is (omega (arith, count_is number count r)) (order_behind number count r)) (λ e. result)
 
     -- a jump
@@ -315,7 +315,7 @@ module _ (program : TreeProgram) (code : List CodeItem) (emitted : (n : ℕ) (g 
     -- what the machine comes to by a step
     abbrev pub Came : Step → Type 0
     Came (Goes s) = Arrives m [] s
-    Came (Serves b s) = Arrives m (one_byte b) s
+    Came (Serves b s) = Arrives m (option_to_list b) s
     Came (GoesTo l s) = Arrives m [] (with_label s l)
     Came (Enters h args s) = Arrives m [] (entering_with s h args)
     Came (GoesBack v s) = ComesBack program code s.callers s v m []

@@ -1,6 +1,6 @@
 -- The simplest trees and their instructions: pushes of numbers, calls, services, saves, jumps, and `return 0`. They show that trees can have
 -- the effect that is asked of them.
-use Rattle.std.proofs.Common.{◌≡◌, ℕ, ◌+◌, ◌-◌, ◌*◌, ◌%◌, ◌^◌, ◌<◌, ◌≤◌, Bool, true, false, cond, List, [], ◌∷◌, length, take, Option, Some, None, Result, Ok, refl, sym, ap}
+use Rattle.std.proofs.Common.{◌≡◌, ℕ, ◌+◌, ◌-◌, ◌*◌, ◌%◌, ◌^◌, ◌<◌, ◌≤◌, Bool, true, false, cond, List, [], ◌∷◌, length, take, Option, Some, None, option_to_list, Result, Ok, refl, sym, ap}
 use Rattle.std.proofs.Common.{subst, ◌∙◌, arith, get_or-set_same}
 use Rattle.std.specs.Prelude.{slice_get, nat_lt}
 use Rattle.std.specs.Str.{bytes_eq}
@@ -37,7 +37,7 @@ use Rattle.vax_machine_lists.specs.Sound.{AllBelow}
 use Rattle.vax_states.specs.Agreeing.{Agrees}
 use Rattle.vax_core.specs.Homes.{home}
 use Rattle.vax_core.specs.First.{putchar_name, imm, in_reg}
-use Rattle.vax_machine_lists.specs.Instructions.{Course, Comes, Goes, Calls as CallsOut, one_byte, ends, comes, course_of, followed, performed, exec}
+use Rattle.vax_machine_lists.specs.Instructions.{Course, Comes, Goes, Calls as CallsOut, ends, comes, course_of, followed, performed, exec}
 use Rattle.vax_machine_lists.proofs.Soundness.{conditions_sound}
 use Rattle.gg_compile_law.specs.Effects.{Does, IsReady, HasEffect}
 use Rattle.gg_compile_law.specs.Demo.{jump_code, call_code}
@@ -67,7 +67,7 @@ call_is count name m p q =
     ap (λ (b : Bool). followed (cond b (course_of (putchar m count)) (cond (bytes_eq name getchar_name) (course_of (getchar m count)) (ends (CallsOut name count m [])))) [] (λ (x : State). comes x)) p
     ∙ ap (λ (b : Bool). followed (cond b (course_of (getchar m count)) (ends (CallsOut name count m []))) [] (λ (x : State). comes x)) q
 
-putchar_is : (m : State) (o : Option ℕ) (n : State) → putchar m 1 ≡ Ok (o, n) → exec (call_code 1 putchar_name) m ≡ record { written = one_byte o; ending = Comes n }
+putchar_is : (m : State) (o : Option ℕ) (n : State) → putchar m 1 ≡ Ok (o, n) → exec (call_code 1 putchar_name) m ≡ record { written = option_to_list o; ending = Comes n }
 unfolding performed evaluated located taken
 putchar_is m None n e = ap (λ (r : Acts). followed (course_of r) [] (λ (x : State). comes x)) e
 putchar_is m (Some b) n e = ap (λ (r : Acts). followed (course_of r) [] (λ (x : State). comes x)) e

@@ -1,5 +1,5 @@
 -- When instructions do what a tree does.
-use Rattle.std.specs.Prelude.{◌≡◌, ℕ, ◌≤◌, List, [], length}
+use Rattle.std.specs.Prelude.{◌≡◌, ℕ, ◌≤◌, List, [], length, option_to_list}
 use Rattle.vax_core.specs.declared.register.Reg.TheVariants.{R0}
 use Rattle.vax_core.specs.declared.code.Instr.{Instr}
 use Rattle.vax_machine.specs.declared.turn.Stop.TheVariants as stops
@@ -14,7 +14,7 @@ use Rattle.tree_meaning.specs.State.{State as Trees}
 use Rattle.tree_meaning.specs.Steps.{Step, Goes as GoesOn, Serves, GoesTo, Enters, GoesBack, Ends, tree_step}
 use Rattle.vax_states.specs.Stack.{Extent}
 use Rattle.vax_states.specs.Agreeing.{Agrees, HasResult, HasRoom}
-use Rattle.vax_machine_lists.specs.Instructions.{Course, one_byte, exec, Comes, Goes, Calls as CallsOut, Returns, Stops}
+use Rattle.vax_machine_lists.specs.Instructions.{Course, exec, Comes, Goes, Calls as CallsOut, Returns, Stops}
 use Rattle.gg_compile_law.specs.Roles.{role_of, Calls, Saves}
 
 -- The same calls are live, and the state stands for the trees' state.
@@ -27,7 +27,7 @@ module _ (objects : List Object) (e : Extent) (es : List Extent) (t : Trees) (m 
   -- return are left to be done: in the state before them the tree program's state is the same, but for the last call's result.
   abbrev pub Does : Step → Course → Type 0
   Does (GoesOn s) c = (n : State) × (c ≡ record { written = []; ending = Comes n }) × Stays objects e es s m n
-  Does (Serves b s) c = (n : State) × (c ≡ record { written = one_byte b; ending = Comes n }) × Stays objects e es s m n × HasResult s n
+  Does (Serves b s) c = (n : State) × (c ≡ record { written = option_to_list b; ending = Comes n }) × Stays objects e es s m n × HasResult s n
   Does (GoesTo label s) c = (n : State) × (c ≡ record { written = []; ending = Goes (label_name label) n }) × Stays objects e es s m n
   Does (Enters g args s) c =
       (n : State) × (c ≡ record { written = []; ending = CallsOut (function_label g.name) (length args) n [] }) × Stays objects e es t m n

@@ -1,5 +1,5 @@
 -- What the lines of a statement do: a law of a target.
-use Rattle.std.specs.Prelude.{◌≡◌, ℕ, ◌<◌, List, [], ◌∷◌, length, Option, Some, None, true}
+use Rattle.std.specs.Prelude.{◌≡◌, ℕ, ◌<◌, List, [], length, Option, Some, None, option_to_list, true}
 use Rattle.std.specs.List.{AllByRecursion}
 use Rattle.gg_base.specs.declared.size.Size.{Size}
 use Rattle.tree_core.specs.declared.tree.Att.{Att}
@@ -25,10 +25,6 @@ use Rattle.sel_target.specs.Values.{View, value, own_operand, PlaceIs}
 use Rattle.sel_target.specs.EffectTerms.{IsSignedBy}
 use Rattle.sel_target.specs.Instances.{hole, lines_of, Ready}
 
-abbrev pub one_byte : Option ℕ → List ℕ
-one_byte None = []
-one_byte (Some b) = b ∷ []
-
 -- the attribute of a symbol that is a token
 abbrev pub att_of : {O : Type 0} → Option (Attr O) → Option Att
 att_of (Some (attr.Token l)) = Some l.att
@@ -45,7 +41,7 @@ module _ {O I S F : Type 0} (of : Meaning O I S F) where
   -- they are done: that state stands for the state before the step, and before a call or a return there is room.
   abbrev pub IsStep : TreeProgram → Extent → List Extent → State → S → Course I S → Step → Type 0
   IsStep q f fs t m c (steps.Goes s) = (n : S) × (c ≡ comes n) × Stays q f fs s m n
-  IsStep q f fs t m c (steps.Serves b s) = (n : S) × (c ≡ record { written = one_byte b; ending = Comes n })
+  IsStep q f fs t m c (steps.Serves b s) = (n : S) × (c ≡ record { written = option_to_list b; ending = Comes n })
       × Stays q f fs s m n × (of.answer n ≡ s.running.result)
   IsStep q f fs t m c (steps.GoesTo label s) = (n : S) × (c ≡ ends (Goes (label_name label) n)) × Stays q f fs s m n
   IsStep q f fs t m c (steps.Enters g arguments s) =

@@ -1,5 +1,5 @@
 -- Where instructions stand in a code at the machine's place, the machine's steps do what the instructions do by themselves.
-use Rattle.std.proofs.Common.{◌≡◌, ℕ, zero, suc, ◌+◌, Bool, true, false, cond, List, [], ◌∷◌, ◌++◌, length, drop, Option, Some, None, Result, Ok, Err, refl, sym, ap, subst, ◌∙◌}
+use Rattle.std.proofs.Common.{◌≡◌, ℕ, zero, suc, ◌+◌, Bool, true, false, cond, List, [], ◌∷◌, ◌++◌, length, drop, Option, Some, None, option_to_list, Result, Ok, Err, refl, sym, ap, subst, ◌∙◌}
 use Rattle.std.proofs.Common.{arith, append_assoc, append-nil}
 use Rattle.std.specs.Prelude.{slice_get}
 use Rattle.std.specs.Str.{bytes_eq}
@@ -18,7 +18,7 @@ use Rattle.vax_machine.specs.Operands.{all_evaluated}
 use Rattle.vax_machine.specs.Functions.{action_of, applied, passes}
 use Rattle.vax_machine.specs.Calls.{Acts, called, silent, returned, called_by_name, putchar, getchar}
 use Rattle.vax_machine.specs.Step.{act, at_item, instruction, acted, branched, finished, pushing}
-use Rattle.vax_machine_lists.specs.Instructions.{Ending, Comes, Goes, Calls, Returns, Stops, Course, one_byte, course_of, bytes_first, behind, followed, branching, calling, alone}
+use Rattle.vax_machine_lists.specs.Instructions.{Ending, Comes, Goes, Calls, Returns, Stops, Course, course_of, bytes_first, behind, followed, branching, calling, alone}
 use Rattle.vax_machine_lists.specs.Instructions.{evaluated_then, performed, exec}
 use Rattle.vax_machine_lists.specs.Laws.{StepsAreTheirs, OneAfterAnother}
 use Rattle.vax_machine_lists.specs.Runs.{Leads, HasInstrs, at_of, CarriesTo, Carries}
@@ -50,7 +50,7 @@ act_is m i here =
 
 -- what the machine does of a course of one instruction
 abbrev pub OneStep : Acts → List ℕ → Ending → Type 0
-OneStep acts w (Comes n) = (o : Option ℕ) × (w ≡ one_byte o) × (acts ≡ Ok (o, n))
+OneStep acts w (Comes n) = (o : Option ℕ) × (w ≡ option_to_list o) × (acts ≡ Ok (o, n))
 OneStep acts w (Goes label n) = (w ≡ []) × (acts ≡ Ok (None, record n { place = label_place n.items label }))
 OneStep acts w (Calls name count n rest) = (w ≡ []) × (rest ≡ []) × (acts ≡ silent (called n count (label_place n.items name) (Some n.place)))
 OneStep acts w (Returns n) = (w ≡ []) × (acts ≡ returned n)
@@ -102,17 +102,17 @@ module _ (m : State) where
   next = record { place = m.place + 1; items = m.items; over = m.over }
 
   -- what the machine does behind one step is what it does from the step on
-  stepped : (o : Option ℕ) (n : State) (count : ℕ) → Leads m (one_byte o) 1 (there n next) → (w : List ℕ) (e : Ending)
-      → CarriesTo (there n next) count w (ending_there e next) → CarriesTo m (suc count) (one_byte o ++ w) e
+  stepped : (o : Option ℕ) (n : State) (count : ℕ) → Leads m (option_to_list o) 1 (there n next) → (w : List ℕ) (e : Ending)
+      → CarriesTo (there n next) count w (ending_there e next) → CarriesTo m (suc count) (option_to_list o ++ w) e
   stepped o n count lead w (Comes k) h =
       let e : m.place + 1 + count ≡ m.place + suc count = omega arith in
       let c : 1 + count ≡ suc count = omega arith in
-      subst (λ (p : ℕ). Leads m (one_byte o ++ w) (suc count) (at_of m k p)) e
-      (subst (λ (x : ℕ). Leads m (one_byte o ++ w) x (at_of m k (m.place + 1 + count))) c (further m (there n next) (at_of m k (m.place + 1 + count)) (one_byte o) w 1 count lead h))
-  stepped o n count lead w (Goes label k) h = (1 + h.0, then_gets m (there n next) (one_byte o) w 1 h.0 _ lead h.1)
-  stepped o n count lead w (Calls name args k rest) h = (1 + h.0, h.1, (omega (arith, h.2)), then_gets m (there n next) (one_byte o) w 1 h.0 _ lead h.3)
-  stepped o n count lead w (Returns k) h = (1 + h.0, h.1, then_gets m (there n next) (one_byte o) w 1 h.0 _ lead h.2)
-  stepped o n count lead w (Stops e) h = (1 + h.0, then_gets m (there n next) (one_byte o) w 1 h.0 _ lead h.1)
+      subst (λ (p : ℕ). Leads m (option_to_list o ++ w) (suc count) (at_of m k p)) e
+      (subst (λ (x : ℕ). Leads m (option_to_list o ++ w) x (at_of m k (m.place + 1 + count))) c (further m (there n next) (at_of m k (m.place + 1 + count)) (option_to_list o) w 1 count lead h))
+  stepped o n count lead w (Goes label k) h = (1 + h.0, then_gets m (there n next) (option_to_list o) w 1 h.0 _ lead h.1)
+  stepped o n count lead w (Calls name args k rest) h = (1 + h.0, h.1, (omega (arith, h.2)), then_gets m (there n next) (option_to_list o) w 1 h.0 _ lead h.3)
+  stepped o n count lead w (Returns k) h = (1 + h.0, h.1, then_gets m (there n next) (option_to_list o) w 1 h.0 _ lead h.2)
+  stepped o n count lead w (Stops e) h = (1 + h.0, then_gets m (there n next) (option_to_list o) w 1 h.0 _ lead h.1)
 
   module _ (going : m.over ≡ None) (is : List Instr) where
     one_then_rest : ((n : State) → CarriesTo (there n next) (length is) (exec is n).written (ending_there (exec is n).ending next))

@@ -1,12 +1,11 @@
 -- Steps one after another.
-use Rattle.std.proofs.Common.{◌≡◌, ℕ, suc, ◌+◌, List, [], ◌++◌, Option, Some, None, Ok, Err, sym, ap, ◌∙◌, arith, append_assoc}
+use Rattle.std.proofs.Common.{◌≡◌, ℕ, suc, ◌+◌, List, [], ◌++◌, Option, Some, None, option_to_list, Ok, Err, sym, ap, ◌∙◌, arith, append_assoc}
 use Rattle.gg_base.specs.Runs.{Outcome, one_first}
 use Rattle.vax_machine.specs.declared.turn.Stop.{Stop}
 use Rattle.vax_machine.specs.State.{State}
 use Rattle.vax_machine.specs.Calls.{Acts}
 use Rattle.vax_machine.specs.Step.{Next, Goes, Writes, Stops, next_of, next_where, act, step_of}
 use Rattle.vax_machine.specs.Running.{behind, steps}
-use Rattle.vax_machine_lists.specs.Instructions.{one_byte}
 use Rattle.vax_machine_lists.specs.Runs.{Leads, Halts, Gets}
 
 -- the step of a run that is not over
@@ -23,7 +22,7 @@ first_step : (m : State) (x : Next) (i : ℕ) → step_of m ≡ x → steps (1 +
 first_step m x i h = let e : 1 + i ≡ suc i = omega arith in ap (λ (k : ℕ). steps k m) e ∙ ap (λ (y : Next). one_first (behind y (steps i))) h
 
 -- one step that goes on
-pub one : (m n : State) (o : Option ℕ) → m.over ≡ None → act m ≡ Ok (o, n) → Leads m (one_byte o) 1 n
+pub one : (m n : State) (o : Option ℕ) → m.over ≡ None → act m ≡ Ok (o, n) → Leads m (option_to_list o) 1 n
 one m n None going e = record {
   output = λ i. ap (λ (x : Outcome). x.output) (first_step m (Goes n) i (step_by m (Ok (None, n)) going e));
   end = λ i. ap (λ (x : Outcome). x.end) (first_step m (Goes n) i (step_by m (Ok (None, n)) going e));
@@ -64,8 +63,8 @@ pub gets_now : (m : State) (acts : Acts) → m.over ≡ None → act m ≡ acts 
 gets_now m acts going e = record { state = m; leads = nothing m; going = going; acts_so = e }
 
 module _ (m n : State) (w : List ℕ) (i : ℕ) (acts : Acts) where
-  pub got_on : (o : Option ℕ) → Gets m w i acts → acts ≡ Ok (o, n) → Leads m (w ++ one_byte o) (i + 1) n
-  got_on o g e = further m g.state n w (one_byte o) i 1 g.leads (one g.state n o g.going (g.acts_so ∙ e))
+  pub got_on : (o : Option ℕ) → Gets m w i acts → acts ≡ Ok (o, n) → Leads m (w ++ option_to_list o) (i + 1) n
+  got_on o g e = further m g.state n w (option_to_list o) i 1 g.leads (one g.state n o g.going (g.acts_so ∙ e))
 
   pub got_over : (e : Stop) → Gets m w i acts → acts ≡ Err e → Halts m (w ++ []) (i + 1) e
   got_over e g h = then_halts m g.state w [] i 1 e g.leads (last g.state e g.going (g.acts_so ∙ h))

@@ -1,5 +1,5 @@
 -- What a call does to states that stand for a state of trees: it is left to be done, or the service is done.
-use Rattle.std.proofs.Common.{◌≡◌, ℕ, Bool, false, cond, List, [], ◌∷◌, Option, Some, Ok, refl, ap, ◌∙◌}
+use Rattle.std.proofs.Common.{◌≡◌, ℕ, Bool, false, cond, List, [], ◌∷◌, Option, Some, option_to_list, Ok, refl, ap, ◌∙◌}
 use Rattle.std.specs.Str.{bytes_eq}
 use Rattle.tree_core.specs.declared.program.Object.{Object}
 use Rattle.tree_meaning.specs.State.{State as Trees}
@@ -12,7 +12,7 @@ use Rattle.vax_machine.specs.Operands.{evaluated, located, taken}
 use Rattle.vax_machine.specs.Labels.{getchar_name}
 use Rattle.vax_machine.specs.Calls.{Acts, putchar, getchar, got}
 use Rattle.vax_machine_lists.specs.Sound.{AllBelow}
-use Rattle.vax_machine_lists.specs.Instructions.{Comes, Calls, one_byte, ends, comes, course_of, performed}
+use Rattle.vax_machine_lists.specs.Instructions.{Comes, Calls, ends, comes, course_of, performed}
 use Rattle.vax_states.specs.Stack.{Extent}
 use Rattle.vax_states.specs.Agreeing.{Agrees}
 use Rattle.vax_states.proofs.Standing.{rebuilt}
@@ -29,7 +29,7 @@ call_is count name m p q =
     ap (λ (b : Bool). cond b (course_of (putchar m count)) (cond (bytes_eq name getchar_name) (course_of (getchar m count)) (ends (Calls name count m [])))) p
     ∙ ap (λ (b : Bool). cond b (course_of (getchar m count)) (ends (Calls name count m []))) q
 
-pub putchar_is : (m : State) (o : Option ℕ) (n : State) → putchar m 1 ≡ Ok (o, n) → performed (call_instr 1 putchar_name) m ≡ record { written = one_byte o; ending = Comes n }
+pub putchar_is : (m : State) (o : Option ℕ) (n : State) → putchar m 1 ≡ Ok (o, n) → performed (call_instr 1 putchar_name) m ≡ record { written = option_to_list o; ending = Comes n }
 unfolding performed evaluated located taken
 putchar_is m o n e = ap (λ (r : Acts). course_of r) e
 
