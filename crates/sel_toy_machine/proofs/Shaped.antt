@@ -23,6 +23,7 @@ use Rattle.md_reader.specs.declared.types.Sym.TheVariants as grammar_symbol
 use Rattle.md_reader.specs.declared.types.Give.TheVariants as give
 use Rattle.md_reader.specs.declared.types.Rule.{Rule}
 use Rattle.md_reader.specs.Patterns.{kind_at}
+use Rattle.md_reader.specs.Restrictions.{is_reg}
 use Rattle.term_core.specs.Shape.{Shape, Symbol, Memory, Binary}
 use Rattle.term_core.specs.declared.operator.BinaryOp.TheVariants as binary_op
 use Rattle.sel_terms.specs.Effects.{ActShape, EffectShape, Value, Number, Address, PlaceHome, PlaceAt, StoreHome, StoreAt, Branch, Push, Call, Save, Return, Jump}
@@ -42,7 +43,7 @@ use Rattle.sel_toy_machine.specs.declared.form.ShapeForm.{ShapeForm}
 use Rattle.sel_toy_machine.specs.declared.form.ShapeForm.TheVariants as shape_form
 use Rattle.sel_toy_machine.specs.Machine.{Machine, in_register, long, reads, names, fits, is_place}
 use Rattle.sel_toy_machine.specs.Forms.{shape_of, is_sized}
-use Rattle.sel_toy_machine.specs.Templates.{undivided, gives_register, gives_nothing, found_form, found_shape, is_register, is_place_of, is_slot, holds_register, is_home, symbol}
+use Rattle.sel_toy_machine.specs.Templates.{undivided, gives_register, gives_nothing, found_form, found_shape, is_place_of, is_slot, holds_register, is_home, symbol}
 use Rattle.sel_toy_machine.specs.Filling.{some_operand, based, shaped, operand_filled}
 use Rattle.sel_toy_machine.specs.Running.{run}
 use Rattle.sel_toy_machine.proofs.Spelled.{own_is}
@@ -87,7 +88,7 @@ pub taken_shape : (classes : List Class) (rule : Rule) (e : EffectShape) (l : Li
 taken_shape classes rule e l h gives = shape_taken classes rule e l (taken_by classes rule e h) gives
 
 -- a class of registers has a register
-register_fits : (k : Option Kind) (h : Attr Operand) → is_register k ≡ true → KindFits toy k h → (r : ℕ) × (h ≡ attr.Reg r)
+register_fits : (k : Option Kind) (h : Attr Operand) → is_reg k ≡ true → KindFits toy k h → (r : ℕ) × (h ≡ attr.Reg r)
 register_fits (Some kind.Reg) (attr.Reg r) e fit = (r, refl)
 register_fits (Some kind.Reg) (attr.InSlot w) e fit = absurd fit
 register_fits (Some kind.Reg) (attr.Value o) e fit = absurd fit
@@ -285,7 +286,7 @@ register_size : (classes : List Class) (o : Option Sym) → holds_register class
 register_size classes None e = refl
 register_size classes (Some (grammar_symbol.Tok x)) e = refl
 register_size classes (Some (grammar_symbol.Class c)) e = by (kind_at classes c) e where
-  by : (k : Option Kind) → is_register k ≡ true → Rattle.sel_terms.specs.RuleFacts.size_of_kind k ≡ Long
+  by : (k : Option Kind) → is_reg k ≡ true → Rattle.sel_terms.specs.RuleFacts.size_of_kind k ≡ Long
   by None h = refl
   by (Some kind.Reg) h = refl
   by (Some (kind.Value size)) h = absurd (false≢true h)

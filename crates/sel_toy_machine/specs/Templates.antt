@@ -16,6 +16,7 @@ use Rattle.md_reader.specs.declared.types.Give.{Give}
 use Rattle.md_reader.specs.declared.types.Give.TheVariants as give
 use Rattle.md_reader.specs.declared.types.Rule.{Rule}
 use Rattle.md_reader.specs.Patterns.{kind_at}
+use Rattle.md_reader.specs.Restrictions.{is_reg}
 use Rattle.term_core.specs.declared.operator.BinaryOp.TheVariants as binary_op
 use Rattle.term_core.specs.Shape.{Symbol, Memory, Binary}
 use Rattle.sel_terms.specs.Effects.{ActShape, EffectShape, Value, Number, Address, PlaceHome, PlaceAt, StoreHome}
@@ -58,10 +59,6 @@ gives_nothing give.Nothing = true
 gives_nothing give.Scratch = true
 gives_nothing g = false
 
-abbrev pub is_register : Option Kind → Bool
-is_register (Some kind.Reg) = true
-is_register k = false
-
 abbrev pub is_place_of : Size → Option Kind → Bool
 is_place_of size (Some (kind.Place z)) = bytes_of z == bytes_of size
 is_place_of size k = false
@@ -75,7 +72,7 @@ is_slot x = false
 abbrev pub holds_register : List Class → Option Sym → Bool
 holds_register classes None = false
 holds_register classes (Some (grammar_symbol.Tok x)) = false
-holds_register classes (Some (grammar_symbol.Class c)) = is_register (kind_at classes c)
+holds_register classes (Some (grammar_symbol.Class c)) = is_reg (kind_at classes c)
 
 abbrev pub is_home : List Class → Size → Option Sym → Bool
 is_home classes size None = false
