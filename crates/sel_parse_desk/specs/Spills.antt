@@ -1,6 +1,6 @@
 -- A register that is due: the lowest free one, or one that an entry gives up.
 -- This is how the code computes it; what is selected is defined in sel_parse_selected, and sel_parse_joined proves the two alike.
-use Rattle.std.specs.Prelude.{ℕ, ◌+◌, max, ◌&&◌, List, [], ◌∷◌, ◌++◌, Option, Some, None, is_some, slice_get, slice_set}
+use Rattle.std.specs.Prelude.{ℕ, ◌+◌, max, ◌&&◌, List, ◌++◌, Option, Some, None, option_to_list, is_some, slice_get, slice_set}
 use Rattle.std.specs.Prelude.{Bool, not, if◌then◌else◌}
 use Rattle.tree_core.specs.declared.program.TreeProgram.{TreeProgram}
 use Rattle.md_reader.specs.State.{Content}
@@ -16,11 +16,6 @@ use Rattle.sel_parse_desk.specs.Desk.{Desk, Outcome, Full, Stuck, Done, bind, fr
 pub data Where : Type 0 where
   Below : (i : ℕ) → Where
   Among : (i : ℕ) → Where
-
--- a frame word that is let go
-abbrev pub let_go : Option ℕ → List ℕ
-let_go None = []
-let_go (Some w) = w ∷ []
 
 module _ {O I S F : Type 0} (of : Meaning O I S F) where
   abbrev pub holds_some : Attr O → Bool
@@ -70,7 +65,7 @@ module _ {O I S F : Type 0} (of : Meaning O I S F) where
     saved desk p e w = record {
       below = put_below desk.below p (entry_in_slot e w);
       symbols = put_among desk.symbols p (entry_in_slot e w);
-      late = desk.late ++ let_go (word_of of e.attr);
+      late = desk.late ++ option_to_list (word_of of e.attr);
       code = desk.code ++ saving of q (saving_line d e.kind) e.attr w;
       most = max desk.most (w + 1);
     }

@@ -1,11 +1,11 @@
 // A register that is due.
-ghost use Rattle.std.specs.Prelude.{◌≡◌, ◌==◌, ◌∷◌, ◌++◌, [], ◌<◌, ◌≤◌, true, Some, length, OnOk, IfOk, IfErr, IfSome, slice_get};
+ghost use Rattle.std.specs.Prelude.{◌≡◌, ◌==◌, ◌∷◌, ◌++◌, [], ◌<◌, ◌≤◌, true, Some, length, OnOk, IfOk, IfErr, IfSome, option_to_list, slice_get};
 ghost use Rattle.std.specs.List.{list_any};
 ghost use Rattle.sel_target.specs.SavingLaws.{saving};
 ghost use Rattle.sel_target.specs.Symbols.{saving_place, saving_line};
 ghost use Rattle.sel_parse_desk.specs.Entries.{kind_in, word_of};
 ghost use Rattle.sel_parse_desk.specs.Desk.{is_free_register, free_register, is_free_word, free_slot, Done};
-ghost use Rattle.sel_parse_desk.specs.Spills.{in_slot, let_go, victim, spilled, due, Below, Among};
+ghost use Rattle.sel_parse_desk.specs.Spills.{in_slot, victim, spilled, due, Below, Among};
 ghost use Rattle.sel_parse_desk.specs.Joined.{is_low, attr_in};
 ghost use Rattle.sel_parse_desk.specs.Mirror.{desk_of, in_setting, saved_line, Fails, IsReady};
 
@@ -140,7 +140,7 @@ fn save_line<T: Templates>(
 
 // A frame word that is let go waits for the end of the reduction.
 fn let_go(late: &mut Vec<u32>, word: Option<u32>) -> Result<(), NoMemory>
-    ensures { OnOk result (late.new.items ≡ late.old.items ++ let_go word) }
+    ensures { OnOk result (late.new.items ≡ late.old.items ++ option_to_list word) }
 {
     if let Some(word) = word {
         late.push(word)?;
@@ -161,7 +161,7 @@ fn save<T: Templates>(
     requires within { at < length entries.now }
     ensures code { OnOk result (code.new.items ≡ code.old.items ++ saving T.meaning setting.now.program.now
         (saving_line setting.now.description.now (kind_in (slice_get entries.now at))) (attr_in (slice_get entries.now at)) word) }
-    ensures late { OnOk result (late.new.items ≡ late.old.items ++ let_go (word_of T.meaning (attr_in (slice_get entries.now at)))) }
+    ensures late { OnOk result (late.new.items ≡ late.old.items ++ option_to_list (word_of T.meaning (attr_in (slice_get entries.now at)))) }
     ensures moved { IfOk result (λ a. a ≡ in_slot T.meaning (attr_in (slice_get entries.now at)) word) }
     ensures low { IfOk result (λ a. is_low a ≡ true) }
 {

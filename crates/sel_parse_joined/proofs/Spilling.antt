@@ -1,6 +1,6 @@
 -- A register that is due is the same by both definitions.
 use Rattle.std.proofs.Common.{◌≡◌, ℕ, suc, ◌+◌, ◌-◌, ◌<◌, ◌≤◌, ◌==◌, List, [], ◌∷◌, ◌++◌, length, map, slice_get, Option, Some, None, Bool, true, false, refl, sym, ap, ◌∙◌, subst, arith}
-use Rattle.std.specs.Prelude.{max, reverse, slice_set, option_map, is_some, not, ◌&&◌, ◌||◌, if◌then◌else◌}
+use Rattle.std.specs.Prelude.{max, reverse, slice_set, option_map, option_to_list, is_some, not, ◌&&◌, ◌||◌, if◌then◌else◌}
 use Rattle.std.specs.List.{AllByRecursion as All, list_any}
 use Rattle.std.specs.Int.{bit_at}
 use Rattle.std.proofs.lemmas.List.{length-map}
@@ -61,7 +61,7 @@ module _ {O I S F : Type 0} (of : Meaning O I S F) (law : IsLawful of) (q : Tree
   -- the words that were let go
   abbrev pub let_go : List (selected_entries.Entry O) → List ℕ
   let_go [] = []
-  let_go (e ∷ es) = computed_spills.let_go (computed_entries.word_of of e.attr) ++ let_go es
+  let_go (e ∷ es) = option_to_list (computed_entries.word_of of e.attr) ++ let_go es
 
   -- the desk as the other definition has it
   abbrev pub desk : selected_desks.Desk O I → computed_desks.Desk O I
@@ -71,16 +71,16 @@ module _ {O I S F : Type 0} (of : Meaning O I S F) (law : IsLawful of) (q : Tree
       → (let x : computed_desks.Desk O I = record { below = b; symbols = s; late = l; code = c; most = m } in x) ≡ record { below = b'; symbols = s'; late = l'; code = c'; most = m' }
   desk_is b b' s s' l l' c c' m m' eb es el ec em = cc
 
-  pub let_go_more : (es : List (selected_entries.Entry O)) (e : selected_entries.Entry O) → let_go (es ++ e ∷ []) ≡ let_go es ++ computed_spills.let_go (computed_entries.word_of of e.attr)
+  pub let_go_more : (es : List (selected_entries.Entry O)) (e : selected_entries.Entry O) → let_go (es ++ e ∷ []) ≡ let_go es ++ option_to_list (computed_entries.word_of of e.attr)
   let_go_more [] e = by (computed_entries.word_of of e.attr)
     where
-      by : (o : Option ℕ) → computed_spills.let_go o ++ [] ≡ computed_spills.let_go o
+      by : (o : Option ℕ) → option_to_list o ++ [] ≡ option_to_list o
       by None = refl
       by (Some w) = refl
-  let_go_more (x ∷ es) e = ap (λ l. computed_spills.let_go (computed_entries.word_of of x.attr) ++ l) (let_go_more es e) ∙ by (computed_entries.word_of of x.attr)
+  let_go_more (x ∷ es) e = ap (λ l. option_to_list (computed_entries.word_of of x.attr) ++ l) (let_go_more es e) ∙ by (computed_entries.word_of of x.attr)
     where
-      by : (o : Option ℕ) → computed_spills.let_go o ++ (let_go es ++ computed_spills.let_go (computed_entries.word_of of e.attr)) ≡
-          (computed_spills.let_go o ++ let_go es) ++ computed_spills.let_go (computed_entries.word_of of e.attr)
+      by : (o : Option ℕ) → option_to_list o ++ (let_go es ++ option_to_list (computed_entries.word_of of e.attr)) ≡
+          (option_to_list o ++ let_go es) ++ option_to_list (computed_entries.word_of of e.attr)
       by None = refl
       by (Some w) = refl
 
@@ -126,11 +126,11 @@ module _ {O I S F : Type 0} (of : Meaning O I S F) (law : IsLawful of) (q : Tree
   words_gone : (w : ℕ) → first ≤ w → (es : List (selected_entries.Entry O)) → AreHeld es → list_any (λ v. v == w) (let_go es) ≡ selected_desks.held of es (WordAt w)
   words_gone w le [] h = refl
   words_gone w le (e ∷ es) h =
-      list_any-append (λ v. v == w) (computed_spills.let_go (computed_entries.word_of of e.attr)) (let_go es)
+      list_any-append (λ v. v == w) (option_to_list (computed_entries.word_of of e.attr)) (let_go es)
       ∙ ap (λ b. b || list_any (λ v. v == w) (let_go es)) (one (computed_entries.word_of of e.attr) ∙ h.0.word w le)
       ∙ ap (λ b. attr_touches of e.attr (WordAt w) || b) (words_gone w le es h.1)
     where
-      one : (o : Option ℕ) → list_any (λ v. v == w) (computed_spills.let_go o) ≡ is_word o w
+      one : (o : Option ℕ) → list_any (λ v. v == w) (option_to_list o) ≡ is_word o w
       one None = refl
       one (Some k) = or-false (k == w)
 
@@ -302,7 +302,7 @@ module _ {O I S F : Type 0} (of : Meaning O I S F) (law : IsLawful of) (q : Tree
       (reverse (map entry (selected_spills.put_below of x.below p (selected_spills.entry_in_slot of e w))))
       (computed_spills.put_among of (map entry x.symbols) (place (length x.below) p) (computed_spills.entry_in_slot of (entry e) w))
       (map entry (selected_spills.put_among of x.symbols p (selected_spills.entry_in_slot of e w)))
-      (let_go x.former ++ computed_spills.let_go (computed_entries.word_of of e.attr)) (let_go (x.former ++ e ∷ [])) (x.code ++ saving of q (saving_line d e.kind) e.attr w)
+      (let_go x.former ++ option_to_list (computed_entries.word_of of e.attr)) (let_go (x.former ++ e ∷ [])) (x.code ++ saving of q (saving_line d e.kind) e.attr w)
       (x.code ++ saving of q (saving_line d e.kind) e.attr w) (max x.most (w + 1)) (max x.most (w + 1))
       (ap (computed_spills.put_below of (reverse (map entry x.below)) (place (length x.below) p)) (slot_entry e w) ∙ below_put x p (selected_spills.entry_in_slot of e w) h)
       (ap (computed_spills.put_among of (map entry x.symbols) (place (length x.below) p)) (slot_entry e w) ∙ among_put x p (selected_spills.entry_in_slot of e w))
