@@ -1,10 +1,8 @@
 -- What the calls answer, by the first refusal.
-use Rattle.std.specs.Prelude.{◌≡◌, ℕ, ◌&&◌, Bool, true, List, [], ◌∷◌, Option, Some, None, Result, Ok, Err}
-use Rattle.md_reader.specs.declared.types.Kind.{Kind}
+use Rattle.std.specs.Prelude.{◌≡◌, ℕ, Option, Some, None, Result, Ok, Err}
 use Rattle.sel_terms.specs.Effects.{effect_of}
 use Rattle.sel_target.specs.declared.fault.TargetFault.{TargetFault}
 use Rattle.sel_target.specs.declared.fault.TargetFault.TheVariants as target_fault
-use Rattle.sel_target.specs.Calls.{can_be_saved}
 use Rattle.sel_parse.specs.declared.fault.ShowFault.{ShowFault}
 use Rattle.sel_parse.specs.declared.fault.ShowFault.TheVariants as faults
 use Rattle.sel_parse.specs.Shown.{Refusal, PoolSmall, Template, Unshown}
@@ -29,7 +27,3 @@ Shows tables_of (Err e) tables wanted = (e.0 ≡ tables) × IsRefusal e.1 wanted
 abbrev pub fault_of : ℕ → TargetFault → ShowFault
 fault_of rule target_fault.NoMemory = faults.NoMemory
 fault_of rule (target_fault.At line kind) = faults.Template rule line kind
-
-abbrev pub all_saved : List Kind → Bool
-all_saved [] = true
-all_saved (k ∷ ks) = can_be_saved k && all_saved ks

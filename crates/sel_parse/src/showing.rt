@@ -1,6 +1,6 @@
 // What is found of each rule.
 ghost use Rattle.std.specs.Prelude.{◌≡◌, ◌≤◌, length, true};
-ghost use Rattle.std.specs.List.{AllByRecursion};
+ghost use Rattle.std.specs.List.{AllByRecursion, list_all};
 ghost use Rattle.md_reader.specs.Valid.{IsRule, IsSpill, IsValid};
 ghost use Rattle.sel_terms.specs.Effects.{effect_of, norm_effect};
 ghost use Rattle.sel_terms.specs.RuleFacts.{saved_facts};
@@ -8,7 +8,7 @@ ghost use Rattle.sel_target.specs.Calls.{can_be_saved};
 ghost use Rattle.sel_regs.specs.Need.{need};
 ghost use Rattle.sel_parse.specs.Shown.{saved_wanted, unlike, compared, rule_refused, rules_refused};
 ghost use Rattle.sel_parse.specs.Shown.{pools_refused, lines_refused, first_refusal};
-ghost use Rattle.sel_parse.specs.Answers.{Refuses, fault_of, all_saved};
+ghost use Rattle.sel_parse.specs.Answers.{Refuses, fault_of};
 
 use crate::fault::ShowFault;
 use gg_base::Size;
@@ -162,7 +162,7 @@ fn lines_refused<T: Templates>(
     kinds: &[Kind],
     lines: &[Line],
 ) -> Result<(), ShowFault>
-    requires kinds { all_saved kinds.now ≡ true }
+    requires kinds { list_all can_be_saved kinds.now ≡ true }
     requires lines { AllByRecursion IsSpill lines.now }
     ensures { Refuses result (lines_refused T.meaning.spill_effect kinds.now lines.now) }
 {
