@@ -1,7 +1,6 @@
 // A reduction, in its order.
 ghost use Rattle.std.specs.Prelude.{◌≡◌, ◌++◌, [], ◌+◌, ◌-◌, ◌<◌, ◌≤◌, ◌^◌, true, false, Some, OnOk, IfOk, IfErr};
 ghost use Rattle.std.specs.Prelude.{slice_get, slice_set};
-ghost use Rattle.std.specs.Option.{option_copied};
 ghost use Rattle.md_reader.specs.declared.types.Give.TheVariants as give;
 ghost use Rattle.sel_target.specs.declared.attr.Attr.TheVariants as attr;
 ghost use Rattle.sel_target.specs.Instances.{hole};
@@ -23,7 +22,7 @@ use crate::spills::due;
 use crate::stack::{empty, part, push};
 use gg_base::NoMemory;
 use md_reader::{Give, Kind, Line, Piece, Rule, kind_at};
-use sel_target::{Attr, Templates};
+use sel_target::{Attr, Templates, hole};
 use tree_core::{Leaf, TreeProgram};
 
 /// Before the first token.
@@ -176,17 +175,6 @@ fn first_hole(pieces: &[Piece]) -> u8
     match pieces.first() {
         Some(Piece::Hole(number)) => *number,
         _ => 0,
-    }
-}
-
-// The symbol with this number, from 1.
-fn hole<O>(holes: &[Attr<O>], number: u8) -> Option<&Attr<O>>
-    ensures { option_copied result ≡ hole holes.now number }
-{
-    if number == 0 {
-        None
-    } else {
-        holes.get(number as usize - 1)
     }
 }
 

@@ -30,7 +30,7 @@ use Rattle.sel_target.specs.Values.{View, IsReadWhere, worth, own_operand, token
 use Rattle.sel_target.specs.EffectTerms.{terms_of, DividesByNone, begins_with_save}
 
 -- the symbols are numbered from 1
-abbrev pub hole : {O : Type 0} → List (Attr O) → ℕ → Option (Attr O)
+abbrev pub hole : {X : Type 0} → List X → ℕ → Option X
 hole hs zero = None
 hole hs (suc i) = slice_get hs i
 

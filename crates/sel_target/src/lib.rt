@@ -3,8 +3,10 @@
 
 mod attr;
 mod fault;
+mod holes;
 mod target;
 
 pub use attr::Attr;
 pub use fault::{TargetFault, TemplateKind};
+pub use holes::hole;
 pub use target::{Target, Templates};

@@ -7,6 +7,7 @@ ghost use Rattle.md_reader.specs.Patterns.{kind_at};
 ghost use Rattle.sel_target.specs.Calls.{IsFaultOf};
 ghost use Rattle.gg_base.specs.declared.size.Size.TheVariants as sizes;
 ghost use Rattle.sel_target.specs.EffectTerms.{begins_with_save};
+ghost use Rattle.sel_target.specs.Instances.{hole};
 ghost use Rattle.sel_toy_machine.specs.declared.form.ShapeForm.TheVariants as shape_form;
 ghost use Rattle.sel_target.specs.declared.fault.TargetFault.TheVariants as target_fault;
 ghost use Rattle.sel_target.specs.declared.fault.TemplateKind.TheVariants as template_kind;
@@ -14,12 +15,12 @@ ghost use Rattle.sel_toy_machine.specs.Forms.{form_of, shape_of, is_sized};
 ghost use Rattle.sel_toy_machine.specs.Templates.{undivided, where_true, sum, quotient, or_fault, gives_register, gives_nothing};
 ghost use Rattle.sel_toy_machine.specs.Spills.{found_spill, spill_effect};
 ghost use Rattle.sel_toy_machine.specs.Templates.{found_form, found_line};
-ghost use Rattle.sel_toy_machine.specs.Templates.{holds_register, is_home, symbol, found_shape, effect};
+ghost use Rattle.sel_toy_machine.specs.Templates.{holds_register, is_home, found_shape, effect};
 
 use crate::forms::{form_of, shape_of};
 use gg_base::{NoMemory, Size};
 use md_reader::{Class, Give, Kind, Line, Rule, Sym, kind_at};
-use sel_target::{TargetFault, TemplateKind};
+use sel_target::{TargetFault, TemplateKind, hole};
 use sel_terms::{Act, Effect, Term, size_of_symbol};
 use sel_toy_machine::{Form, ShapeForm};
 use std::alloc::Global;
@@ -46,15 +47,9 @@ fn is_long(classes: &[Class], right: &[Sym], i: u8) -> bool
 }
 
 fn symbol(right: &[Sym], i: u8) -> Option<Sym>
-    ensures { result ≡ symbol right.now i }
+    ensures { result ≡ hole right.now i }
 {
-    if i == 0 {
-        return None;
-    }
-    match right.get(i as usize - 1) {
-        Some(symbol) => Some(*symbol),
-        None => None,
-    }
+    hole(right, i).copied()
 }
 
 fn holds_register(classes: &[Class], symbol: Option<Sym>) -> bool

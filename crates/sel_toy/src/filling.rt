@@ -9,7 +9,7 @@ ghost use Rattle.sel_toy_machine.specs.Filling.{destination_of, instr, based, br
 use crate::forms::{form_of, shape_of};
 use gg_base::{Size, w32};
 use md_reader::Line;
-use sel_target::Attr;
+use sel_target::{Attr, hole};
 use sel_toy_machine::{Destination, Form, Instr, Operand, ShapeForm, Source};
 use tree_core::{Att, Leaf, Tok, TreeProgram};
 
@@ -67,10 +67,7 @@ fn source_of(program: &TreeProgram, hole: &Attr<Operand>) -> Source
 fn operand_at(program: &TreeProgram, holes: &[Attr<Operand>], i: u8) -> Operand
     ensures { result ≡ operand_at program.now holes.now i }
 {
-    if i == 0 {
-        return NOUGHT;
-    }
-    match holes.get(i as usize - 1) {
+    match hole(holes, i) {
         Some(hole) => operand_of(program, hole),
         None => NOUGHT,
     }
@@ -79,10 +76,7 @@ fn operand_at(program: &TreeProgram, holes: &[Attr<Operand>], i: u8) -> Operand
 fn source_at(program: &TreeProgram, holes: &[Attr<Operand>], i: u8) -> Source
     ensures { result ≡ source_at program.now holes.now i }
 {
-    if i == 0 {
-        return Source::Read(NOUGHT);
-    }
-    match holes.get(i as usize - 1) {
+    match hole(holes, i) {
         Some(hole) => source_of(program, hole),
         None => Source::Read(NOUGHT),
     }
@@ -110,10 +104,7 @@ fn based(operand: Operand) -> Operand
 fn att_at(holes: &[Attr<Operand>], i: u8) -> Option<Att>
     ensures { result ≡ att_of (hole holes.now i) }
 {
-    if i == 0 {
-        return None;
-    }
-    match holes.get(i as usize - 1) {
+    match hole(holes, i) {
         Some(Attr::Token(leaf)) => Some(leaf.att),
         _ => None,
     }

@@ -43,7 +43,7 @@ use Rattle.sel_toy_machine.specs.declared.form.ShapeForm.{ShapeForm}
 use Rattle.sel_toy_machine.specs.declared.form.ShapeForm.TheVariants as shape_form
 use Rattle.sel_toy_machine.specs.Machine.{Machine, in_register, long, reads, names, fits, is_place}
 use Rattle.sel_toy_machine.specs.Forms.{shape_of, is_sized}
-use Rattle.sel_toy_machine.specs.Templates.{undivided, gives_register, gives_nothing, found_form, found_shape, is_place_of, is_slot, holds_register, is_home, symbol}
+use Rattle.sel_toy_machine.specs.Templates.{undivided, gives_register, gives_nothing, found_form, found_shape, is_place_of, is_slot, holds_register, is_home}
 use Rattle.sel_toy_machine.specs.Filling.{some_operand, based, shaped, operand_filled}
 use Rattle.sel_toy_machine.specs.Running.{run}
 use Rattle.sel_toy_machine.proofs.Spelled.{own_is}
@@ -114,7 +114,7 @@ some_there (Some x) test none e = refl
 
 module _ (classes : List Class) (right : List Sym) (hs : List (Attr Operand)) (fit : Fit toy classes right hs) where
   -- the_number hole of a register's symbol
-  pub register_hole : (i : ℕ) → holds_register classes (symbol right i) ≡ true → (r : ℕ) × (hole hs i ≡ Some (attr.Reg r))
+  pub register_hole : (i : ℕ) → holds_register classes (hole right i) ≡ true → (r : ℕ) × (hole hs i ≡ Some (attr.Reg r))
   register_hole zero e = absurd (false≢true e)
   register_hole (suc j) e =
       let n = filled_at classes right hs j fit (some_there (slice_get right j) (holds_register classes) refl e) in
@@ -221,7 +221,7 @@ module _ (classes : List Class) (right : List Sym) (hs : List (Attr Operand)) (f
   home_place size (grammar_symbol.Tok x) attr.Nothing e fit = absurd fit
   home_place size (grammar_symbol.Class c) h e fit = place_fits size (kind_at classes c) h e fit
 
-  pub home_hole : (size : Size) (i : ℕ) → is_home classes size (symbol right i) ≡ true → Home i
+  pub home_hole : (size : Size) (i : ℕ) → is_home classes size (hole right i) ≡ true → Home i
   home_hole size zero e = absurd (false≢true e)
   home_hole size (suc j) e =
       let n = filled_at classes right hs j fit (some_there (slice_get right j) (is_home classes size) refl e) in
@@ -229,19 +229,19 @@ module _ (classes : List Class) (right : List Sym) (hs : List (Attr Operand)) (f
       record { attribute = n.attribute; operand_is = p.operand_is; at = n.at; own = p.own; place = p.place }
 
   -- the_number operand of a shape over a register, and of one that is a place
-  pub based_is : (q : TreeProgram) (i : ℕ) → (e : holds_register classes (symbol right i) ≡ true) → shaped q (shape_form.Based i) hs ≡ operand.Based (register_hole i e).0
+  pub based_is : (q : TreeProgram) (i : ℕ) → (e : holds_register classes (hole right i) ≡ true) → shaped q (shape_form.Based i) hs ≡ operand.Based (register_hole i e).0
   based_is q i e = ap (λ o. based (some_operand q o)) (register_hole i e).1
 
-  pub alone_is : (q : TreeProgram) (size : Size) (i : ℕ) → (e : is_home classes size (symbol right i) ≡ true) → shaped q (shape_form.Alone i) hs ≡ (home_hole size i e).operand_is
+  pub alone_is : (q : TreeProgram) (size : Size) (i : ℕ) → (e : is_home classes size (hole right i) ≡ true) → shaped q (shape_form.Alone i) hs ≡ (home_hole size i e).operand_is
   alone_is q size i e = (let h = home_hole size i e in ap (some_operand q) h.at ∙ own_is q h.attribute h.operand_is h.own)
 
   -- a place's shape is a place
   pub place_shaped : (q : TreeProgram) (size : Size) (g : ShapeForm) (e : EffectShape) → found_shape classes right (Some (kind.Place size)) g ≡ Some e → is_place (shaped q g hs) ≡ true
   place_shaped q size (shape_form.Alone i) e h =
-      let w = (where_is (is_home classes size (symbol right i)) (undivided (PlaceHome size i)) e h).0 in
+      let w = (where_is (is_home classes size (hole right i)) (undivided (PlaceHome size i)) e h).0 in
       subst (λ o. is_place o ≡ true) (sym (alone_is q size i w)) (home_hole size i w).place
   place_shaped q size (shape_form.Based i) e h =
-      let w = (where_is (holds_register classes (symbol right i)) (undivided (PlaceAt size (Symbol i))) e h).0 in
+      let w = (where_is (holds_register classes (hole right i)) (undivided (PlaceAt size (Symbol i))) e h).0 in
       subst (λ o. is_place o ≡ true) (sym (based_is q i w)) refl
 
 pub shape_fits : (q : TreeProgram) (classes : List Class) (rule : Rule) (e : EffectShape) (k : Kind) (l : Line) (hs : List (Attr Operand)) →
@@ -295,7 +295,7 @@ register_size classes (Some (grammar_symbol.Class c)) e = by (kind_at classes c)
   by (Some kind.Ea) h = refl
   by (Some kind.Nothing) h = refl
 
-pub register_sized : (classes : List Class) (right : List Sym) (i : ℕ) → holds_register classes (symbol right i) ≡ true → size_at classes right i ≡ Long
+pub register_sized : (classes : List Class) (right : List Sym) (i : ℕ) → holds_register classes (hole right i) ≡ true → size_at classes right i ≡ Long
 register_sized classes right zero e = absurd (false≢true e)
 register_sized classes right (suc j) e = size_behind classes right j ∙ register_size classes (slice_get right j) e
 
@@ -308,7 +308,7 @@ module _ (q : TreeProgram) (f : Extent) (fs : List Extent) (classes : List Class
   value_shaped e t size (shape_form.Alone i) inst found act = absurd (none-some e found)
   value_shaped e t size (shape_form.Based i) inst found act =
       let u = undivided (Value (Memory size (Symbol i))) in
-      let w = where_is (holds_register classes (symbol rule.right i)) u e found in
+      let w = where_is (holds_register classes (hole rule.right i)) u e found in
       let is = same_Value (Memory size (Symbol i)) t (act_of u e w.1 ∙ act) in
       let inst' = subst I (sym w.1) inst in
       let r = register_hole classes rule.right hs inst'.holes_fit i w.0 in
@@ -321,11 +321,11 @@ module _ (q : TreeProgram) (f : Extent) (fs : List Extent) (classes : List Class
       names (shaped q g hs) size m ≡ Some (value v a)
   place_named e a size (shape_form.Alone i) inst found act =
       let u = undivided (PlaceHome size i) in
-      let w = where_is (is_home classes size (symbol rule.right i)) u e found in
+      let w = where_is (is_home classes size (hole rule.right i)) u e found in
       absurd (home_not_at size size a i (act_of u e w.1 ∙ act))
   place_named e a size (shape_form.Based i) inst found act =
       let u = undivided (PlaceAt size (Symbol i)) in
-      let w = where_is (holds_register classes (symbol rule.right i)) u e found in
+      let w = where_is (holds_register classes (hole rule.right i)) u e found in
       let is = act_place size size (Symbol i) a (act_of u e w.1 ∙ act) in
       let inst' = subst I (sym w.1) inst in
       let r = register_hole classes rule.right hs inst'.holes_fit i w.0 in
@@ -337,7 +337,7 @@ module _ (q : TreeProgram) (f : Extent) (fs : List Extent) (classes : List Class
   address_named e t size (shape_form.Alone i) inst found act = absurd (none-some e found)
   address_named e t size (shape_form.Based i) inst found act =
       let u = undivided (Address (Symbol i)) in
-      let w = where_is (holds_register classes (symbol rule.right i)) u e found in
+      let w = where_is (holds_register classes (hole rule.right i)) u e found in
       let is = act_address (Symbol i) t (act_of u e w.1 ∙ act) in
       let inst' = subst I (sym w.1) inst in
       let r = register_hole classes rule.right hs inst'.holes_fit i w.0 in
@@ -389,7 +389,7 @@ home_own q classes rule e size i hs h (Some (kind.Value z)) (shape_form.Alone j)
 home_own q classes rule e size i hs h (Some (kind.Value z)) (shape_form.Based j) found act fit at =
     absurd (other (Value (Memory z (Symbol j))) size i e (where_is _ (undivided (Value (Memory z (Symbol j)))) e found).1 act tt)
 home_own q classes rule e size i hs h (Some (kind.Place z)) (shape_form.Alone j) found act fit at =
-    let w = where_is (is_home classes z (symbol rule.right j)) (undivided (PlaceHome z j)) e found in
+    let w = where_is (is_home classes z (hole rule.right j)) (undivided (PlaceHome z j)) e found in
     let same = act_home z size j i (act_of (undivided (PlaceHome z j)) e w.1 ∙ act) in
     let p = home_hole classes rule.right hs fit z j w.0 in
     let h_is = same_Some p.attribute h (sym p.at ∙ (ap (hole hs) same ∙ at)) in
@@ -398,7 +398,7 @@ home_own q classes rule e size i hs h (Some (kind.Place z)) (shape_form.Based j)
     absurd (other (PlaceAt z (Symbol j)) size i e (where_is _ (undivided (PlaceAt z (Symbol j))) e found).1 act tt)
 
 register_own : (classes : List Class) (rule : Rule) (e : EffectShape) (i : ℕ) → found_shape classes rule.right (Some kind.Reg) (shape_form.Alone i) ≡ Some e → e.act ≡ Value (Symbol i)
-register_own classes rule e i found = sym (act_of (undivided (Value (Symbol i))) e (where_is (holds_register classes (symbol rule.right i)) (undivided (Value (Symbol i))) e found).1)
+register_own classes rule e i found = sym (act_of (undivided (Value (Symbol i))) e (where_is (holds_register classes (hole rule.right i)) (undivided (Value (Symbol i))) e found).1)
 
 pub toy_shapes : GivesShapes toy
 toy_shapes = record {

@@ -51,7 +51,7 @@ use Rattle.sel_toy_machine.specs.declared.form.ShapeForm.{ShapeForm}
 use Rattle.sel_toy_machine.specs.declared.form.ShapeForm.TheVariants as shape_form
 use Rattle.sel_toy_machine.specs.Machine.{Machine, in_register, in_word, long, names, Stands, with_register, with_word, with_argument, with_area}
 use Rattle.sel_toy_machine.specs.Forms.{shape_of, is_sized}
-use Rattle.sel_toy_machine.specs.Templates.{undivided, sum, quotient, gives_nothing, found_form, found_shape, is_home, holds_register, symbol}
+use Rattle.sel_toy_machine.specs.Templates.{undivided, sum, quotient, gives_nothing, found_form, found_shape, is_home, holds_register}
 use Rattle.sel_toy_machine.specs.Filling.{source_at, operand_at, some_operand, based, branched, jumped, called, saved, filled}
 use Rattle.sel_toy_machine.specs.Running.{taken, read_then, put_area, put_place, taken_in, run}
 use Rattle.sel_toy_machine.specs.Running as running
@@ -337,7 +337,7 @@ module _ (q : TreeProgram) (f : Extent) (fs : List Extent) (classes : List Class
       (put_is size home.operand_is g (value v (Symbol j)) ready.instance_of.agrees (value_small v (Symbol j)) home.place)))
 
   store_at_did : (size : Size) (i j n : ℕ) (g : Place) → R (undivided (StoreAt size (Symbol i) (Symbol j))) →
-      holds_register classes (symbol rule.right i) ≡ true → is_sized classes rule.right Long j ≡ true →
+      holds_register classes (hole rule.right i) ≡ true → is_sized classes rule.right Long j ≡ true →
       g ≡ meaning.Memory size (value v (Symbol i)) → value v (Symbol j) ≡ n → Did (instruction.Store size (based (operand_at q hs i)) (source_at q hs j) ∷ []) (Puts g n)
   store_at_did size i j n g ready held sized place is =
       let e = undivided (StoreAt size (Symbol i) (Symbol j)) in
@@ -488,7 +488,7 @@ module _ (q : TreeProgram) (f : Extent) (fs : List Extent) (classes : List Class
   -- by the act of a form, for each deed
 
   by_store : (size : Size) (i j : ℕ) (d : Deed) → R (undivided (StoreHome size i (Symbol j))) →
-      (gives_nothing rule.give && (is_home classes size (symbol rule.right i) && is_sized classes rule.right Long j)) ≡ true →
+      (gives_nothing rule.give && (is_home classes size (hole rule.right i) && is_sized classes rule.right Long j)) ≡ true →
       Act (StoreHome size i (Symbol j)) d → Goal (form.Store size i j) d
   by_store size i j (Puts g n) ready w did = store_did size i j n g ready (given_tests _ _ w).1 did.0 did.1
   by_store size i j (Branches rel label x y) ready w did = absurd did
@@ -501,7 +501,7 @@ module _ (q : TreeProgram) (f : Extent) (fs : List Extent) (classes : List Class
   by_store size i j Strays ready w did = absurd did
 
   by_store_at : (size : Size) (i j : ℕ) (d : Deed) → R (undivided (StoreAt size (Symbol i) (Symbol j))) →
-      (gives_nothing rule.give && (holds_register classes (symbol rule.right i) && is_sized classes rule.right Long j)) ≡ true →
+      (gives_nothing rule.give && (holds_register classes (hole rule.right i) && is_sized classes rule.right Long j)) ≡ true →
       Act (StoreAt size (Symbol i) (Symbol j)) d → Goal (form.StoreAt size i j) d
   by_store_at size i j (Puts g n) ready w did = store_at_did size i j n g ready (given_tests _ _ w).0 (given_tests _ _ w).1 did.0 did.1
   by_store_at size i j (Branches rel label x y) ready w did = absurd did

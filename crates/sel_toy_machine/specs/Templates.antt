@@ -1,6 +1,6 @@
 -- What the toy machine's templates do, and the instructions that they become.
-use Rattle.std.specs.Prelude.{ℕ, zero, suc, ◌==◌, ◌&&◌, Bool, true, false, List, [], ◌∷◌, Option, Some, None, Result}
-use Rattle.std.specs.Prelude.{Ok, Err, slice_get, if◌then◌else◌}
+use Rattle.std.specs.Prelude.{ℕ, ◌==◌, ◌&&◌, Bool, true, false, List, [], ◌∷◌, Option, Some, None, Result}
+use Rattle.std.specs.Prelude.{Ok, Err, if◌then◌else◌}
 use Rattle.gg_base.specs.declared.size.Size.{Size}
 use Rattle.gg_base.specs.declared.size.Size.TheVariants.{Long}
 use Rattle.gg_base.specs.Sizes.{bytes_of}
@@ -24,6 +24,7 @@ use Rattle.sel_terms.specs.Effects.{StoreAt, Branch, Push, Call, Save, Return, J
 use Rattle.sel_target.specs.declared.fault.TemplateKind.TheVariants as template_kind
 use Rattle.sel_target.specs.Meaning.{Fault}
 use Rattle.sel_target.specs.EffectTerms.{begins_with_save}
+use Rattle.sel_target.specs.Instances.{hole}
 use Rattle.sel_toy_machine.specs.declared.form.Form.{Form}
 use Rattle.sel_toy_machine.specs.declared.form.Form.TheVariants as form
 use Rattle.sel_toy_machine.specs.declared.form.ShapeForm.{ShapeForm}
@@ -79,10 +80,6 @@ is_home classes size None = false
 is_home classes size (Some (grammar_symbol.Tok x)) = is_slot x && (bytes_of size == bytes_of Long)
 is_home classes size (Some (grammar_symbol.Class c)) = is_place_of size (kind_at classes c)
 
-abbrev pub symbol : List Sym → ℕ → Option Sym
-symbol right zero = None
-symbol right (suc i) = slice_get right i
-
 -- what a line does, where its symbols are of the sizes
 abbrev pub found_form : List Class → Rule → Form → Option EffectShape
 found_form classes rule (form.Move size i) = where_true (gives_register rule.give && is_sized classes rule.right size i)
@@ -95,10 +92,10 @@ found_form classes rule (form.Divide i j) =
     where_true (gives_register rule.give && (is_sized classes rule.right Long i && is_sized classes rule.right Long j))
     (quotient i j)
 found_form classes rule (form.Store size i j) =
-    where_true (gives_nothing rule.give && (is_home classes size (symbol rule.right i) && is_sized classes rule.right Long j))
+    where_true (gives_nothing rule.give && (is_home classes size (hole rule.right i) && is_sized classes rule.right Long j))
     (undivided (StoreHome size i (Symbol j)))
 found_form classes rule (form.StoreAt size i j) =
-    where_true (gives_nothing rule.give && (holds_register classes (symbol rule.right i) && is_sized classes rule.right Long j))
+    where_true (gives_nothing rule.give && (holds_register classes (hole rule.right i) && is_sized classes rule.right Long j))
     (undivided (StoreAt size (Symbol i) (Symbol j)))
 found_form classes rule (form.Push i) = where_true (gives_nothing rule.give && is_sized classes rule.right Long i)
     (undivided (Push (Symbol i)))
@@ -117,16 +114,16 @@ found_line classes rule (Some f) = found_form classes rule f
 
 -- what a shape gives, by the kind of its class
 abbrev pub found_shape : List Class → List Sym → Option Kind → ShapeForm → Option EffectShape
-found_shape classes right (Some kind.Reg) (shape_form.Alone i) = where_true (holds_register classes (symbol right i))
+found_shape classes right (Some kind.Reg) (shape_form.Alone i) = where_true (holds_register classes (hole right i))
     (undivided (Value (Symbol i)))
 found_shape classes right (Some kind.Con) (shape_form.Alone i) = where_true (is_sized classes right Long i) (undivided (Number (Symbol i)))
-found_shape classes right (Some (kind.Place size)) (shape_form.Alone i) = where_true (is_home classes size (symbol right i))
+found_shape classes right (Some (kind.Place size)) (shape_form.Alone i) = where_true (is_home classes size (hole right i))
     (undivided (PlaceHome size i))
-found_shape classes right (Some (kind.Value size)) (shape_form.Based i) = where_true (holds_register classes (symbol right i))
+found_shape classes right (Some (kind.Value size)) (shape_form.Based i) = where_true (holds_register classes (hole right i))
     (undivided (Value (Memory size (Symbol i))))
-found_shape classes right (Some (kind.Place size)) (shape_form.Based i) = where_true (holds_register classes (symbol right i))
+found_shape classes right (Some (kind.Place size)) (shape_form.Based i) = where_true (holds_register classes (hole right i))
     (undivided (PlaceAt size (Symbol i)))
-found_shape classes right (Some kind.Ea) (shape_form.Based i) = where_true (holds_register classes (symbol right i))
+found_shape classes right (Some kind.Ea) (shape_form.Based i) = where_true (holds_register classes (hole right i))
     (undivided (Address (Symbol i)))
 found_shape classes right k f = None
 
