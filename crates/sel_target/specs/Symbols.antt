@@ -1,5 +1,5 @@
 -- What a selection asks of what stands beside a symbol of the parse stack, and by which line of a description it is saved.
-use Rattle.std.specs.Prelude.{ℕ, zero, suc, ◌+◌, List, [], ◌∷◌, Option, Some, None, Bool, true, false, slice_get, if◌then◌else◌}
+use Rattle.std.specs.Prelude.{ℕ, zero, suc, ◌+◌, List, [], ◌∷◌, Option, Some, None, option_map, Bool, true, false, slice_get, if◌then◌else◌}
 use Rattle.gg_base.specs.declared.relation.Rel.{Rel}
 use Rattle.gg_base.specs.declared.size.Size.{Size}
 use Rattle.gg_base.specs.declared.size.Size.TheVariants.{Byte, Word, Long}
@@ -82,8 +82,7 @@ lowest passes k (suc n) = if passes k then Some k else lowest passes (k + 1) n
 
 -- the place of the first element that passes
 abbrev pub behind_one : Option ℕ → Option ℕ
-behind_one None = None
-behind_one (Some i) = Some (i + 1)
+behind_one o = option_map (λ i. i + 1) o
 
 abbrev pub first_that : {X : Type 0} → (X → Bool) → List X → Option ℕ
 first_that passes [] = None
