@@ -16,7 +16,7 @@ use Rattle.c_program.specs.declared.statement.Action.{Action}
 use Rattle.c_program.specs.Statements.{acts}
 use Rattle.gg_base.specs.declared.run.End.TheVariants.{Deep}
 use Rattle.c_program.specs.declared.program.Routine.{Routine}
-use Rattle.c_program.specs.Programs.{AProgram, program, routine}
+use Rattle.c_program.specs.Programs.{AProgram, routine}
 use Rattle.c_meaning.specs.declared.flow.Flow.{Flow}
 use Rattle.c_meaning.specs.declared.flow.Flow.TheVariants.{Onward}
 use Rattle.gg_base.specs.declared.run.Finish.TheVariants as finish
@@ -41,7 +41,7 @@ use Rattle.c_meaning.specs.Programs.{means}
 use Rattle.c_meaning.specs.Calls.{passed, call, called, back, begun}
 use Rattle.c_meaning.proofs.Law.{means_is}
 use Rattle.gg_base.specs.Turns.{end_of}
-use Rattle.c_meaning.specs.Pending.{with_value, with_flow, Signal, Valued, Leaves, Then, waits, to_come}
+use Rattle.c_meaning.specs.Pending.{program_of, tasks_of, with_value, with_flow, Signal, Valued, Leaves, Then, waits, to_come}
 use Rattle.c_meaning.specs.Pending.{stack, bottom, before, going}
 use Rattle.c_meaning.specs.Parts.{loop_of, maybe_bor, state}
 use Rattle.c_meaning.specs.Work.{arguments_work, term_work}
@@ -77,9 +77,9 @@ pub goes : (m : Machine) (c : Control) → Goes m c Quiet (record m { control = 
 goes m c = record { progress = (refl, omega arith) }
 
 pushed : (m : Machine) (f : Frame) (c : Control) (v : Vec Frame) → v.items ≡ m.frames.items ++ f ∷ []
-    → going (program m.program.now) c (before (program m.program.now) f (waits m)) (state m.store) ≡ to_come (record m { control = c; frames = v })
+    → going (program_of m) c (before (program_of m) f (waits m)) (state m.store) ≡ to_come (record m { control = c; frames = v })
 pushed m f c v push =
-    let p = program m.program.now in
+    let p = program_of m in
     sym (ap (λ fs. going p c (stack p (bottom p) fs) (state m.store)) push ∙ ap (λ κ. going p c κ (state m.store)) (stack_push p (bottom p) m.frames.items f))
 
 -- one more frame waits
@@ -88,9 +88,9 @@ waits_for m f c v push = record { progress = (pushed m f c v push, omega (arith,
 
 -- what is done behind a frame that was just put on the list
 pub behind : {new : Machine} {event : Event} {F : Then → State → Runs} {a : ℕ} (m : Machine) (v : Vec Frame) (f : Frame) → v.items ≡ m.frames.items ++ f ∷ []
-    → Makes (record m { frames = v }) F a event new → Makes m (λ κ. F (before (program m.program.now) f κ)) (a + frame_work f) event new
+    → Makes (record m { frames = v }) F a event new → Makes m (λ κ. F (before (program_of m) f κ)) (a + frame_work f) event new
 behind {new} {event} {F} {a} m v f push h =
-    let p = program m.program.now in
+    let p = program_of m in
     over h (sym (ap (λ fs. F (stack p (bottom p) fs) (state m.store)) push ∙ ap (λ κ. F κ (state m.store)) (stack_push p (bottom p) m.frames.items f)))
     (omega (arith, ap frames_work push, work_push m.frames.items f))
 
@@ -99,17 +99,17 @@ counts m f c v push = record { progress = ap counted (pushed m f c v push) }
 
 -- the last frame is taken off the list
 popped : (m : Machine) (v : Vec Frame) (f : Frame) (x : Signal) → m.frames.items ≡ v.items ++ f ∷ [] → waits m x (state m.store)
-    ≡ before (program m.program.now) f (waits (record m { frames = v })) x (state m.store)
+    ≡ before (program_of m) f (waits (record m { frames = v })) x (state m.store)
 popped m v f x pop =
-    let p = program m.program.now in
+    let p = program_of m in
     ap (λ fs. stack p (bottom p) fs x (state m.store)) pop ∙ ap (λ κ. κ x (state m.store)) (stack_push p (bottom p) v.items f)
 
 pub popped_value : (m : Machine) (v : Vec Frame) (f : Frame) (x : ℕ) {event : Event} {new : Machine} → m.frames.items ≡ v.items ++ f ∷ []
-    → Makes (record m { frames = v }) (λ κ. before (program m.program.now) f κ (Valued x)) (frame_work f + 1) event new → Does m (controls.Value x) event new
+    → Makes (record m { frames = v }) (λ κ. before (program_of m) f κ (Valued x)) (frame_work f + 1) event new → Does m (controls.Value x) event new
 popped_value m v f x pop h = over h (popped m v f (Valued x) pop) (omega (arith, ap frames_work pop, work_push v.items f))
 
 pub popped_flow : (m : Machine) (v : Vec Frame) (f : Frame) (w : Flow) {event : Event} {new : Machine} → m.frames.items ≡ v.items ++ f ∷ []
-    → Makes (record m { frames = v }) (λ κ. before (program m.program.now) f κ (Leaves w)) (frame_work f + 1) event new → Does m (controls.Left w) event new
+    → Makes (record m { frames = v }) (λ κ. before (program_of m) f κ (Leaves w)) (frame_work f + 1) event new → Does m (controls.Left w) event new
 popped_flow m v f w pop h = over h (popped m v f (Leaves w) pop) (omega (arith, ap frames_work pop, work_push v.items f))
 
 -- a frame that is not for a value, or not for a statement that is left, is passed
@@ -145,13 +145,13 @@ frame_work_pos (ForFlow f) = flow_work_pos f
 frame_work_pos (ForCall c active) = omega arith
 
 pub passed_value : (m : Machine) (v : Vec Frame) (f : Frame) (x : ℕ) {event : Event} {new : Machine} → m.frames.items ≡ v.items ++ f ∷ []
-    → before (program m.program.now) f (waits (record m { frames = v })) (Valued x) ≡ waits (record m { frames = v }) (Valued x)
+    → before (program_of m) f (waits (record m { frames = v })) (Valued x) ≡ waits (record m { frames = v }) (Valued x)
     → Goes (record m { frames = v }) (controls.Value x) event new → Does m (controls.Value x) event new
 passed_value m v f x pop same h = over h (popped m v f (Valued x) pop ∙ ap (λ κ. κ (state m.store)) same)
     (omega (arith, ap frames_work pop, work_push v.items f, frame_work_pos f))
 
 pub passed_flow : (m : Machine) (v : Vec Frame) (f : Frame) (w : Flow) {event : Event} {new : Machine} → m.frames.items ≡ v.items ++ f ∷ []
-    → before (program m.program.now) f (waits (record m { frames = v })) (Leaves w) ≡ waits (record m { frames = v }) (Leaves w)
+    → before (program_of m) f (waits (record m { frames = v })) (Leaves w) ≡ waits (record m { frames = v }) (Leaves w)
     → Goes (record m { frames = v }) (controls.Left w) event new → Does m (controls.Left w) event new
 passed_flow m v f w pop same h = over h (popped m v f (Leaves w) pop ∙ ap (λ κ. κ (state m.store)) same)
     (omega (arith, ap frames_work pop, work_push v.items f, frame_work_pos f))
@@ -180,37 +180,37 @@ chosen_some zero a b h = absurd (h refl)
 chosen_some (suc v) a b h = refl
 
 -- another look at a loop that has no step
-pub look_is : (m : Machine) (l : Loop) → l.step ≡ None → dropped (program m.program.now) (means (program m.program.now)) (loop_of l).step
-    (means (program m.program.now) (Look (loop_of l)) (with_flow (waits m))) (state m.store)
-    ≡ look_at (program m.program.now) (means (program m.program.now)) (loop_of l) (with_flow (waits m)) (state m.store)
+pub look_is : (m : Machine) (l : Loop) → l.step ≡ None → dropped (program_of m) (tasks_of m) (loop_of l).step
+    (tasks_of m (Look (loop_of l)) (with_flow (waits m))) (state m.store)
+    ≡ look_at (program_of m) (tasks_of m) (loop_of l) (with_flow (waits m)) (state m.store)
 look_is m l none =
-    let p = program m.program.now in
+    let p = program_of m in
     ap (λ o. dropped p (means p) (maybe_bor o) (means p (Look (loop_of l)) (with_flow (waits m))) (state m.store)) none
     ∙ means_is p (Look (loop_of l)) (with_flow (waits m)) (state m.store)
 
 -- the same, where it has one
 pub look_behind : (m : Machine) (l : Loop) (e : Bor Expression) → l.step ≡ Some e
-    → dropped (program m.program.now) (means (program m.program.now)) (loop_of l).step (means (program m.program.now) (Look (loop_of l)) (with_flow (waits m))) (state m.store)
-    ≡ expr (program m.program.now) (means (program m.program.now)) (term e.now) (λ v. look_at (program m.program.now) (means (program m.program.now)) (loop_of l) (with_flow (waits m))) (state m.store)
+    → dropped (program_of m) (tasks_of m) (loop_of l).step (tasks_of m (Look (loop_of l)) (with_flow (waits m))) (state m.store)
+    ≡ expr (program_of m) (tasks_of m) (term e.now) (λ v. look_at (program_of m) (tasks_of m) (loop_of l) (with_flow (waits m))) (state m.store)
 look_behind m l e is =
-    let p = program m.program.now in
+    let p = program_of m in
     ap (λ o. dropped p (means p) (maybe_bor o) (means p (Look (loop_of l)) (with_flow (waits m))) (state m.store)) is
     ∙ ap (λ (κ : State → Runs). expr p (means p) (term e.now) (λ v. κ) (state m.store)) (λ i st. means_is p (Look (loop_of l)) (with_flow (waits m)) st i)
 
 -- a turn of a loop whose condition is true
 pub turns : {new : Machine} {event : Event} (m : Machine) (l : Loop) (v : ℕ) → (v ≡ 0 → ⊥)
-    → Makes m (λ κ. turn_at (program m.program.now) (means (program m.program.now)) (loop_of l) (with_flow κ)) 0 event new → Resumes m (waiting.Test l) v event new
+    → Makes m (λ κ. turn_at (program_of m) (tasks_of m) (loop_of l) (with_flow κ)) 0 event new → Resumes m (waiting.Test l) v event new
 turns {new} {event} m l v h w =
-    over w (chosen_some v (turn_at (program m.program.now) (means (program m.program.now)) (loop_of l) (with_flow (waits m)) (state m.store)) (waits m (Leaves Onward) (state m.store)) h) (omega arith)
+    over w (chosen_some v (turn_at (program_of m) (tasks_of m) (loop_of l) (with_flow (waits m)) (state m.store)) (waits m (Leaves Onward) (state m.store)) h) (omega arith)
 
 -- a further argument is there
 pub passes : {new : Machine} {event : Event} (m : Machine) (f : Callee) (done more : List ℕ) (x v : ℕ) (t : CType) (ts all : List CType) (es : SomeExpressions) → all ≡ t ∷ ts → x
-    ≡ converted t v → more ≡ done ++ x ∷ [] → Makes m (λ κ. arguments (program m.program.now) (means (program m.program.now)) es ts
-    (λ vs. call (program m.program.now) (means (program m.program.now)) f (more ++ vs) (with_value κ))) (arguments_work es) event new
-    → Makes m (λ κ. passed all v (λ y us. arguments (program m.program.now) (means (program m.program.now)) es us
-    (λ vs. call (program m.program.now) (means (program m.program.now)) f (done ++ y ∷ vs) (with_value κ)))) (arguments_work es + 1) event new
+    ≡ converted t v → more ≡ done ++ x ∷ [] → Makes m (λ κ. arguments (program_of m) (tasks_of m) es ts
+    (λ vs. call (program_of m) (tasks_of m) f (more ++ vs) (with_value κ))) (arguments_work es) event new
+    → Makes m (λ κ. passed all v (λ y us. arguments (program_of m) (tasks_of m) es us
+    (λ vs. call (program_of m) (tasks_of m) f (done ++ y ∷ vs) (with_value κ)))) (arguments_work es + 1) event new
 passes {new} {event} m f done more x v t ts all es is kept pushed w =
-    let p = program m.program.now in
+    let p = program_of m in
     let κ : Rest = with_value (waits m) in
     let st = state m.store in
     over w (
@@ -223,11 +223,11 @@ passes {new} {event} m f done more x v t ts all es is kept pushed w =
 -- a call of a function begins, or would be one too many
 pub call_begins : {new : Machine} {event : Event} (body : Vec Action) (m : Machine) (s : Store) (g : Routine) (vs locals : List ℕ) (caller : Activation) → m.store.active < 1024 → body
     ≡ g.body → state s ≡ record (state m.store) { call = record { locals = locals; parameters = vs }; active = m.store.active + 1 } → locals ≡ replicate (length g.locals) 0 → caller
-    ≡ m.store.call → Makes (record m { store = s }) (λ κ st. counted (stmts (program m.program.now) (means (program m.program.now)) (acts body.items)
-    (with_flow (before (program m.program.now) (ForCall caller m.store.active) κ)) st)) 0 event new
-    → Makes m (λ κ. called (Some (routine g)) (means (program m.program.now)) vs (with_value κ)) 2 event new
+    ≡ m.store.call → Makes (record m { store = s }) (λ κ st. counted (stmts (program_of m) (tasks_of m) (acts body.items)
+    (with_flow (before (program_of m) (ForCall caller m.store.active) κ)) st)) 0 event new
+    → Makes m (λ κ. called (Some (routine g)) (tasks_of m) vs (with_value κ)) 2 event new
 call_begins {new} {event} body m s g vs locals caller lt same at zeros back_to w =
-    let p = program m.program.now in
+    let p = program_of m in
     let κ : Rest = with_value (waits m) in
     let st = state m.store in
     let first : state s ≡ begun (routine g) vs st = at ∙ (λ i. record st { call = record { locals = zeros i; parameters = vs }; active = m.store.active + 1 }) in
@@ -241,9 +241,9 @@ call_begins {new} {event} body m s g vs locals caller lt same at zeros back_to w
     ) (omega arith)
 
 pub call_deep : {new : Machine} {event : Event} (m : Machine) (g : Routine) (vs : List ℕ) → 1024 ≤ m.store.active → Makes m (λ κ st. counted (stop (end_of finish.Deep))) 0 event new
-    → Makes m (λ κ. called (Some (routine g)) (means (program m.program.now)) vs (with_value κ)) 2 event new
+    → Makes m (λ κ. called (Some (routine g)) (tasks_of m) vs (with_value κ)) 2 event new
 call_deep {new} {event} m g vs le w =
-    let p = program m.program.now in
+    let p = program_of m in
     let κ : Rest = with_value (waits m) in
     let st = state m.store in
     over w (ap (λ x. counted (if x then means p (Body (routine g).body) (back κ st) (begun (routine g) vs st) else stop Deep)) (le-ltb m.store.active 1024 le)) (omega arith)

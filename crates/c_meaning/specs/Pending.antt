@@ -25,7 +25,7 @@ use Rattle.c_meaning.specs.declared.frame.Control.{Control}
 use Rattle.c_meaning.specs.declared.frame.Control.TheVariants as controls
 use Rattle.c_meaning.specs.declared.machine.Machine.{Machine}
 use Rattle.c_meaning.specs.State.{State}
-use Rattle.c_meaning.specs.Values.{Rest, Behind, Look, chosen, logical, or_trap, read_at, store_at, step_at}
+use Rattle.c_meaning.specs.Values.{Rest, Behind, Next, Look, chosen, logical, or_trap, read_at, store_at, step_at}
 use Rattle.c_meaning.specs.Values.{address_of}
 use Rattle.c_meaning.specs.Calls.{passed, answer, call}
 use Rattle.c_meaning.specs.Meaning.{expr, arguments, dropped, turned, look_at, turn_at, local_set, declared, followed}
@@ -120,9 +120,16 @@ module _ (p : AProgram) where
   going (controls.Left w) κ = κ (Leaves w)
   going (controls.Stop e) κ = λ st. stop (end_of e)
 
+-- the program that a machine runs, and what its tasks mean
+abbrev pub program_of : Machine → AProgram
+program_of m = program m.program.now
+
+abbrev pub tasks_of : Machine → Next
+tasks_of m = means (program_of m)
+
 -- the run that is still to come of a machine
 abbrev pub waits : Machine → Then
-waits m = stack (program m.program.now) (bottom (program m.program.now)) m.frames.items
+waits m = stack (program_of m) (bottom (program_of m)) m.frames.items
 
 abbrev pub to_come : Machine → Runs
-to_come m = going (program m.program.now) m.control (waits m) (state m.store)
+to_come m = going (program_of m) m.control (waits m) (state m.store)

@@ -5,7 +5,6 @@ use Rattle.gg_base.specs.declared.run.SourceTurn.{SourceTurn}
 use Rattle.gg_base.specs.declared.run.SourceTurn.TheVariants as turns
 use Rattle.gg_base.specs.Runs.{Outcome, Runs, Remaining, stop, emit, counted}
 use Rattle.gg_base.specs.Turns.{Turns, counted_from, end_of}
-use Rattle.c_program.specs.Programs.{program}
 use Rattle.c_program.specs.Statements.{AnAction, SomeActions}
 use Rattle.c_meaning.specs.declared.flow.Flow.{Flow}
 use Rattle.c_meaning.specs.declared.flow.Event.{Event}
@@ -18,10 +17,9 @@ use Rattle.c_meaning.specs.declared.machine.Machine.{Machine}
 use Rattle.c_meaning.specs.State.{State}
 use Rattle.c_meaning.specs.Turns.{answers}
 use Rattle.c_meaning.specs.Meaning.{stmt, stmts}
-use Rattle.c_meaning.specs.Programs.{means}
 use Rattle.c_meaning.specs.Work.{act_work, acts_work}
 use Rattle.c_meaning.specs.Parts.{state}
-use Rattle.c_meaning.specs.Pending.{Then, with_flow, resume, leave, before, going, waits, to_come}
+use Rattle.c_meaning.specs.Pending.{Then, program_of, tasks_of, with_flow, resume, leave, before, going, waits, to_come}
 use Rattle.c_meaning.specs.FrameWork.{value_work, flow_work, frame_work, frames_work, control_work, work}
 
 -- What is left of a run behind an event. A quiet one leaves less than `bound` to do.
@@ -37,7 +35,7 @@ pub record Makes (old : Machine) (run : Then → State → Runs) (amount : ℕ) 
 
 -- it does a control
 abbrev pub Does : Machine → Control → Event → Machine → Type 0
-Does old c event new = Makes old (going (program old.program.now) c) (control_work c) event new
+Does old c event new = Makes old (going (program_of old) c) (control_work c) event new
 
 abbrev pub Steps : Machine → Event → Machine → Type 0
 Steps old event new = Does old old.control event new
@@ -45,32 +43,32 @@ Steps old event new = Does old old.control event new
 -- it does a statement, or statements one after another
 abbrev pub Performs : Machine → AnAction → Event → Machine → Type 0
 Performs old a event new =
-    Makes old (λ κ. stmt (program old.program.now) (means (program old.program.now)) a (with_flow κ)) (act_work a) event new
+    Makes old (λ κ. stmt (program_of old) (tasks_of old) a (with_flow κ)) (act_work a) event new
 
 abbrev pub Blocks : Machine → SomeActions → Event → Machine → Type 0
 Blocks old row event new =
-    Makes old (λ κ. stmts (program old.program.now) (means (program old.program.now)) row (with_flow κ)) (acts_work row) event new
+    Makes old (λ κ. stmts (program_of old) (tasks_of old) row (with_flow κ)) (acts_work row) event new
 
 -- a control is what is done next
 abbrev pub Goes : Machine → Control → Event → Machine → Type 0
-Goes old c event new = Makes old (going (program old.program.now) c) (control_work c + 1) event new
+Goes old c event new = Makes old (going (program_of old) c) (control_work c + 1) event new
 
 -- and one more frame waits for it
 abbrev pub Waiting : Machine → Frame → Control → Event → Machine → Type 0
-Waiting old f c event new = Makes old (λ κ. going (program old.program.now) c (before (program old.program.now) f κ))
+Waiting old f c event new = Makes old (λ κ. going (program_of old) c (before (program_of old) f κ))
     (control_work c + frame_work f + 1) event new
 
 -- and something is counted
 abbrev pub Counts : Machine → Frame → Control → Event → Machine → Type 0
-Counts old f c event new = Makes old (λ κ st. counted (going (program old.program.now) c (before (program old.program.now) f κ)
+Counts old f c event new = Makes old (λ κ st. counted (going (program_of old) c (before (program_of old) f κ)
     st)) 0 event new
 
 -- a frame that is off the list is given a value, or is told how a statement was left
 abbrev pub Resumes : Machine → ValueFrame → ℕ → Event → Machine → Type 0
-Resumes old f v event new = Makes old (λ κ. resume (program old.program.now) f κ v) (value_work f + 1) event new
+Resumes old f v event new = Makes old (λ κ. resume (program_of old) f κ v) (value_work f + 1) event new
 
 abbrev pub GoesOn : Machine → FlowFrame → Flow → Event → Machine → Type 0
-GoesOn old f w event new = Makes old (λ κ. leave (program old.program.now) f κ w) (flow_work f + 1) event new
+GoesOn old f w event new = Makes old (λ κ. leave (program_of old) f κ w) (flow_work f + 1) event new
 
 -- steps up to what shows
 abbrev pub Reaches : Machine → Event → Machine → Type 0

@@ -1,14 +1,12 @@
 // Calls: arguments, functions and services.
 
 ghost use Rattle.std.specs.Prelude.{◌≡◌, ◌+◌, ◌++◌, ◌∷◌, IfOk};
-ghost use Rattle.c_program.specs.Programs.{program as plain};
 ghost use Rattle.c_types.specs.Typed.{terms};
 ghost use Rattle.c_meaning.specs.Meaning.{arguments};
 ghost use Rattle.c_meaning.specs.Calls.{passed, call, called, put_char, got};
-ghost use Rattle.c_meaning.specs.Programs.{means};
 ghost use Rattle.std.specs.Prelude.{slice_get};
 ghost use Rattle.c_meaning.specs.Runner.{Makes};
-ghost use Rattle.c_meaning.specs.Pending.{with_value};
+ghost use Rattle.c_meaning.specs.Pending.{program_of, tasks_of, with_value};
 ghost use Rattle.c_meaning.specs.Work.{arguments_work};
 
 use crate::flow::Event;
@@ -32,9 +30,9 @@ impl<'a> Machine<'a> {
         to: &'a [CType],
         rest: &'a [Expression],
     ) -> Result<Event, NoMemory>
-        ensures { IfOk result (λ event. Makes self.old (λ κ. arguments (plain self.old.program.now)
-            (means (plain self.old.program.now)) (terms rest.now) to.now
-            (λ vs. call (plain self.old.program.now) (means (plain self.old.program.now)) callee (done.items ++ vs)
+        ensures { IfOk result (λ event. Makes self.old (λ κ. arguments (program_of self.old)
+            (tasks_of self.old) (terms rest.now) to.now
+            (λ vs. call (program_of self.old) (tasks_of self.old) callee (done.items ++ vs)
             (with_value κ))) (arguments_work (terms rest.now)) event self.new) }
     {
         match rest.split_first() {
@@ -54,8 +52,8 @@ impl<'a> Machine<'a> {
         value: u32,
     ) -> Result<Event, NoMemory>
         ensures { IfOk result (λ event. Makes self.old (λ κ. passed to.now value
-            (λ x ts. arguments (plain self.old.program.now) (means (plain self.old.program.now)) (terms rest.now) ts
-            (λ vs. call (plain self.old.program.now) (means (plain self.old.program.now)) callee (done.items ++ x ∷ vs)
+            (λ x ts. arguments (program_of self.old) (tasks_of self.old) (terms rest.now) ts
+            (λ vs. call (program_of self.old) (tasks_of self.old) callee (done.items ++ x ∷ vs)
             (with_value κ)))) (arguments_work (terms rest.now) + 1) event self.new) }
     {
         match to.split_first() {
@@ -69,8 +67,8 @@ impl<'a> Machine<'a> {
     }
 
     fn call(&mut self, alloc: Global, callee: Callee, values: Vec<u32>) -> Result<Event, NoMemory>
-        ensures { IfOk result (λ event. Makes self.old (λ κ. call (plain self.old.program.now)
-            (means (plain self.old.program.now)) callee values.items (with_value κ)) 2 event self.new) }
+        ensures { IfOk result (λ event. Makes self.old (λ κ. call (program_of self.old)
+            (tasks_of self.old) callee values.items (with_value κ)) 2 event self.new) }
     {
         match callee {
             Callee::Defined(number) => {
@@ -92,7 +90,7 @@ impl<'a> Machine<'a> {
         values: Vec<u32>,
     ) -> Result<Event, NoMemory>
         ensures { IfOk result (λ event. Makes self.old (λ κ. called (Some (routine function.now))
-            (means (plain self.old.program.now)) values.items (with_value κ)) 2 event self.new) }
+            (tasks_of self.old) values.items (with_value κ)) 2 event self.new) }
     {
         let active = self.store.active;
         if active < ACTIVE_CALL_LIMIT {

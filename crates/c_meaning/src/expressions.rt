@@ -2,14 +2,12 @@
 
 ghost use Rattle.std.specs.Prelude.{◌≡◌, ◌+◌, IfOk};
 ghost use Rattle.c_meaning.specs.declared.frame.Control.TheVariants as controls;
-ghost use Rattle.c_program.specs.Programs.{program as plain};
 ghost use Rattle.c_types.specs.Typed.{term};
 ghost use Rattle.c_meaning.specs.State.{address};
 ghost use Rattle.c_meaning.specs.Values.{or_wild, or_trap, array_address, address_of};
 ghost use Rattle.c_meaning.specs.Meaning.{expr};
-ghost use Rattle.c_meaning.specs.Programs.{means};
 ghost use Rattle.c_meaning.specs.Runner.{Makes, Does, Resumes};
-ghost use Rattle.c_meaning.specs.Pending.{before, with_value};
+ghost use Rattle.c_meaning.specs.Pending.{program_of, tasks_of, before, with_value};
 ghost use Rattle.c_meaning.specs.Work.{term_work};
 ghost use Rattle.c_meaning.specs.declared.frame.Frame.TheVariants as frames;
 ghost use Rattle.c_meaning.specs.declared.frame.ValueFrame.TheVariants as waiting;
@@ -67,9 +65,9 @@ impl<'a> Machine<'a> {
         left: &'a Box<Expression>,
         right: &'a Box<Expression>,
     ) -> Result<Event, NoMemory>
-        ensures { IfOk result (λ event. Makes self.old (λ κ. expr (plain self.old.program.now)
-            (means (plain self.old.program.now)) (term left.now.value) (with_value
-            (before (plain self.old.program.now) (frames.ForValue (waiting.Right operator right.entry)) κ)))
+        ensures { IfOk result (λ event. Makes self.old (λ κ. expr (program_of self.old)
+            (tasks_of self.old) (term left.now.value) (with_value
+            (before (program_of self.old) (frames.ForValue (waiting.Right operator right.entry)) κ)))
             (term_work (term left.now.value) + term_work (term right.now.value) + 2) event self.new) }
     {
         self.wait(ValueFrame::Right(operator, right), left)
@@ -83,7 +81,7 @@ impl<'a> Machine<'a> {
     }
 
     fn address_of_variable(&mut self, variable: Variable) -> Event
-        ensures { Makes self.old (λ κ. array_address (plain self.old.program.now) variable (with_value κ)) 2 result self.new }
+        ensures { Makes self.old (λ κ. array_address (program_of self.old) variable (with_value κ)) 2 result self.new }
     {
         let spot = spot_of(self.program.objects.as_slice(), variable);
         match spot {

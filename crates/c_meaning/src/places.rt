@@ -1,13 +1,11 @@
 // Places: where they are, and what is done with them.
 
 ghost use Rattle.std.specs.Prelude.{◌≡◌, ◌+◌, IfOk};
-ghost use Rattle.c_program.specs.Programs.{program as plain};
 ghost use Rattle.c_types.specs.Typed.{place_of, term};
 ghost use Rattle.c_meaning.specs.Values.{read_at, store_at, or_trap, step_at, written};
 ghost use Rattle.c_meaning.specs.Meaning.{expr, place};
-ghost use Rattle.c_meaning.specs.Programs.{means};
 ghost use Rattle.c_meaning.specs.Runner.{Makes};
-ghost use Rattle.c_meaning.specs.Pending.{used, with_value};
+ghost use Rattle.c_meaning.specs.Pending.{program_of, tasks_of, used, with_value};
 ghost use Rattle.c_meaning.specs.Parts.{changed, combined};
 ghost use Rattle.c_meaning.specs.FrameWork.{use_work};
 ghost use Rattle.c_meaning.specs.Work.{place_work, term_work};
@@ -24,9 +22,9 @@ use gg_base::{Finish, NoMemory};
 impl<'a> Machine<'a> {
     /// Finds a place, with which something is done then.
     pub(crate) fn find(&mut self, at: &'a Place, then: Use<'a>) -> Result<Event, NoMemory>
-        ensures { IfOk result (λ event. Makes self.old (λ κ. place (plain self.old.program.now)
-            (means (plain self.old.program.now)) (place_of at.now) (λ t s.
-            used (plain self.old.program.now) then.entry t s (with_value κ)))
+        ensures { IfOk result (λ event. Makes self.old (λ κ. place (program_of self.old)
+            (tasks_of self.old) (place_of at.now) (λ t s.
+            used (program_of self.old) then.entry t s (with_value κ)))
             (place_work (place_of at.now) + use_work then.entry) event self.new) }
     {
         match at {
@@ -43,7 +41,7 @@ impl<'a> Machine<'a> {
 
     /// Does something with a place that is found.
     pub(crate) fn at(&mut self, of: CType, spot: Spot, then: Use<'a>) -> Result<Event, NoMemory>
-        ensures { IfOk result (λ event. Makes self.old (λ κ. used (plain self.old.program.now) then.entry of spot
+        ensures { IfOk result (λ event. Makes self.old (λ κ. used (program_of self.old) then.entry of spot
             (with_value κ)) (use_work then.entry) event self.new) }
     {
         match then {
@@ -69,7 +67,7 @@ impl<'a> Machine<'a> {
         right: &'a Box<Expression>,
     ) -> Result<Event, NoMemory>
         ensures { IfOk result (λ event. Makes self.old (λ κ. read_at of spot
-            (λ x. expr (plain self.old.program.now) (means (plain self.old.program.now)) (term right.now.value)
+            (λ x. expr (program_of self.old) (tasks_of self.old) (term right.now.value)
             (λ y. changed of spot operator x y (with_value κ)))) (term_work (term right.now.value) + 2) event self.new) }
     {
         match self.store.held(of, spot) {

@@ -1,14 +1,12 @@
 // Statements, from their first step on.
 
 ghost use Rattle.std.specs.Prelude.{◌≡◌, ◌+◌, IfOk};
-ghost use Rattle.c_program.specs.Programs.{program as plain};
 ghost use Rattle.c_program.specs.Statements.{maybe_term, act, acts};
 ghost use Rattle.c_meaning.specs.declared.frame.Control.TheVariants as controls;
 ghost use Rattle.c_meaning.specs.Values.{chosen, Look};
 ghost use Rattle.c_meaning.specs.Meaning.{local_set, look_at, turn_at, dropped, returned};
-ghost use Rattle.c_meaning.specs.Programs.{means};
 ghost use Rattle.c_meaning.specs.Runner.{Makes, Does, Performs, Blocks, GoesOn};
-ghost use Rattle.c_meaning.specs.Pending.{going, with_flow};
+ghost use Rattle.c_meaning.specs.Pending.{program_of, tasks_of, going, with_flow};
 ghost use Rattle.c_meaning.specs.Parts.{maybe_bor, loop_of};
 ghost use Rattle.c_meaning.specs.Work.{loop_work, again_to_do, maybe_work};
 ghost use Rattle.c_meaning.specs.FrameWork.{control_work};
@@ -60,8 +58,8 @@ impl<'a> Machine<'a> {
 
     // A `return`, with its value if it has one.
     fn give_back(&mut self, value: &'a Option<Expression>) -> Result<Event, NoMemory>
-        ensures { IfOk result (λ event. Makes self.old (λ κ. returned (plain self.old.program.now)
-            (means (plain self.old.program.now)) (maybe_term value.now) (with_flow κ)) (maybe_work (maybe_term value.now) + 2)
+        ensures { IfOk result (λ event. Makes self.old (λ κ. returned (program_of self.old)
+            (tasks_of self.old) (maybe_term value.now) (with_flow κ)) (maybe_work (maybe_term value.now) + 2)
             event self.new) }
     {
         match value {
@@ -104,8 +102,8 @@ impl<'a> Machine<'a> {
 
     /// An automatic local becomes a value, and declarations follow.
     pub(crate) fn begin(&mut self, local: u32, value: u32, rest: &'a [Declaration]) -> Event
-        ensures { Makes self.old (λ κ. local_set (plain self.old.program.now) (means (plain self.old.program.now)) local value
-            (going (plain self.old.program.now) (controls.Declare rest.entry) κ))
+        ensures { Makes self.old (λ κ. local_set (program_of self.old) (tasks_of self.old) local value
+            (going (program_of self.old) (controls.Declare rest.entry) κ))
             (control_work (controls.Declare rest.entry) + 1) result self.new }
     {
         if self.store.put_local(local, value) {
@@ -117,16 +115,16 @@ impl<'a> Machine<'a> {
 
     /// What is done behind a condition.
     pub(crate) fn choose(&mut self, value: u32, yes: Control<'a>, no: Control<'a>) -> Event
-        ensures { Makes self.old (λ κ st. chosen value (going (plain self.old.program.now) yes.entry κ st)
-            (going (plain self.old.program.now) no.entry κ st)) (control_work yes.entry + control_work no.entry + 1) result self.new }
+        ensures { Makes self.old (λ κ st. chosen value (going (program_of self.old) yes.entry κ st)
+            (going (program_of self.old) no.entry κ st)) (control_work yes.entry + control_work no.entry + 1) result self.new }
     {
         self.go(if value == 0 { no } else { yes })
     }
 
     /// A look at a loop's condition, if it has one.
     pub(crate) fn look(&mut self, at: Loop<'a>) -> Result<Event, NoMemory>
-        ensures { IfOk result (λ event. Makes self.old (λ κ. look_at (plain self.old.program.now)
-            (means (plain self.old.program.now)) (loop_of at.entry) (with_flow κ)) (loop_work (loop_of at.entry)) event self.new) }
+        ensures { IfOk result (λ event. Makes self.old (λ κ. look_at (program_of self.old)
+            (tasks_of self.old) (loop_of at.entry) (with_flow κ)) (loop_work (loop_of at.entry)) event self.new) }
     {
         match at.condition {
             None => self.turn(at),
@@ -136,8 +134,8 @@ impl<'a> Machine<'a> {
 
     /// A turn of a loop is counted, and begins.
     pub(crate) fn turn(&mut self, of: Loop<'a>) -> Result<Event, NoMemory>
-        ensures { IfOk result (λ event. Makes self.old (λ κ. turn_at (plain self.old.program.now)
-            (means (plain self.old.program.now)) (loop_of of.entry) (with_flow κ)) 0 event self.new) }
+        ensures { IfOk result (λ event. Makes self.old (λ κ. turn_at (program_of self.old)
+            (tasks_of self.old) (loop_of of.entry) (with_flow κ)) 0 event self.new) }
     {
         self.count(
             Frame::ForFlow(FlowFrame::Turn(of)),
@@ -167,9 +165,9 @@ impl<'a> Machine<'a> {
 
     // What is done behind a turn, and then the next look.
     fn again(&mut self, of: Loop<'a>) -> Result<Event, NoMemory>
-        ensures { IfOk result (λ event. Makes self.old (λ κ. dropped (plain self.old.program.now)
-            (means (plain self.old.program.now)) (loop_of of.entry).step
-            (means (plain self.old.program.now) (Look (loop_of of.entry)) (with_flow κ))) (again_to_do (loop_of of.entry)) event self.new) }
+        ensures { IfOk result (λ event. Makes self.old (λ κ. dropped (program_of self.old)
+            (tasks_of self.old) (loop_of of.entry).step
+            (tasks_of self.old (Look (loop_of of.entry)) (with_flow κ))) (again_to_do (loop_of of.entry)) event self.new) }
     {
         match of.step {
             None => self.look(of),
