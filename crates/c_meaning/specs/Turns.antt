@@ -1,5 +1,5 @@
 -- The answers of a program's run, one after another.
-use Rattle.std.specs.Prelude.{ℕ, zero, suc, List, [], ◌∷◌, drop, length}
+use Rattle.std.specs.Prelude.{ℕ, zero, suc, pred, List, [], ◌∷◌, drop, length}
 use Rattle.gg_base.specs.declared.run.End.{End}
 use Rattle.gg_base.specs.declared.run.End.TheVariants as ends
 use Rattle.gg_base.specs.declared.run.SourceTurn.{SourceTurn}
@@ -29,14 +29,10 @@ counting ends.Deep more = last ends.Deep
 counting ends.Spent more = turns.Going ∷ more
 counting (ends.Broken kind) more = last (ends.Broken kind)
 
-abbrev pub less_one : ℕ → ℕ
-less_one zero = zero
-less_one (suc n) = n
-
 -- what a run does behind the first moment that it counts
 abbrev pub behind_first : Runs → Runs
 behind_first r n =
-    record { output = drop (length (r 0).output) (r (suc n)).output; end = (r (suc n)).end; number = less_one (r (suc n)).number }
+    record { output = drop (length (r 0).output) (r (suc n)).output; end = (r (suc n)).end; number = pred (r (suc n)).number }
 
 -- What is answered one after another, where so many moments may be counted: all that is written before the first of them, that moment, and
 -- what comes behind it; the last answer is that of the end.
