@@ -28,10 +28,6 @@ abbrev pub got_byte : List ℕ → ℕ
 got_byte [] = 2 ^ 32 - 1
 got_byte (b ∷ bs) = b
 
-abbrev pub got_rest : List ℕ → List ℕ
-got_rest [] = []
-got_rest (b ∷ bs) = bs
-
 abbrev pub maybe_bor : Option (Bor Expression) → Option AnExpression
 maybe_bor None = None
 maybe_bor (Some e) = Some (term e.now)

@@ -1,9 +1,9 @@
 // Where values are kept.
 
-ghost use Rattle.std.specs.Prelude.{◌≡◌, ◌<◌, ◌+◌, [], IfOk, is_some, unwrap_or, replicate};
+ghost use Rattle.std.specs.Prelude.{◌≡◌, ◌<◌, ◌+◌, [], IfOk, is_some, unwrap_or, replicate, drop};
 ghost use Rattle.std.specs.Option.{option_copied};
 ghost use Rattle.c_meaning.specs.State.{access_size, held, put_local, put, spot_of, address};
-ghost use Rattle.c_meaning.specs.Parts.{state, activation, got_byte, got_rest};
+ghost use Rattle.c_meaning.specs.Parts.{state, activation, got_byte};
 
 use c_types::constant::convert;
 use c_types::{CType, Integer, Variable};
@@ -163,7 +163,7 @@ impl<'a> Store<'a> {
     /// The next byte of the input, or -1 at its end.
     pub(crate) fn get(&mut self) -> u32
         ensures value { result ≡ got_byte (state self.old).input }
-        ensures rest { state self.new ≡ record (state self.old) { input = got_rest (state self.old).input } }
+        ensures rest { state self.new ≡ record (state self.old) { input = drop 1 (state self.old).input } }
     {
         match self.input.split_first() {
             None => u32::MAX,
