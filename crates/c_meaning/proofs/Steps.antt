@@ -3,7 +3,7 @@ use Rattle.std.proofs.Common.{◌≡◌, ℕ, zero, suc, ◌+◌, ◌<◌, ◌�
 use Rattle.std.proofs.Common.{lt-ltb, le-ltb, ltb-false, replicate}
 use Rattle.std.proofs.lemmas.Option.{slice_get_read, slice_get_past, slice_get-map}
 use Rattle.std.specs.Prelude.{slice_get, nat_lt, map, is_some, unwrap_or, true, if◌then◌else◌}
-use Rattle.std.specs.Option.{option_map}
+use Rattle.std.specs.Option.{option_map, option_copied}
 use Rattle.std.specs.Global.{Vec}
 use Rattle.std.specs.Borrow.{Bor}
 use Rattle.gg_base.specs.Runs.{Runs, stop, counted}
@@ -13,7 +13,7 @@ use Rattle.c_types.specs.declared.typed.Callee.{Callee}
 use Rattle.c_types.specs.Constants.{converted}
 use Rattle.c_types.specs.Typed.{SomeExpressions, term}
 use Rattle.c_program.specs.declared.statement.Action.{Action}
-use Rattle.c_program.specs.Statements.{acts}
+use Rattle.c_program.specs.Statements.{acts, maybe_term}
 use Rattle.gg_base.specs.declared.run.End.TheVariants.{Deep}
 use Rattle.c_program.specs.declared.program.Routine.{Routine}
 use Rattle.c_program.specs.Programs.{AProgram, routine}
@@ -196,6 +196,11 @@ look_behind m l e is =
     let p = program_of m in
     ap (λ o. dropped p (means p) (maybe_bor o) (means p (Look (loop_of l)) (with_flow (waits m))) (state m.store)) is
     ∙ ap (λ (κ : State → Runs). expr p (means p) (term e.now) (λ v. κ) (state m.store)) (λ i st. means_is p (Look (loop_of l)) (with_flow (waits m)) st i)
+
+-- a part of a `for`, if it is there
+pub part_is : (o : Option (Bor Expression)) (e : Option Expression) → option_copied o ≡ e → maybe_bor o ≡ maybe_term e
+part_is None e is = ap maybe_term is
+part_is (Some x) e is = ap maybe_term is
 
 -- a turn of a loop whose condition is true
 pub turns : {new : Machine} {event : Event} (m : Machine) (l : Loop) (v : ℕ) → (v ≡ 0 → ⊥)

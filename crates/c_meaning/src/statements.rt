@@ -7,7 +7,7 @@ ghost use Rattle.c_meaning.specs.Values.{chosen, Look};
 ghost use Rattle.c_meaning.specs.Meaning.{local_set, look_at, turn_at, dropped, returned};
 ghost use Rattle.c_meaning.specs.Runner.{Makes, Does, Performs, Blocks, GoesOn};
 ghost use Rattle.c_meaning.specs.Pending.{program_of, tasks_of, going, with_flow};
-ghost use Rattle.c_meaning.specs.Parts.{maybe_bor, loop_of};
+ghost use Rattle.c_meaning.specs.Parts.{loop_of};
 ghost use Rattle.c_meaning.specs.Work.{loop_work, again_to_do, maybe_work};
 ghost use Rattle.c_meaning.specs.FrameWork.{control_work};
 
@@ -44,8 +44,8 @@ impl<'a> Machine<'a> {
             }),
             Action::For(first, c, step, body) => {
                 let whole = Loop {
-                    condition: part(c),
-                    step: part(step),
+                    condition: c.as_ref(),
+                    step: step.as_ref(),
                     body,
                 };
                 match first {
@@ -173,15 +173,5 @@ impl<'a> Machine<'a> {
             None => self.look(of),
             Some(e) => self.wait(ValueFrame::Look(of), e),
         }
-    }
-}
-
-// A part of a `for`, if it is there.
-fn part(e: &Option<Expression>) -> Option<&Expression>
-    ensures { maybe_bor result ≡ maybe_term e.now }
-{
-    match e {
-        None => None,
-        Some(e) => Some(e),
     }
 }

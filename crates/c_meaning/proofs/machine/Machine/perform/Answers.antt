@@ -1,6 +1,6 @@
 use Rattle.std.proofs.Common.{arith, refl}
 use Rattle.std.proofs.lemmas.Result.{IfOk-weaker}
-use Rattle.c_meaning.proofs.Steps.{over}
+use Rattle.c_meaning.proofs.Steps.{over, part_is}
 use Rattle.c_program.proofs.Rows.{block_is}
 use Rattle.c_meaning.proofs.machine.Machine.perform.Goals as goal
 
@@ -33,9 +33,15 @@ pub returns-in-Do : goal.returns-in-Do
 returns-in-Do c = IfOk-weaker _ _ _ (λ event w. over w (rw (c.in-Do.is) refl) (rw (c.in-Do.is) (omega arith))) c.turn.ensures
 
 pub returns-in-None : goal.returns-in-None
-returns-in-None c = IfOk-weaker _ _ _ (λ event w. over w (rw (c.in-For.is, c.in-None.is, c.part.ensures, c.part-in-For.ensures) refl)
-    (rw (c.in-For.is, c.in-None.is, c.part.ensures) (omega arith))) c.look-in-None.ensures
+returns-in-None c =
+    let condition = part_is _ _ c.as_ref.ensures.value in
+    let step = part_is _ _ c.as_ref-in-For.ensures.value in
+    IfOk-weaker _ _ _ (λ event w. over w (rw (c.in-For.is, c.in-None.is, condition, step) refl)
+    (rw (c.in-For.is, c.in-None.is, condition) (omega arith))) c.look-in-None.ensures
 
 pub returns-in-Some : goal.returns-in-Some
-returns-in-Some c = IfOk-weaker _ _ _ (λ event w. over w (rw (c.in-For.is, c.in-Some.is, ← c.part.ensures, ← c.part-in-For.ensures) refl)
-    (rw (c.in-For.is, c.in-Some.is, ← c.part.ensures) (omega arith))) c.wait-in-Some.ensures
+returns-in-Some c =
+    let condition = part_is _ _ c.as_ref.ensures.value in
+    let step = part_is _ _ c.as_ref-in-For.ensures.value in
+    IfOk-weaker _ _ _ (λ event w. over w (rw (c.in-For.is, c.in-Some.is, ← condition, ← step) refl)
+    (rw (c.in-For.is, c.in-Some.is, ← condition) (omega arith))) c.wait-in-Some.ensures
