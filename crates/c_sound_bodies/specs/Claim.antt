@@ -1,5 +1,6 @@
 -- What is claimed of the typing of function bodies: the typed statements fit and stand, and what is in scope stays in order.
-use Rattle.std.specs.Prelude.{◌≡◌, ℕ, ◌<◌, ◌≤◌, ◌^◌, Bool, false, List, [], ◌∷◌, ◌++◌, length, Some, slice_get, Ok}
+use Rattle.std.specs.Prelude.{◌≡◌, ℕ, ◌<◌, ◌≤◌, ◌^◌, Bool, false, List, ◌++◌, length, Some, slice_get, Ok}
+use Rattle.std.specs.List.{AllByRecursion}
 use Rattle.tree_core.specs.declared.program.Object.{Object}
 use Rattle.c_phrases.specs.declared.operator.Spec.{Spec}
 use Rattle.c_phrases.specs.Phrases.{AnExp}
@@ -39,12 +40,10 @@ OfVariable known (entries.Function n) = Unit {0}
 
 -- each variable that a block's names stand for
 abbrev pub NamesOf : (Variable → Type 0) → List (List ℕ × Entry) → Type 0
-NamesOf known [] = Unit {0}
-NamesOf known (e ∷ es) = OfVariable known e.1 × NamesOf known es
+NamesOf known es = AllByRecursion (λ (e : List ℕ × Entry). OfVariable known e.1) es
 
 abbrev pub BlocksOf : (Variable → Type 0) → List (List (List ℕ × Entry)) → Type 0
-BlocksOf known [] = Unit {0}
-BlocksOf known (b ∷ bs) = NamesOf known b × BlocksOf known bs
+BlocksOf known bs = AllByRecursion (NamesOf known) bs
 
 -- each variable that a name stands for, in each block that is open
 pub record ScopeOf (known : Variable → Type 0) (s : Scope) : Type 0 where
