@@ -1,5 +1,6 @@
 -- The labels of a program's code.
 use Rattle.std.specs.Prelude.{◌≡◌, ◌^◌, ◌<◌, List, [], ◌∷◌, None, true}
+use Rattle.std.specs.List.{AllByRecursion}
 use Rattle.vax_core.specs.declared.code.CodeItem.{CodeItem}
 use Rattle.vax_core.specs.First.{main_name}
 use Rattle.vax_machine.specs.Labels.{has_label, double_label}
@@ -17,8 +18,7 @@ AreSmall (tree_item.Label l ∷ is) = (l < 2 ^ 64) × AreSmall is
 AreSmall (tree_item.Root w ∷ is) = AreSmall is
 
 abbrev pub HaveSmall : List TreeFn → Type 0
-HaveSmall [] = Unit {0}
-HaveSmall (f ∷ fs) = AreSmall f.items × HaveSmall fs
+HaveSmall fs = AllByRecursion (λ (f : TreeFn). AreSmall f.items) fs
 
 -- No label stands twice in the code of a valid program's functions, and none is a service's name.
 abbrev pub CodeLabelsDiffer : Type 0
