@@ -6,11 +6,9 @@ use std::alloc::{AllocError, Global};
 use std::io;
 
 fn source_of(alloc: Global, row: &str) -> Result<Vec<u8>, AllocError> {
-    let mut source = Vec::new(alloc);
-    for byte in row.bytes() {
-        source.push(if byte == b'`' { b'\n' } else { byte })?;
-    }
-    Ok(source)
+    row.bytes()
+        .map(|byte| if byte == b'`' { b'\n' } else { byte })
+        .collect(alloc)
 }
 
 // The tokens with their offsets.
