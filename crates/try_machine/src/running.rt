@@ -19,9 +19,7 @@ fn text_of(alloc: Global, lines: &str) -> Result<String, AllocError> {
         if !line.ends_with(':') {
             text.push('\t')?;
         }
-        for c in line.chars() {
-            text.push(if c == ' ' { '\t' } else { c })?;
-        }
+        text.extend(line.chars().map(|c| if c == ' ' { '\t' } else { c }))?;
         text.push('\n')?;
     }
     Ok(text)
