@@ -33,9 +33,7 @@ fn node_of(alloc: Global, line: &str) -> Result<Option<SampleNode>, AllocError> 
         } else if let Some(named) = token_named(word) {
             token = Some(named);
         } else {
-            for letter in word.chars() {
-                answers.push(letter == 'y')?;
-            }
+            answers.extend(word.chars().map(|letter| letter == 'y'))?;
         }
     }
     match token {
