@@ -53,9 +53,7 @@ fn say(
 
 fn put_effect(alloc: Global, text: &mut String, effect: &Effect) -> Result<(), NoMemory> {
     let shown = show_effect(alloc, effect)?;
-    for byte in shown.as_slice() {
-        text.push(char::from(*byte))?;
-    }
+    text.extend(shown.as_slice().iter().map(|byte| char::from(*byte)))?;
     Ok(())
 }
 
