@@ -20,17 +20,17 @@ use world::{SOURCE, TEXT, World, called, folder_of, ran};
 
 // The text of a row, in which the two letters stand for a TAB and for a line feed.
 fn unfolded(alloc: Global, row: &str, tab: char, line_feed: char) -> Result<String, AllocError> {
-    let mut text = String::new(alloc);
-    for letter in row.chars() {
-        if letter == tab {
-            text.push('\t')?;
-        } else if letter == line_feed {
-            text.push('\n')?;
-        } else {
-            text.push(letter)?;
-        }
-    }
-    Ok(text)
+    row.chars()
+        .map(|letter| {
+            if letter == tab {
+                '\t'
+            } else if letter == line_feed {
+                '\n'
+            } else {
+                letter
+            }
+        })
+        .collect(alloc)
 }
 
 // What the whole program leaves behind.

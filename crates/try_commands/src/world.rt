@@ -139,13 +139,12 @@ fn at_least_one(count: usize) -> usize
 
 // The words between commas; none in an empty text.
 fn words_of(alloc: Global, text: &str) -> Result<Vec<String>, AllocError> {
-    let mut words = Vec::new(alloc);
-    if !text.is_empty() {
-        for word in text.split(',') {
-            words.push(String::from_str(alloc, word)?)?;
-        }
+    if text.is_empty() {
+        return Ok(Vec::new(alloc));
     }
-    Ok(words)
+    text.split(',')
+        .map(|word| String::from_str(alloc, word))
+        .try_collect(alloc)
 }
 
 // What was written, on one line: a TAB as `→` and a line feed as `¶`; of more than 1,000 bytes their number.
@@ -154,15 +153,13 @@ fn shown(alloc: Global, bytes: &[u8]) -> Result<String, AllocError> {
         return format!(in alloc; "({} bytes)", bytes.len());
     }
     let text = String::from_utf8_lossy(alloc, bytes)?;
-    let mut line = String::new(alloc);
-    for letter in text.chars() {
-        match letter {
-            '\t' => line.push('→')?,
-            '\n' => line.push('¶')?,
-            other => line.push(other)?,
-        }
-    }
-    Ok(line)
+    text.chars()
+        .map(|letter| match letter {
+            '\t' => '→',
+            '\n' => '¶',
+            other => other,
+        })
+        .collect(alloc)
 }
 
 /// What the whole program leaves behind: its status, what its output gained, a bar, and what its report gained. The folder has the
