@@ -25,14 +25,14 @@ fn text_of(alloc: Global, row: &str) -> Result<String, AllocError> {
         Some(line) => (line, true),
         None => (row, false),
     };
-    let mut text = String::new(alloc);
-    for byte in row.chars() {
-        match byte {
-            '~' => text.push('\t')?,
-            '|' => text.push('\n')?,
-            other => text.push(other)?,
-        }
-    }
+    let text: String = row
+        .chars()
+        .map(|letter| match letter {
+            '~' => '\t',
+            '|' => '\n',
+            other => other,
+        })
+        .collect(alloc)?;
     if is_line {
         format!(in alloc; "{HEAD}{text}\n{TAIL}")
     } else {
