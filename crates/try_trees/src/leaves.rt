@@ -139,11 +139,5 @@ fn leaf_of(word: &str) -> Option<Leaf> {
 
 /// The leaves that the words name; a word that names none is left out.
 pub fn leaves_of(alloc: Global, words: &str) -> Result<Vec<Leaf>, AllocError> {
-    let mut leaves = Vec::new(alloc);
-    for word in words.split(' ') {
-        if let Some(leaf) = leaf_of(word) {
-            leaves.push(leaf)?;
-        }
-    }
-    Ok(leaves)
+    words.split(' ').filter_map(leaf_of).collect(alloc)
 }

@@ -18,12 +18,11 @@ fn item_of(alloc: Global, text: &str) -> Result<TreeItem, NoMemory> {
 
 // A function from its name on.
 fn function_of(alloc: Global, text: &str) -> Result<TreeFn, NoMemory> {
-    let mut items = Vec::new(alloc);
-    for line in text.lines() {
-        if let Some(item) = line.strip_prefix("  ") {
-            items.push(item_of(alloc, item)?)?;
-        }
-    }
+    let items = text
+        .lines()
+        .filter_map(|line| line.strip_prefix("  "))
+        .map(|item| item_of(alloc, item))
+        .try_collect(alloc)?;
     let head = text.lines().next().unwrap_or("");
     let mut words = head.split(' ');
     let name = words.next().unwrap_or("");
@@ -47,6 +46,14 @@ fn bytes_of(alloc: Global, first: u8, count: u32) -> Result<Bytes, NoMemory> {
     Ok(Bytes::from_vec(bytes))
 }
 
+fn link_of(word: &str) -> Option<Link> {
+    let (at, object) = word.split_once(':')?;
+    Some(Link {
+        at: at.parse::<u32>().unwrap_or(0),
+        object: object.parse::<u32>().unwrap_or(0),
+    })
+}
+
 fn object_of(alloc: Global, text: &str) -> Result<Object, NoMemory> {
     let mut words = text.split(' ');
     let address = words.next().unwrap_or("").parse::<u32>().unwrap_or(0);
@@ -54,15 +61,7 @@ fn object_of(alloc: Global, text: &str) -> Result<Object, NoMemory> {
     let align = words.next().unwrap_or("").parse::<u32>().unwrap_or(0);
     let first = words.next().unwrap_or("").parse::<u8>().unwrap_or(0);
     let count = words.next().unwrap_or("").parse::<u32>().unwrap_or(0);
-    let mut links = Vec::new(alloc);
-    for word in words {
-        if let Some((at, object)) = word.split_once(':') {
-            links.push(Link {
-                at: at.parse::<u32>().unwrap_or(0),
-                object: object.parse::<u32>().unwrap_or(0),
-            })?;
-        }
-    }
+    let links = words.filter_map(link_of).collect(alloc)?;
     Ok(Object {
         label: Name::from_vec(Vec::from_slice(alloc, b"_x")?),
         address,
@@ -75,16 +74,16 @@ fn object_of(alloc: Global, text: &str) -> Result<Object, NoMemory> {
 
 /// The program that the lines write.
 pub fn program_of(alloc: Global, text: &str) -> Result<TreeProgram, NoMemory> {
-    let mut objects = Vec::new(alloc);
-    for line in text.lines() {
-        if let Some(object) = line.strip_prefix("object ") {
-            objects.push(object_of(alloc, object)?)?;
-        }
-    }
-    let mut functions = Vec::new(alloc);
-    for part in text.split("function ").skip(1) {
-        functions.push(function_of(alloc, part)?)?;
-    }
+    let objects = text
+        .lines()
+        .filter_map(|line| line.strip_prefix("object "))
+        .map(|object| object_of(alloc, object))
+        .try_collect(alloc)?;
+    let functions = text
+        .split("function ")
+        .skip(1)
+        .map(|part| function_of(alloc, part))
+        .try_collect(alloc)?;
     Ok(TreeProgram {
         functions: TreeFns::from_vec(functions),
         objects: Objects::from_vec(objects),
