@@ -1,14 +1,9 @@
 // How a program of trees is written: a line for each function and for each of its items, a tree as its tokens in prefix order, each with
 // what it stands with in brackets.
 use c_typed::Program;
-use gg_base::{Name, Rel};
-use std::alloc::AllocError;
+use gg_base::Rel;
 use std::io;
 use tree_core::{Att, Leaf, Tok, TreeFn, TreeItem, TreeProgram};
-
-fn spelled(rt: HostRuntime, name: &Name) -> Result<String, AllocError> {
-    String::from_utf8_lossy(rt.alloc(), name.as_slice())
-}
 
 fn relation_name(rel: Rel) -> &'static str {
     match rel {
@@ -69,7 +64,7 @@ fn show_item(rt: HostRuntime, item: &TreeItem) -> io::Result<()> {
 }
 
 fn show_function(rt: HostRuntime, function: &TreeFn, need: u32) -> io::Result<()> {
-    let name = spelled(rt, &function.name)?;
+    let name = String::from_utf8_lossy(rt.alloc(), function.name.as_slice())?;
     let (args, locals) = (function.args, function.locals);
     println!(rt; "  function {name} args {args} locals {locals} need {need}")?;
     for item in function.items.as_slice() {
