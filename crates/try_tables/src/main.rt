@@ -49,10 +49,10 @@ fn run(rt: HostRuntime) -> Result<bool, NoMemory> {
 // Whether the word `cases` stands behind the program's name.
 fn are_cases(rt: HostRuntime) -> bool {
     match env::args(&rt) {
-        Ok(words) => match words.skip(1).next() {
-            Some(word) => word.as_str() == "cases",
-            None => false,
-        },
+        Ok(words) => words
+            .skip(1)
+            .next()
+            .is_some_and(|word| word.as_str() == "cases"),
         Err(_) => false,
     }
 }
