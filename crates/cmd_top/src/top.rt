@@ -40,16 +40,14 @@ pub fn ggvax<F: Folder, I: Source, O: Sink, E: Sink>(
     report: &mut E,
 ) -> Status
     // `check D`: what each status says of the machine description, of its tables and rules and what is written, and that each comes
-    // where its
-    // cause is there.
+    // where its cause is there.
     ensures check { (d : List ℕ) → SaysCheck (spelled words.now) d
         → CheckLeaves result d (outside F.Folder O.Sink E.Sink folder.old folder.new out.old out.new report.old report.new) }
     ensures check_exact { (d : List ℕ) → SaysCheck (spelled words.now) d
         → CheckIsExact result d (outside F.Folder O.Sink E.Sink folder.old folder.new out.old out.new report.old report.new) }
 
     // `compile D S`: the same of the machine description, of the source and of the text of its code. Where a text is written, it is
-    // that of one
-    // code, which loads and on every input does what the source does; and a source whose functions fit their frames has one.
+    // that of one code, which loads and on every input does what the source does; and a source whose functions fit their frames has one.
     ensures compile { (d source : List ℕ) → SaysCompile (spelled words.now) d source
         → CompileLeaves result (files d source)
         (outside F.Folder O.Sink E.Sink folder.old folder.new out.old out.new report.old report.new) }
@@ -74,8 +72,7 @@ pub fn ggvax<F: Folder, I: Source, O: Sink, E: Sink>(
         (outside F.Folder O.Sink E.Sink folder.old folder.new out.old out.new report.old report.new)) }
 
     // `load D K`: the same of the machine description, and of the generated source of K functions, of its text and of what both
-    // sides' runs came
-    // to; and that no other status comes.
+    // sides' runs came to; and that no other status comes.
     ensures load { (d : List ℕ) (k : ℕ) → SaysLoad (spelled words.now) d k
         → LoadLeaves result d k (outside F.Folder O.Sink E.Sink folder.old folder.new out.old out.new report.old report.new) }
     ensures load_comes { (d : List ℕ) (k : ℕ) → SaysLoad (spelled words.now) d k → LoadMayCome result }
