@@ -21,8 +21,8 @@ use Rattle.tree_core.specs.declared.program.Object.{Object}
 use Rattle.tree_core.specs.Area as trees
 use Rattle.tree_meaning.specs.State.{Activation}
 use Rattle.tree_meaning.specs.State.{State as Trees}
-use Rattle.tree_meaning.specs.Steps.{with_local_set}
-use Rattle.vax_states.specs.Sentences.{with_argument, with_pushed}
+use Rattle.tree_meaning.specs.Steps.{with_local_set, with_pushed}
+use Rattle.vax_states.specs.Sentences.{with_argument}
 use Rattle.vax_states.specs.Stack.{long_at, Extent, word_of, argument_of, Holds, Hold, SameFrom}
 use Rattle.vax_machine_lists.specs.Sound.{IsSound}
 use Rattle.vax_states.specs.Agreeing.{Agrees, HasRoom}

@@ -17,7 +17,7 @@ use Rattle.tree_core.specs.declared.program.Object.{Object}
 use Rattle.tree_core.specs.Area.{fetched, stored}
 use Rattle.tree_meaning.specs.State.{Activation}
 use Rattle.tree_meaning.specs.State.{State as Trees}
-use Rattle.tree_meaning.specs.Steps.{with_local_set}
+use Rattle.tree_meaning.specs.Steps.{with_local_set, with_pushed}
 use Rattle.vax_states.specs.Stack.{long_at, Extent, word_of, argument_of, Holds}
 use Rattle.vax_states.specs.Agreeing.{Agrees, HasRoom}
 
@@ -124,9 +124,6 @@ abbrev pub AreasAreWritten : Type 0
 AreasAreWritten =
     Always (λ objects e es t m h. (size : Size) (a v : ℕ) (area : List ℕ) → stored size t.area a v ≡ Some area
     → Leaves objects e es (record t { area = area }) (written m a size v))
-
-abbrev pub with_pushed : Trees → ℕ → Trees
-with_pushed t v = record t { running = record t.running { pushed = v ∷ t.running.pushed } }
 
 abbrev pub LongwordsArePushed : Type 0
 LongwordsArePushed = Always (λ objects e es t m h. (v : ℕ) → HasRoom m → v < 2 ^ 32 → Leaves objects e es (with_pushed t v) (pushed m v))
