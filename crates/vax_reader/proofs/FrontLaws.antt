@@ -18,7 +18,7 @@ use Rattle.gg_base.proofs.Facts.{guarded, unguarded}
 use Rattle.gg_base.specs.Fronts.{run_len}
 use Rattle.vax_core.specs.Text.{signed_text, offset_text}
 use Rattle.vax_reader.specs.Fronts.{strip, is_padded, number_of, number_front, at_most, at_least, up_to, from_one, below_zero, minus_front, signed_front, offset_front}
-use Rattle.vax_reader.proofs.Choices.{either_some, map_some}
+use Rattle.vax_reader.proofs.Choices.{map_or_some, map_some}
 
 -- words
 
@@ -186,7 +186,7 @@ signed_large n le = rw (le-ltb n (2 ^ 31) le) refl
 pub signed_takes : (bytes : List ℕ) (x : ℕ × List ℕ) → signed_front bytes ≡ Some x → SignedAt bytes x
 unfolding signed_front
 signed_takes bytes x e =
-    either_some (number_front bytes) (at_most 2147483647) (minus_front 2147483648 bytes) x e
+    map_or_some (number_front bytes) (at_most 2147483647) (minus_front 2147483648 bytes) x e
     (λ y ey more.
     let m = cond_some (leb y.0 2147483647) y x more in
     let small : y.0 ≤ 2147483647 = leb-true y.0 2147483647 m.0 in
@@ -227,7 +227,7 @@ offset_large (suc n) le = rw (le-ltb (suc n) (2 ^ 31) le) refl
 pub offset_takes : (bytes : List ℕ) (x : ℕ × List ℕ) → offset_front bytes ≡ Some x → OffsetAt bytes x
 unfolding offset_front
 offset_takes bytes x e =
-    either_some (strip (codes "+") bytes) (from_one 2147483647) _ x e
+    map_or_some (strip (codes "+") bytes) (from_one 2147483647) _ x e
     (λ r er more.
     let t = from_one_takes 2147483647 r x more in
     let one : 1 ≤ x.0 = t.0 in
@@ -238,7 +238,7 @@ offset_takes bytes x e =
       spelled = strip_takes (codes "+") bytes r er ∙ ap (λ (t : List ℕ). codes "+" ++ t) t.1.1 ∙ ap (λ (t : List ℕ). t ++ x.1) (sym (offset_small x.0 one (omega arith)));
     })
     (λ other.
-    either_some (strip (codes "-") bytes) (below_zero 2147483647) (Some (0, bytes)) x other
+    map_or_some (strip (codes "-") bytes) (below_zero 2147483647) (Some (0, bytes)) x other
     (λ r er more.
     let b = below_takes 2147483647 r x (omega arith) more in
     let low : 2 ^ 31 < x.0 = omega (arith, b.low) in

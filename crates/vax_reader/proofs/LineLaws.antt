@@ -17,7 +17,7 @@ use Rattle.vax_core.specs.Valid.{is_name, is_area_item, is_code_item}
 use Rattle.vax_reader.specs.Fronts.{strip, up_to, from_one, name_front, closed}
 use Rattle.vax_reader.specs.Operands.{addr_front}
 use Rattle.vax_reader.specs.Lines.{named_front, ended, area_item, code_item, counted_front, area_label, area_front, code_label, item_front, instr_front}
-use Rattle.vax_reader.proofs.Choices.{either_some, map_some}
+use Rattle.vax_reader.proofs.Choices.{map_or_some, map_some}
 use Rattle.vax_reader.proofs.FrontLaws.{strip_takes, up_to_takes, up_to_again, from_one_takes, from_one_again}
 use Rattle.vax_reader.proofs.NameLaws.{name_takes, name_again, closed_takes}
 use Rattle.vax_reader.proofs.OperandLaws.{AddrAt, addr_takes, addr_again, EndsAddr, line_ends}
@@ -117,11 +117,11 @@ align_takes bytes rest y e f =
 counted_takes : (bytes : List ℕ) (x : AreaItem × List ℕ) → counted_front bytes ≡ Some x → AreaAt bytes x
 unfolding counted_front
 counted_takes bytes x e =
-    either_some (strip (codes "\t.byte\t") bytes) (λ (rest : List ℕ). option_map (area_item areas.Byte) (ended (up_to 255 rest))) _ x e
+    map_or_some (strip (codes "\t.byte\t") bytes) (λ (rest : List ℕ). option_map (area_item areas.Byte) (ended (up_to 255 rest))) _ x e
     (λ rest er more. map_some (area_item areas.Byte) (ended (up_to 255 rest)) x more (λ y ey is. subst (AreaAt bytes) is (byte_takes bytes rest y er ey)))
-    (λ e1. either_some (strip (codes "\t.space\t") bytes) (λ (rest : List ℕ). option_map (area_item areas.Space) (ended (from_one 1048576 rest))) _ x e1
+    (λ e1. map_or_some (strip (codes "\t.space\t") bytes) (λ (rest : List ℕ). option_map (area_item areas.Space) (ended (from_one 1048576 rest))) _ x e1
     (λ rest er more. map_some (area_item areas.Space) (ended (from_one 1048576 rest)) x more (λ y ey is. subst (AreaAt bytes) is (space_takes bytes rest y er ey)))
-    (λ e2. either_some (strip (codes "\t.align\t") bytes) (λ (rest : List ℕ). option_map (area_item areas.Align) (ended (up_to 2 rest))) _ x e2
+    (λ e2. map_or_some (strip (codes "\t.align\t") bytes) (λ (rest : List ℕ). option_map (area_item areas.Align) (ended (up_to 2 rest))) _ x e2
     (λ rest er more. map_some (area_item areas.Align) (ended (up_to 2 rest)) x more (λ y ey is. subst (AreaAt bytes) is (align_takes bytes rest y er ey)))
     (λ e3. option_and_then_some (λ (rest : List ℕ). option_map (area_item areas.Word) (ended (up_to 65535 rest))) (strip (codes "\t.word\t") bytes) x e3
     (λ rest er more. map_some (area_item areas.Word) (ended (up_to 65535 rest)) x more (λ y ey is. subst (AreaAt bytes) is (word_takes bytes rest y er ey))))))
@@ -145,13 +145,13 @@ globl_text bytes rest y e n =
 pub area_takes : (bytes : List ℕ) (x : AreaItem × List ℕ) → area_front bytes ≡ Some x → AreaAt bytes x
 unfolding area_front
 area_takes bytes x e =
-    either_some (named_front (codes ":\n") bytes) area_label _ x e
+    map_or_some (named_front (codes ":\n") bytes) area_label _ x e
     (λ y ey more.
     let n = named_takes (codes ":\n") bytes y ey in
     subst (AreaAt bytes) (same_Some (areas.Label y.0, y.1) x more) (record { valid = n.0; spelled = n.1 ∙ sym (label_line y.0 y.1) }))
-    (λ e1. either_some (strip (codes "\t.long\t") bytes) (λ (rest : List ℕ). option_map (area_item areas.Long) (ended (addr_front rest))) _ x e1
+    (λ e1. map_or_some (strip (codes "\t.long\t") bytes) (λ (rest : List ℕ). option_map (area_item areas.Long) (ended (addr_front rest))) _ x e1
     (λ rest er more. map_some (area_item areas.Long) (ended (addr_front rest)) x more (λ y ey is. subst (AreaAt bytes) is (long_takes bytes rest y er ey)))
-    (λ e2. either_some (strip (codes "\t.globl\t") bytes) (λ (rest : List ℕ). option_map (area_item areas.Globl) (named_front (codes "\n") rest)) _ x e2
+    (λ e2. map_or_some (strip (codes "\t.globl\t") bytes) (λ (rest : List ℕ). option_map (area_item areas.Globl) (named_front (codes "\n") rest)) _ x e2
     (λ rest er more. map_some (area_item areas.Globl) (named_front (codes "\n") rest) x more (λ y ey is.
     let n = named_takes (codes "\n") rest y ey in
     subst (AreaAt bytes) is (record { valid = n.0; spelled = globl_text bytes rest y er n })))
@@ -227,15 +227,15 @@ instr_line_takes bytes rest y e f =
 pub item_takes : (bytes : List ℕ) (x : CodeItem × List ℕ) → item_front bytes ≡ Some x → ItemAt bytes x
 unfolding item_front
 item_takes bytes x e =
-    either_some (named_front (codes ":\n") bytes) code_label _ x e
+    map_or_some (named_front (codes ":\n") bytes) code_label _ x e
     (λ y ey more.
     let n = named_takes (codes ":\n") bytes y ey in
     subst (ItemAt bytes) (same_Some (item_kind.Label y.0, y.1) x more) (record { valid = n.0; spelled = n.1 ∙ sym (label_line y.0 y.1) }))
-    (λ e1. either_some (strip (codes "\t.globl\t") bytes) (λ (rest : List ℕ). option_map (code_item item_kind.Globl) (named_front (codes "\n") rest)) _ x e1
+    (λ e1. map_or_some (strip (codes "\t.globl\t") bytes) (λ (rest : List ℕ). option_map (code_item item_kind.Globl) (named_front (codes "\n") rest)) _ x e1
     (λ rest er more. map_some (code_item item_kind.Globl) (named_front (codes "\n") rest) x more (λ y ey is.
     let n = named_takes (codes "\n") rest y ey in
     subst (ItemAt bytes) is (record { valid = n.0; spelled = globl_text bytes rest y er n })))
-    (λ e2. either_some (strip (codes "\t.word\t") bytes) (λ (rest : List ℕ). option_map (code_item item_kind.Mask) (ended (up_to 4095 rest))) _ x e2
+    (λ e2. map_or_some (strip (codes "\t.word\t") bytes) (λ (rest : List ℕ). option_map (code_item item_kind.Mask) (ended (up_to 4095 rest))) _ x e2
     (λ rest er more. map_some (code_item item_kind.Mask) (ended (up_to 4095 rest)) x more (λ y ey is.
     let n = number_takes (codes "\t.word\t") bytes rest 4095 y er ey in
     subst (ItemAt bytes) is (record { valid = le-leb y.0 4095 n.0; spelled = n.1 })))

@@ -15,7 +15,7 @@ use Rattle.vax_core.specs.Registers.{reg_text}
 use Rattle.vax_core.specs.Text.{at_text}
 use Rattle.vax_core.specs.Valid.{is_name_start, is_name_part, is_name}
 use Rattle.vax_reader.specs.Fronts.{strip, number_front, name_of, name_front, general, numbered, general_front, found_reg, reg_front, closed, at_front}
-use Rattle.vax_reader.proofs.Choices.{either_some, map_some}
+use Rattle.vax_reader.proofs.Choices.{map_or_some, map_some}
 use Rattle.vax_reader.proofs.FrontLaws.{strip_takes, EndsNumber, number_takes, number_again}
 
 -- names
@@ -150,11 +150,11 @@ fixed_takes word r bytes rest x is e f =
 pub reg_takes : (bytes : List ℕ) (x : Reg × List ℕ) → reg_front bytes ≡ Some x → RegAt bytes x
 unfolding reg_front
 reg_takes bytes x e =
-    either_some (strip (codes "r") bytes) general_front _ x e
+    map_or_some (strip (codes "r") bytes) general_front _ x e
     (λ rest er more. strip_takes (codes "r") bytes rest er ∙ general_takes rest x more)
-    (λ e1. either_some (strip (codes "ap") bytes) (found_reg Ap) _ x e1
+    (λ e1. map_or_some (strip (codes "ap") bytes) (found_reg Ap) _ x e1
     (λ rest er more. fixed_takes (codes "ap") Ap bytes rest x refl er more)
-    (λ e2. either_some (strip (codes "fp") bytes) (found_reg Fp) _ x e2
+    (λ e2. map_or_some (strip (codes "fp") bytes) (found_reg Fp) _ x e2
     (λ rest er more. fixed_takes (codes "fp") Fp bytes rest x refl er more)
     (λ e3. option_and_then_some (found_reg Sp) (strip (codes "sp") bytes) x e3
     (λ rest er more. fixed_takes (codes "sp") Sp bytes rest x refl er more))))

@@ -2,7 +2,7 @@
 use Rattle.std.proofs.Common.{◌≡◌, inl, inr, ℕ, zero, suc, ◌-◌, ◌^◌, ◌<◌, Bool, true, false, cond, eqb, ltb, ◌&&◌, not, List, [], ◌∷◌, ◌++◌, Option, Some, None, refl, sym, ap}
 use Rattle.std.proofs.Common.{subst, ◌∙◌, append_assoc}
 use Rattle.std.specs.Prelude.{codes}
-use Rattle.std.specs.Option.{option_and_then}
+use Rattle.std.specs.Option.{option_and_then, option_map_or}
 use Rattle.std.specs.Fmt.{decimal}
 use Rattle.std.proofs.lemmas.Bool.{eqb-true, ltb-true, lt-ltb, and_parts, or_cases, not-true}
 use Rattle.std.proofs.lemmas.Option.{none-some, same_Some, option_and_then_some}
@@ -16,10 +16,10 @@ use Rattle.vax_core.specs.Registers.{reg_text}
 use Rattle.vax_core.specs.Text.{signed_text, offset_text, addr_text_of, addr_text, at_text, base_text, index_text, operand_text}
 use Rattle.vax_core.specs.Valid.{is_name_start, is_name, is_long, is_named_addr, is_addr_of, is_addr, is_base}
 use Rattle.vax_core.proofs.ValidLaws.{named_is_addr}
-use Rattle.vax_reader.specs.Fronts.{either, strip, number_front, signed_front, offset_front, name_front, reg_front, closed, at_front}
+use Rattle.vax_reader.specs.Fronts.{strip, number_front, signed_front, offset_front, name_front, reg_front, closed, at_front}
 use Rattle.vax_reader.specs.Operands.{number_addr, labelled, label_addr, addr_front, base_at, alone, near, far, absolute, stepped, deferred_front, immediate, at_or_stepped}
 use Rattle.vax_reader.specs.Operands.{plain_front, base_front, some_index, index_front, with_index, indexed, operand_front}
-use Rattle.vax_reader.proofs.Choices.{either_some, map_some}
+use Rattle.vax_reader.proofs.Choices.{map_or_some, map_some}
 use Rattle.vax_reader.proofs.FrontLaws.{strip_takes, EndsOffset, signed_takes, signed_again, offset_takes, offset_again}
 use Rattle.vax_reader.proofs.NameLaws.{EndsName, name_takes, name_again, reg_takes, reg_again, reg_closed_takes, at_takes, at_again}
 
@@ -32,7 +32,7 @@ pub record AddrAt (bytes : List ℕ) (x : Addr × List ℕ) : Type 0 where
 pub addr_takes : (bytes : List ℕ) (x : Addr × List ℕ) → addr_front bytes ≡ Some x → AddrAt bytes x
 unfolding addr_front
 addr_takes bytes x e =
-    either_some (signed_front bytes) number_addr _ x e
+    map_or_some (signed_front bytes) number_addr _ x e
     (λ y ey more.
     let s = signed_takes bytes y ey in
     subst (AddrAt bytes) (same_Some _ x more) (record { valid = lt-ltb y.0 (2 ^ 32) s.0; spelled = s.1 }))
@@ -120,7 +120,7 @@ alone_is base (Some name) rest y e = same_Some (base, rest) y e
 
 near_takes : (bytes : List ℕ) (x : Addr × List ℕ) (y : Base × List ℕ) → AddrAt bytes x → near x ≡ Some y → BaseAt bytes y
 near_takes bytes x y h e =
-    either_some (at_front x.1) (base_at (bases.Disp x.0)) (alone (bases.Rel x.0) x.0.name x.1) y e
+    map_or_some (at_front x.1) (base_at (bases.Disp x.0)) (alone (bases.Rel x.0) x.0.name x.1) y e
     (λ z ez more. subst (BaseAt bytes) (same_Some (bases.Disp x.0 z.0, z.1) y more) (record {
       spelled = h.spelled ∙ ap (λ (t : List ℕ). addr_text x.0 ++ t) (at_takes x.1 z ez) ∙ sym (append_assoc (addr_text x.0) (at_text z.0) z.1);
     }))
@@ -128,7 +128,7 @@ near_takes bytes x y h e =
 
 far_takes : (bytes : List ℕ) (x : Addr × List ℕ) (y : Base × List ℕ) → AddrAt bytes x → far x ≡ Some y → BaseAt (codes "*" ++ bytes) y
 far_takes bytes x y h e =
-    either_some (at_front x.1) (base_at (bases.DispDef x.0)) (alone (bases.RelDef x.0) x.0.name x.1) y e
+    map_or_some (at_front x.1) (base_at (bases.DispDef x.0)) (alone (bases.RelDef x.0) x.0.name x.1) y e
     (λ z ez more. subst (BaseAt (codes "*" ++ bytes)) (same_Some (bases.DispDef x.0 z.0, z.1) y more) (record {
       spelled = ap (λ (t : List ℕ). codes "*" ++ t) (h.spelled ∙ ap (λ (t : List ℕ). addr_text x.0 ++ t) (at_takes x.1 z ez) ∙ sym (append_assoc (addr_text x.0) (at_text z.0) z.1));
     }))
@@ -137,9 +137,9 @@ far_takes bytes x y h e =
 deferred_takes : (bytes : List ℕ) (y : Base × List ℕ) → deferred_front bytes ≡ Some y → BaseAt (codes "*" ++ bytes) y
 unfolding deferred_front
 deferred_takes bytes y e =
-    either_some (addr_front bytes) far _ y e
+    map_or_some (addr_front bytes) far _ y e
     (λ x ex more. far_takes bytes x y (addr_takes bytes x ex) more)
-    (λ e1. either_some (strip (codes "$") bytes) (λ (rest : List ℕ). option_and_then absolute (signed_front rest)) _ y e1
+    (λ e1. map_or_some (strip (codes "$") bytes) (λ (rest : List ℕ). option_and_then absolute (signed_front rest)) _ y e1
     (λ rest er more. option_and_then_some absolute (signed_front rest) y more (λ x ex is.
     let s = signed_takes rest x ex in
     subst (BaseAt (codes "*" ++ bytes)) (same_Some (bases.Abs x.0, x.1) y is) (record {
@@ -154,7 +154,7 @@ deferred_takes bytes y e =
 
 at_or_stepped_takes : (bytes : List ℕ) (x : Reg × List ℕ) (y : Base × List ℕ) → bytes ≡ at_text x.0 ++ x.1 → at_or_stepped x ≡ Some y → BaseAt bytes y
 at_or_stepped_takes bytes x y h e =
-    either_some (strip (codes "+") x.1) (λ (rest : List ℕ). Some (bases.Inc x.0, rest)) (Some (bases.Def x.0, x.1)) y e
+    map_or_some (strip (codes "+") x.1) (λ (rest : List ℕ). Some (bases.Inc x.0, rest)) (Some (bases.Def x.0, x.1)) y e
     (λ rest er is. subst (BaseAt bytes) (same_Some (bases.Inc x.0, rest) y is) (record {
       spelled = h ∙ ap (λ (t : List ℕ). at_text x.0 ++ t) (strip_takes (codes "+") x.1 rest er) ∙ sym (append_assoc (at_text x.0) (codes "+") rest);
     }))
@@ -163,14 +163,14 @@ at_or_stepped_takes bytes x y h e =
 plain_takes : (bytes : List ℕ) (y : Base × List ℕ) → plain_front bytes ≡ Some y → BaseAt bytes y
 unfolding plain_front
 plain_takes bytes y e =
-    either_some (strip (codes "$") bytes) (λ (rest : List ℕ). option_and_then immediate (addr_front rest)) _ y e
+    map_or_some (strip (codes "$") bytes) (λ (rest : List ℕ). option_and_then immediate (addr_front rest)) _ y e
     (λ rest er more. option_and_then_some immediate (addr_front rest) y more (λ x ex is.
     let a = addr_takes rest x ex in
     subst (BaseAt bytes) (same_Some (bases.Imm x.0, x.1) y is) (record { spelled = strip_takes (codes "$") bytes rest er ∙ ap (λ (t : List ℕ). codes "$" ++ t) a.spelled })))
-    (λ e1. either_some (strip (codes "-") bytes) (λ (rest : List ℕ). option_and_then (base_at bases.Dec) (at_front rest)) _ y e1
+    (λ e1. map_or_some (strip (codes "-") bytes) (λ (rest : List ℕ). option_and_then (base_at bases.Dec) (at_front rest)) _ y e1
     (λ rest er more. option_and_then_some (base_at bases.Dec) (at_front rest) y more (λ x ex is.
     subst (BaseAt bytes) (same_Some (bases.Dec x.0, x.1) y is) (record { spelled = strip_takes (codes "-") bytes rest er ∙ ap (λ (t : List ℕ). codes "-" ++ t) (at_takes rest x ex) })))
-    (λ e2. either_some (at_front bytes) at_or_stepped _ y e2
+    (λ e2. map_or_some (at_front bytes) at_or_stepped _ y e2
     (λ x ex more. at_or_stepped_takes bytes x y (at_takes bytes x ex) more)
     (λ e3. option_and_then_some (base_at bases.Reg) (reg_front bytes) y e3 (λ x ex is.
     subst (BaseAt bytes) (same_Some (bases.Reg x.0, x.1) y is) (record { spelled = reg_takes bytes x ex })))))
@@ -178,9 +178,9 @@ plain_takes bytes y e =
 pub base_takes : (bytes : List ℕ) (y : Base × List ℕ) → base_front bytes ≡ Some y → BaseAt bytes y
 unfolding base_front
 base_takes bytes y e =
-    either_some (addr_front bytes) near _ y e
+    map_or_some (addr_front bytes) near _ y e
     (λ x ex more. near_takes bytes x y (addr_takes bytes x ex) more)
-    (λ e1. either_some (strip (codes "*") bytes) deferred_front (plain_front bytes) y e1
+    (λ e1. map_or_some (strip (codes "*") bytes) deferred_front (plain_front bytes) y e1
     (λ rest er more. subst (λ (t : List ℕ). BaseAt t y) (sym (strip_takes (codes "*") bytes rest er)) (deferred_takes rest y more))
     (λ e2. plain_takes bytes y e2))
 
@@ -220,7 +220,7 @@ by_dec : (cs : List ℕ) → base_front (45 ∷ (40 ∷ cs)) ≡ option_and_then
 unfolding base_front plain_front
 by_dec cs = rw (no_addr_dec cs) refl
 
-by_at : (cs : List ℕ) → base_front (40 ∷ cs) ≡ either (at_front (40 ∷ cs)) at_or_stepped (option_and_then (base_at bases.Reg) (reg_front (40 ∷ cs)))
+by_at : (cs : List ℕ) → base_front (40 ∷ cs) ≡ option_map_or at_or_stepped (at_front (40 ∷ cs)) (option_and_then (base_at bases.Reg) (reg_front (40 ∷ cs)))
 unfolding base_front plain_front
 by_at cs = rw (no_addr_at cs) refl
 
@@ -296,7 +296,7 @@ IndexAt bytes x = bytes ≡ index_text x.0 ++ x.1
 index_takes : (bytes : List ℕ) (x : Option Reg × List ℕ) → index_front bytes ≡ Some x → IndexAt bytes x
 unfolding index_front
 index_takes bytes x e =
-    either_some (strip (codes "[") bytes) (λ (inner : List ℕ). option_and_then some_index (option_and_then (closed (codes "]")) (reg_front inner))) (Some (None, bytes)) x e
+    map_or_some (strip (codes "[") bytes) (λ (inner : List ℕ). option_and_then some_index (option_and_then (closed (codes "]")) (reg_front inner))) (Some (None, bytes)) x e
     (λ inner ei more.
     option_and_then_some some_index (option_and_then (closed (codes "]")) (reg_front inner)) x more (λ y ey is.
     option_and_then_some (closed (codes "]")) (reg_front inner) y ey (λ z ez end.

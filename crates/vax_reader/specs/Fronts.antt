@@ -4,16 +4,11 @@ use Rattle.std.specs.Prelude.{ℕ, ◌-◌, ◌^◌, Bool, false, ◌==◌, nat_
 use Rattle.std.specs.Prelude.{Some, None, if◌then◌else◌, codes}
 use Rattle.std.specs.Char.{is_ascii_digit}
 use Rattle.std.specs.Str.Parse.{digits_value}
-use Rattle.std.specs.Option.{option_and_then, option_map}
+use Rattle.std.specs.Option.{option_and_then, option_map, option_map_or}
 use Rattle.gg_base.specs.Fronts.{run_len}
 use Rattle.vax_core.specs.declared.register.Reg.{Reg}
 use Rattle.vax_core.specs.declared.register.Reg.TheVariants as regs
 use Rattle.vax_core.specs.Valid.{is_name_start, is_name_part}
-
--- what follows from a first reading where it finds something, else another reading
-abbrev pub either : {A B : Type 0} → Option A → (A → Option B) → Option B → Option B
-either (Some x) f other = f x
-either None f other = other
 
 -- what is left behind a word that stands at the front
 abbrev pub strip : List ℕ → List ℕ → Option (List ℕ)
@@ -60,13 +55,13 @@ minus_front limit bytes = option_and_then (below_zero limit) (strip (codes "-") 
 
 -- a number with its sign, on 32 bits
 unfoldable pub signed_front : List ℕ → Option (ℕ × List ℕ)
-signed_front bytes = either (number_front bytes) (at_most 2147483647) (minus_front 2147483648 bytes)
+signed_front bytes = option_map_or (at_most 2147483647) (number_front bytes) (minus_front 2147483648 bytes)
 
 -- an offset behind a name, which may be missing
 unfoldable pub offset_front : List ℕ → Option (ℕ × List ℕ)
 offset_front bytes =
-    either (strip (codes "+") bytes) (from_one 2147483647)
-    (either (strip (codes "-") bytes) (below_zero 2147483647) (Some (0, bytes)))
+    option_map_or (from_one 2147483647) (strip (codes "+") bytes)
+    (option_map_or (below_zero 2147483647) (strip (codes "-") bytes) (Some (0, bytes)))
 
 -- a name of at most 64 bytes
 abbrev pub name_of : ℕ → List ℕ → ℕ → Option (List ℕ × List ℕ)
@@ -105,9 +100,9 @@ found_reg r rest = Some (r, rest)
 -- a register
 unfoldable pub reg_front : List ℕ → Option (Reg × List ℕ)
 reg_front bytes =
-    either (strip (codes "r") bytes) general_front
-    (either (strip (codes "ap") bytes) (found_reg regs.Ap)
-    (either (strip (codes "fp") bytes) (found_reg regs.Fp)
+    option_map_or general_front (strip (codes "r") bytes)
+    (option_map_or (found_reg regs.Ap) (strip (codes "ap") bytes)
+    (option_map_or (found_reg regs.Fp) (strip (codes "fp") bytes)
     (option_and_then (found_reg regs.Sp) (strip (codes "sp") bytes))))
 
 -- a word, then a closing word behind what is read

@@ -1,7 +1,7 @@
 -- Instructions and lines at the front of some bytes, as the reader computes them.
 use Rattle.std.specs.Prelude.{ℕ, Bool, true, false, not, ◌==◌, ◌||◌, List, [], ◌∷◌, ◌++◌, take, drop, Option}
 use Rattle.std.specs.Prelude.{Some, None, if◌then◌else◌, codes}
-use Rattle.std.specs.Option.{option_and_then, option_map}
+use Rattle.std.specs.Option.{option_and_then, option_map, option_map_or}
 use Rattle.gg_base.specs.Fronts.{run_len}
 use Rattle.vax_core.specs.declared.operand.Operand.{Operand}
 use Rattle.vax_core.specs.declared.op.Op.{Op}
@@ -14,7 +14,7 @@ use Rattle.vax_core.specs.declared.code.CodeItem.TheVariants as item_kind
 use Rattle.vax_core.specs.Ops.{shape}
 use Rattle.vax_core.specs.Mnemonics.{op_of}
 use Rattle.vax_core.specs.Valid.{is_instr}
-use Rattle.vax_reader.specs.Fronts.{either, strip, up_to, from_one, name_front, closed}
+use Rattle.vax_reader.specs.Fronts.{strip, up_to, from_one, name_front, closed}
 use Rattle.vax_reader.specs.Operands.{addr_front, operand_front}
 
 -- a byte of a word: neither a TAB nor a line feed
@@ -94,9 +94,10 @@ code_item item x = (item x.0, x.1)
 -- a line of the data area that holds a number without sign
 unfoldable pub counted_front : List ℕ → Option (AreaItem × List ℕ)
 counted_front bytes =
-    either (strip (codes "\t.byte\t") bytes) (λ (rest : List ℕ). option_map (area_item areas.Byte) (ended (up_to 255 rest)))
-    (either (strip (codes "\t.space\t") bytes) (λ (rest : List ℕ). option_map (area_item areas.Space) (ended (from_one 1048576 rest)))
-    (either (strip (codes "\t.align\t") bytes) (λ (rest : List ℕ). option_map (area_item areas.Align) (ended (up_to 2 rest)))
+    option_map_or (λ (rest : List ℕ). option_map (area_item areas.Byte) (ended (up_to 255 rest))) (strip (codes "\t.byte\t") bytes)
+    (option_map_or (λ (rest : List ℕ). option_map (area_item areas.Space) (ended (from_one 1048576 rest)))
+    (strip (codes "\t.space\t") bytes)
+    (option_map_or (λ (rest : List ℕ). option_map (area_item areas.Align) (ended (up_to 2 rest))) (strip (codes "\t.align\t") bytes)
     (option_and_then (λ (rest : List ℕ). option_map (area_item areas.Word) (ended (up_to 65535 rest))) (strip (codes "\t.word\t") bytes))))
 
 abbrev pub area_label : List ℕ × List ℕ → Option (AreaItem × List ℕ)
@@ -105,9 +106,10 @@ area_label x = Some (area_item areas.Label x)
 -- a line of the data area
 unfoldable pub area_front : List ℕ → Option (AreaItem × List ℕ)
 area_front bytes =
-    either (named_front (codes ":\n") bytes) area_label
-    (either (strip (codes "\t.long\t") bytes) (λ (rest : List ℕ). option_map (area_item areas.Long) (ended (addr_front rest)))
-    (either (strip (codes "\t.globl\t") bytes) (λ (rest : List ℕ). option_map (area_item areas.Globl) (named_front (codes "\n") rest))
+    option_map_or area_label (named_front (codes ":\n") bytes)
+    (option_map_or (λ (rest : List ℕ). option_map (area_item areas.Long) (ended (addr_front rest))) (strip (codes "\t.long\t") bytes)
+    (option_map_or (λ (rest : List ℕ). option_map (area_item areas.Globl) (named_front (codes "\n") rest))
+    (strip (codes "\t.globl\t") bytes)
     (counted_front bytes)))
 
 abbrev pub code_label : List ℕ × List ℕ → Option (CodeItem × List ℕ)
@@ -116,7 +118,8 @@ code_label x = Some (code_item item_kind.Label x)
 -- a line of the code
 unfoldable pub item_front : List ℕ → Option (CodeItem × List ℕ)
 item_front bytes =
-    either (named_front (codes ":\n") bytes) code_label
-    (either (strip (codes "\t.globl\t") bytes) (λ (rest : List ℕ). option_map (code_item item_kind.Globl) (named_front (codes "\n") rest))
-    (either (strip (codes "\t.word\t") bytes) (λ (rest : List ℕ). option_map (code_item item_kind.Mask) (ended (up_to 4095 rest)))
+    option_map_or code_label (named_front (codes ":\n") bytes)
+    (option_map_or (λ (rest : List ℕ). option_map (code_item item_kind.Globl) (named_front (codes "\n") rest))
+    (strip (codes "\t.globl\t") bytes)
+    (option_map_or (λ (rest : List ℕ). option_map (code_item item_kind.Mask) (ended (up_to 4095 rest))) (strip (codes "\t.word\t") bytes)
     (option_and_then (λ (rest : List ℕ). option_map (code_item item_kind.Instr) (ended (instr_front rest))) (strip (codes "\t") bytes))))
