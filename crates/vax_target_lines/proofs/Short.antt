@@ -1,7 +1,7 @@
 -- The numbers that a line spells are longwords.
 use Rattle.std.proofs.Common.{◌≡◌, ℕ, ◌+◌, ◌-◌, ◌^◌, ◌<◌, ◌⊎◌, inl, inr, ◌++◌, Bool, true, false, cond, List, [], ◌∷◌, Option, Some, None, refl, ap, subst, arith}
 use Rattle.std.specs.Prelude.{nat_le, ◌&&◌}
-use Rattle.std.specs.Option.{option_and_then, option_map}
+use Rattle.std.specs.Option.{option_and_then, option_map, option_map_or}
 use Rattle.std.specs.List.{AllByRecursion}
 use Rattle.std.proofs.lemmas.Bool.{leb-true}
 use Rattle.std.proofs.lemmas.Option.{none-some, same_Some, cond_some}
@@ -22,7 +22,7 @@ use Rattle.vax_templates.specs.declared.form.Number.TheVariants as number
 use Rattle.vax_templates.specs.declared.form.Base.{Base}
 use Rattle.vax_templates.specs.declared.form.Base.TheVariants as base
 use Rattle.vax_templates.specs.declared.form.Form.{Form}
-use Rattle.vax_templates.specs.Marks.{marks_of, either, strip, hole_front, number_front, positive, negative, below_zero, signed_front, at_front}
+use Rattle.vax_templates.specs.Marks.{marks_of, strip, hole_front, number_front, positive, negative, below_zero, signed_front, at_front}
 use Rattle.vax_templates.specs.Forms.{of_symbol, itself, number_spelled, of_number, of_hole, alone, near, far, deferred_front, negative_hole, immediate_front, named_front}
 use Rattle.vax_templates.specs.Forms.{base_front, index_front, with_index, indexed, form_front}
 use Rattle.vax_templates.specs.Instructions.{Instruction, Relation, Jump, Calls, Ret, Operates, forms_from, only, behind_blank, is_label, is_call, is_empty, jumps, operates}
@@ -32,9 +32,9 @@ use Rattle.vax_target_operands.proofs.Machine.{mapped, then_some}
 
 -- ---- readings
 
-pub either_some : {A B : Type 0} (o : Option A) (f : A → Option B) (other : Option B) (y : B) → either o f other ≡ Some y → ((x : A) × (o ≡ Some x) × (f x ≡ Some y)) ⊎ (other ≡ Some y)
-either_some (Some x) f other y e = inl (x, refl, e)
-either_some None f other y e = inr e
+pub map_or_some : {A B : Type 0} (o : Option A) (f : A → Option B) (other : Option B) (y : B) → option_map_or f o other ≡ Some y → ((x : A) × (o ≡ Some x) × (f x ≡ Some y)) ⊎ (other ≡ Some y)
+map_or_some (Some x) f other y e = inl (x, refl, e)
+map_or_some None f other y e = inr e
 
 positive_short : (x y : ℕ × List Mark) → positive x ≡ Some y → y.0 < 2 ^ 32
 positive_short x y e =
@@ -52,7 +52,7 @@ negative_short x y e =
 
 signed_short : (ms : List Mark) (y : ℕ × List Mark) → signed_front ms ≡ Some y → y.0 < 2 ^ 32
 unfolding signed_front
-signed_short ms y e = by (either_some (number_front ms) positive (option_and_then below_zero (strip 45 ms)) y e) where
+signed_short ms y e = by (map_or_some (number_front ms) positive (option_and_then below_zero (strip 45 ms)) y e) where
   by : ((x : ℕ × List Mark) × (number_front ms ≡ Some x) × (positive x ≡ Some y)) ⊎ (option_and_then below_zero (strip 45 ms) ≡ Some y) → y.0 < 2 ^ 32
   by (inl p) = positive_short p.0 y p.2
   by (inr q) =
@@ -62,7 +62,7 @@ signed_short ms y e = by (either_some (number_front ms) positive (option_and_the
 
 number_short : (ms : List Mark) (y : Number × List Mark) → number_spelled ms ≡ Some y → IsShort y.0
 unfolding number_spelled
-number_short ms y e = by (either_some (hole_front ms) of_symbol (option_map itself (signed_front ms)) y e) where
+number_short ms y e = by (map_or_some (hole_front ms) of_symbol (option_map itself (signed_front ms)) y e) where
   by : ((x : ℕ × List Mark) × (hole_front ms ≡ Some x) × (of_symbol x ≡ Some y)) ⊎ (option_map itself (signed_front ms) ≡ Some y) → IsShort y.0
   by (inl p) = subst (λ (z : Number × List Mark). IsShort z.0) (same_Some (number.Symbol p.0.0, p.0.1) y p.2) tt
   by (inr q) =
@@ -82,13 +82,13 @@ alone_short made (number.Itself n) rest y h e = absurd (none-some y e)
 alone_short made (number.Symbol i) rest y h e = subst Short (same_Some (made i, rest) y e) (h i)
 
 near_short : (x : Number × List Mark) (y : Base × List Mark) → IsShort x.0 → near x ≡ Some y → Short y
-near_short x y h e = by (either_some (at_front x.1) (of_hole (base.Displacement x.0)) (alone base.Hole x.0 x.1) y e) where
+near_short x y h e = by (map_or_some (at_front x.1) (of_hole (base.Displacement x.0)) (alone base.Hole x.0 x.1) y e) where
   by : ((z : ℕ × List Mark) × (at_front x.1 ≡ Some z) × (of_hole (base.Displacement x.0) z ≡ Some y)) ⊎ (alone base.Hole x.0 x.1 ≡ Some y) → Short y
   by (inl p) = hole_short (base.Displacement x.0) p.0 y h p.2
   by (inr q) = alone_short base.Hole x.0 x.1 y (λ i. tt) q
 
 far_short : (x : Number × List Mark) (y : Base × List Mark) → IsShort x.0 → far x ≡ Some y → Short y
-far_short x y h e = by (either_some (at_front x.1) (of_hole (base.DisplacementDeferred x.0)) (alone base.Deferred x.0 x.1) y e) where
+far_short x y h e = by (map_or_some (at_front x.1) (of_hole (base.DisplacementDeferred x.0)) (alone base.Deferred x.0 x.1) y e) where
   by : ((z : ℕ × List Mark) × (at_front x.1 ≡ Some z) × (of_hole (base.DisplacementDeferred x.0) z ≡ Some y)) ⊎ (alone base.Deferred x.0 x.1 ≡ Some y) → Short y
   by (inl p) = hole_short (base.DisplacementDeferred x.0) p.0 y h p.2
   by (inr q) = alone_short base.Deferred x.0 x.1 y (λ i. tt) q
@@ -101,14 +101,14 @@ of_number_short made ms y h e =
 
 deferred_short : (ms : List Mark) (y : Base × List Mark) → deferred_front ms ≡ Some y → Short y
 unfolding deferred_front
-deferred_short ms y e = by (either_some (strip 36 ms) (λ (rest : List Mark). option_and_then (of_number base.Absolute) (number_spelled rest)) (option_and_then far (number_spelled ms)) y e) where
+deferred_short ms y e = by (map_or_some (strip 36 ms) (λ (rest : List Mark). option_and_then (of_number base.Absolute) (number_spelled rest)) (option_and_then far (number_spelled ms)) y e) where
   by : ((z : List Mark) × (strip 36 ms ≡ Some z) × (option_and_then (of_number base.Absolute) (number_spelled z) ≡ Some y)) ⊎ (option_and_then far (number_spelled ms) ≡ Some y) → Short y
   by (inl p) = of_number_short base.Absolute p.0 y (λ n h. h) p.2
   by (inr q) = let r = then_some far (number_spelled ms) y q in far_short r.0 y (number_short ms r.0 r.1) r.2
 
 immediate_short : (ms : List Mark) (y : Base × List Mark) → immediate_front ms ≡ Some y → Short y
 unfolding immediate_front
-immediate_short ms y e = by (either_some (negative_hole ms) (of_hole base.Negative) (option_and_then (of_number base.Immediate) (number_spelled ms)) y e) where
+immediate_short ms y e = by (map_or_some (negative_hole ms) (of_hole base.Negative) (option_and_then (of_number base.Immediate) (number_spelled ms)) y e) where
   by : ((z : ℕ × List Mark) × (negative_hole ms ≡ Some z) × (of_hole base.Negative z ≡ Some y)) ⊎ (option_and_then (of_number base.Immediate) (number_spelled ms) ≡ Some y) → Short y
   by (inl p) = hole_short base.Negative p.0 y tt p.2
   by (inr q) = of_number_short base.Immediate ms y (λ n h. h) q
@@ -117,32 +117,32 @@ named_short : (ms : List Mark) (y : Base × List Mark) → named_front ms ≡ So
 named_short ms y e = let r = then_some (λ (rest : List Mark). Some (base.RegisterZero, rest)) (strip 48 ms) y e in subst Short (same_Some (base.RegisterZero, r.0) y r.2) tt
 
 abbrev behind_named : List Mark → Option (Base × List Mark)
-behind_named ms = either (at_front ms) (of_hole base.RegisterDeferred) (option_and_then near (number_spelled ms))
+behind_named ms = option_map_or (of_hole base.RegisterDeferred) (at_front ms) (option_and_then near (number_spelled ms))
 
 abbrev behind_immediate : List Mark → Option (Base × List Mark)
-behind_immediate ms = either (strip 114 ms) named_front (behind_named ms)
+behind_immediate ms = option_map_or named_front (strip 114 ms) (behind_named ms)
 
 abbrev behind_star : List Mark → Option (Base × List Mark)
-behind_star ms = either (strip 36 ms) immediate_front (behind_immediate ms)
+behind_star ms = option_map_or immediate_front (strip 36 ms) (behind_immediate ms)
 
 base_short : (ms : List Mark) (y : Base × List Mark) → base_front ms ≡ Some y → Short y
 unfolding base_front
-base_short ms y e = first (either_some (strip 42 ms) deferred_front (behind_star ms) y e) where
+base_short ms y e = first (map_or_some (strip 42 ms) deferred_front (behind_star ms) y e) where
   fourth : ((z : ℕ × List Mark) × (at_front ms ≡ Some z) × (of_hole base.RegisterDeferred z ≡ Some y)) ⊎ (option_and_then near (number_spelled ms) ≡ Some y) → Short y
   fourth (inl p) = hole_short base.RegisterDeferred p.0 y tt p.2
   fourth (inr q) = let r = then_some near (number_spelled ms) y q in near_short r.0 y (number_short ms r.0 r.1) r.2
 
   third : ((z : List Mark) × (strip 114 ms ≡ Some z) × (named_front z ≡ Some y)) ⊎ (behind_named ms ≡ Some y) → Short y
   third (inl p) = named_short p.0 y p.2
-  third (inr q) = fourth (either_some (at_front ms) (of_hole base.RegisterDeferred) (option_and_then near (number_spelled ms)) y q)
+  third (inr q) = fourth (map_or_some (at_front ms) (of_hole base.RegisterDeferred) (option_and_then near (number_spelled ms)) y q)
 
   second : ((z : List Mark) × (strip 36 ms ≡ Some z) × (immediate_front z ≡ Some y)) ⊎ (behind_immediate ms ≡ Some y) → Short y
   second (inl p) = immediate_short p.0 y p.2
-  second (inr q) = third (either_some (strip 114 ms) named_front (behind_named ms) y q)
+  second (inr q) = third (map_or_some (strip 114 ms) named_front (behind_named ms) y q)
 
   first : ((z : List Mark) × (strip 42 ms ≡ Some z) × (deferred_front z ≡ Some y)) ⊎ (behind_star ms ≡ Some y) → Short y
   first (inl p) = deferred_short p.0 y p.2
-  first (inr q) = second (either_some (strip 36 ms) immediate_front (behind_immediate ms) y q)
+  first (inr q) = second (map_or_some (strip 36 ms) immediate_front (behind_immediate ms) y q)
 
 pub form_short : (ms : List Mark) (y : Form × List Mark) → form_front ms ≡ Some y → BaseIsShort y.0.base
 unfolding form_front
@@ -205,7 +205,7 @@ relation_by true ms j e = let r = then_some relation_behind (hole_front ms) j e 
 relation_by false ms j e = absurd (none-some j e)
 
 pub instruction_short : (ps : List Piece) (j : Instruction) → instruction_of ps ≡ Some j → IsShortLine j
-instruction_short ps j e = by (either_some (op_of (word_of ps)) (with_op (marks_behind ps)) (relation (word_of ps) (marks_behind ps)) j e) where
+instruction_short ps j e = by (map_or_some (op_of (word_of ps)) (with_op (marks_behind ps)) (relation (word_of ps) (marks_behind ps)) j e) where
   by : ((x : Op) × (op_of (word_of ps) ≡ Some x) × (with_op (marks_behind ps) x ≡ Some j)) ⊎ (relation (word_of ps) (marks_behind ps) ≡ Some j) → IsShortLine j
   by (inl p) = behind_short (action_of p.0) p.0 (marks_behind ps) j p.2
   by (inr q) = relation_by _ (marks_behind ps) j q

@@ -1,8 +1,7 @@
 -- What holds of a value where there is one, carried through the parts of a reading and of a judgement.
 use Rattle.std.proofs.Common.{◌≡◌, Bool, true, false, cond, Option, Some, None, Result, Ok, Err, List, [], ◌∷◌, map, refl, subst, option_map}
-use Rattle.std.specs.Option.{option_and_then}
+use Rattle.std.specs.Option.{option_and_then, option_map_or}
 use Rattle.std.specs.List.{AllByRecursion}
-use Rattle.vax_templates.specs.Marks.{either}
 use Rattle.vax_templates.specs.Standing.{◌>>=◌}
 
 -- of what is found
@@ -15,10 +14,10 @@ abbrev pub EachOk : {A E : Type 0} → (A → Type 0) → Result A E → Type 0
 EachOk P (Ok x) = P x
 EachOk P (Err e) = Unit {0}
 
-pub either_each : {A B : Type 0} (P : B → Type 0) (o : Option A) (f : A → Option B) (other : Option B) →
-    ((x : A) → o ≡ Some x → Each P (f x)) → Each P other → Each P (either o f other)
-either_each P None f other h k = k
-either_each P (Some x) f other h k = h x refl
+pub map_or_each : {A B : Type 0} (P : B → Type 0) (o : Option A) (f : A → Option B) (other : Option B) →
+    ((x : A) → o ≡ Some x → Each P (f x)) → Each P other → Each P (option_map_or f o other)
+map_or_each P None f other h k = k
+map_or_each P (Some x) f other h k = h x refl
 
 pub and_then_each : {A B : Type 0} (Q : A → Type 0) (P : B → Type 0) (o : Option A) (f : A → Option B) →
     ((x : A) → Q x → Each P (f x)) → Each Q o → Each P (option_and_then f o)

@@ -24,7 +24,7 @@ use Rattle.vax_templates.specs.Marks.{marks_of, is_byte, strip, hole_front}
 use Rattle.vax_templates.specs.Forms.{form_front}
 use Rattle.vax_templates.specs.Instructions.{Instruction, Relation, Jump, Calls, Ret, Operates, forms_from, is_label, is_call, behind_blank, only, is_empty, jumps, operates}
 use Rattle.vax_templates.specs.Instructions.{behind, relation_behind, relation, with_op, word_len, word_of, marks_behind, instruction_of, whole, shape_of_pieces}
-use Rattle.vax_target_writing.proofs.Each.{Each, either_each, and_then_each, map_each, always, if_each}
+use Rattle.vax_target_writing.proofs.Each.{Each, map_or_each, and_then_each, map_each, always, if_each}
 use Rattle.vax_target_writing.proofs.Longs.{IsLongForm, IsLongFront, form_long}
 
 -- ---- operands
@@ -120,7 +120,7 @@ relation_well word ms = if_each (IsWell ms) (same word (codes "j")) (option_and_
 pub read_well : (ps : List Piece) → Each (IsWell (marks_behind ps)) (instruction_of ps)
 read_well ps =
     let ms = marks_behind ps in
-    either_each (IsWell ms) (op_of (word_of ps)) (with_op ms) (relation (word_of ps) ms) (λ op e. behind_well (action_of op) op ms)
+    map_or_each (IsWell ms) (op_of (word_of ps)) (with_op ms) (relation (word_of ps) ms) (λ op e. behind_well (action_of op) op ms)
     (relation_well (word_of ps) ms)
 
 -- ---- the same holes among a line's pieces

@@ -12,7 +12,7 @@ use Rattle.vax_templates.specs.declared.form.Form.{Form}
 use Rattle.vax_templates.specs.Marks.{strip, hole_front, number_front, positive, negative, below_zero, signed_front, at_front}
 use Rattle.vax_templates.specs.Forms.{number_spelled, near, far, deferred_front, immediate_front, negative_hole, named_front, base_front, index_front, indexed, form_front}
 use Rattle.vax_templates.specs.Forms.{of_symbol, itself, of_number, of_hole, alone, register_zero, with_index}
-use Rattle.vax_target_writing.proofs.Each.{Each, either_each, and_then_each, map_each, always, if_each}
+use Rattle.vax_target_writing.proofs.Each.{Each, map_or_each, and_then_each, map_each, always, if_each}
 
 abbrev pub IsLongNumber : Number → Type 0
 IsLongNumber (number.Itself n) = n < 2 ^ 32
@@ -57,7 +57,7 @@ below_zero_long ms = and_then_each (λ x. Unit {0}) IsLongRead (number_front ms)
 signed_long : (ms : List Mark) → Each IsLongRead (signed_front ms)
 unfolding signed_front
 signed_long ms =
-    either_each IsLongRead (number_front ms) positive (option_and_then below_zero (strip 45 ms)) (λ x e. positive_long x)
+    map_or_each IsLongRead (number_front ms) positive (option_and_then below_zero (strip 45 ms)) (λ x e. positive_long x)
     (and_then_each (λ x. Unit {0}) IsLongRead (strip 45 ms) below_zero (λ x u. below_zero_long x) (always (strip 45 ms) tt))
 
 abbrev IsLongSpelled : Number × List Mark → Type 0
@@ -66,7 +66,7 @@ IsLongSpelled x = IsLongNumber x.0
 spelled_long : (ms : List Mark) → Each IsLongSpelled (number_spelled ms)
 unfolding number_spelled
 spelled_long ms =
-    either_each IsLongSpelled (hole_front ms) of_symbol (option_map itself (signed_front ms)) (λ x e. tt)
+    map_or_each IsLongSpelled (hole_front ms) of_symbol (option_map itself (signed_front ms)) (λ x e. tt)
     (map_each IsLongSpelled (signed_front ms) itself (signed_long ms))
 
 abbrev IsLongStart : Base × List Mark → Type 0
@@ -78,17 +78,17 @@ alone_long made h (number.Itself n) rest = tt
 
 near_long : (x : Number × List Mark) → IsLongNumber x.0 → Each IsLongStart (near x)
 near_long x h =
-    either_each IsLongStart (at_front x.1) (of_hole (base.Displacement x.0)) (alone base.Hole x.0 x.1) (λ y e. h) (alone_long base.Hole (λ i. tt) x.0 x.1)
+    map_or_each IsLongStart (at_front x.1) (of_hole (base.Displacement x.0)) (alone base.Hole x.0 x.1) (λ y e. h) (alone_long base.Hole (λ i. tt) x.0 x.1)
 
 far_long : (x : Number × List Mark) → IsLongNumber x.0 → Each IsLongStart (far x)
 far_long x h =
-    either_each IsLongStart (at_front x.1) (of_hole (base.DisplacementDeferred x.0)) (alone base.Deferred x.0 x.1) (λ y e. h)
+    map_or_each IsLongStart (at_front x.1) (of_hole (base.DisplacementDeferred x.0)) (alone base.Deferred x.0 x.1) (λ y e. h)
     (alone_long base.Deferred (λ i. tt) x.0 x.1)
 
 deferred_long : (ms : List Mark) → Each IsLongStart (deferred_front ms)
 unfolding deferred_front
 deferred_long ms =
-    either_each IsLongStart (strip 36 ms) (λ (rest : List Mark). option_and_then (of_number base.Absolute) (number_spelled rest))
+    map_or_each IsLongStart (strip 36 ms) (λ (rest : List Mark). option_and_then (of_number base.Absolute) (number_spelled rest))
     (option_and_then far (number_spelled ms))
     (λ rest e. and_then_each IsLongSpelled IsLongStart (number_spelled rest) (of_number base.Absolute) (λ x h. h) (spelled_long rest))
     (and_then_each IsLongSpelled IsLongStart (number_spelled ms) far far_long (spelled_long ms))
@@ -96,7 +96,7 @@ deferred_long ms =
 immediate_long : (ms : List Mark) → Each IsLongStart (immediate_front ms)
 unfolding immediate_front
 immediate_long ms =
-    either_each IsLongStart (negative_hole ms) (of_hole base.Negative) (option_and_then (of_number base.Immediate) (number_spelled ms)) (λ x e. tt)
+    map_or_each IsLongStart (negative_hole ms) (of_hole base.Negative) (option_and_then (of_number base.Immediate) (number_spelled ms)) (λ x e. tt)
     (and_then_each IsLongSpelled IsLongStart (number_spelled ms) (of_number base.Immediate) (λ x h. h) (spelled_long ms))
 
 named_long : (ms : List Mark) → Each IsLongStart (named_front ms)
@@ -105,10 +105,10 @@ named_long ms = and_then_each (λ x. Unit {0}) IsLongStart (strip 48 ms) registe
 base_long : (ms : List Mark) → Each IsLongStart (base_front ms)
 unfolding base_front
 base_long ms =
-    either_each IsLongStart (strip 42 ms) deferred_front _ (λ rest e. deferred_long rest)
-    (either_each IsLongStart (strip 36 ms) immediate_front _ (λ rest e. immediate_long rest)
-    (either_each IsLongStart (strip 114 ms) named_front _ (λ rest e. named_long rest)
-    (either_each IsLongStart (at_front ms) (of_hole base.RegisterDeferred) _ (λ x e. tt)
+    map_or_each IsLongStart (strip 42 ms) deferred_front _ (λ rest e. deferred_long rest)
+    (map_or_each IsLongStart (strip 36 ms) immediate_front _ (λ rest e. immediate_long rest)
+    (map_or_each IsLongStart (strip 114 ms) named_front _ (λ rest e. named_long rest)
+    (map_or_each IsLongStart (at_front ms) (of_hole base.RegisterDeferred) _ (λ x e. tt)
     (and_then_each IsLongSpelled IsLongStart (number_spelled ms) near near_long (spelled_long ms)))))
 
 abbrev pub IsLongFront : Form × List Mark → Type 0

@@ -1,13 +1,13 @@
 -- Operands at the front of some marks.
 use Rattle.std.specs.Prelude.{ℕ, List, Option, Some, None}
-use Rattle.std.specs.Option.{option_and_then, option_map}
+use Rattle.std.specs.Option.{option_and_then, option_map, option_map_or}
 use Rattle.vax_templates.specs.declared.form.Mark.{Mark}
 use Rattle.vax_templates.specs.declared.form.Number.{Number}
 use Rattle.vax_templates.specs.declared.form.Number.TheVariants as number
 use Rattle.vax_templates.specs.declared.form.Base.{Base}
 use Rattle.vax_templates.specs.declared.form.Base.TheVariants as base
 use Rattle.vax_templates.specs.declared.form.Form.{Form}
-use Rattle.vax_templates.specs.Marks.{either, strip, hole_front, signed_front, closed, at_front}
+use Rattle.vax_templates.specs.Marks.{strip, hole_front, signed_front, closed, at_front}
 
 abbrev pub of_symbol : ℕ × List Mark → Option (Number × List Mark)
 of_symbol x = Some (number.Symbol x.0, x.1)
@@ -17,7 +17,7 @@ itself x = (number.Itself x.0, x.1)
 
 -- `n` or `%i`
 unfoldable pub number_spelled : List Mark → Option (Number × List Mark)
-number_spelled ms = either (hole_front ms) of_symbol (option_map itself (signed_front ms))
+number_spelled ms = option_map_or of_symbol (hole_front ms) (option_map itself (signed_front ms))
 
 abbrev pub of_number : (Number → Base) → Number × List Mark → Option (Base × List Mark)
 of_number made x = Some (made x.0, x.1)
@@ -32,16 +32,16 @@ alone made (number.Itself n) rest = None
 
 -- `n(%i)`, `%j(%i)` or `%j`
 abbrev pub near : Number × List Mark → Option (Base × List Mark)
-near x = either (at_front x.1) (of_hole (base.Displacement x.0)) (alone base.Hole x.0 x.1)
+near x = option_map_or (of_hole (base.Displacement x.0)) (at_front x.1) (alone base.Hole x.0 x.1)
 
 -- the same behind `*`
 abbrev pub far : Number × List Mark → Option (Base × List Mark)
-far x = either (at_front x.1) (of_hole (base.DisplacementDeferred x.0)) (alone base.Deferred x.0 x.1)
+far x = option_map_or (of_hole (base.DisplacementDeferred x.0)) (at_front x.1) (alone base.Deferred x.0 x.1)
 
 -- what stands behind `*`
 unfoldable pub deferred_front : List Mark → Option (Base × List Mark)
 deferred_front ms =
-    either (strip 36 ms) (λ (rest : List Mark). option_and_then (of_number base.Absolute) (number_spelled rest))
+    option_map_or (λ (rest : List Mark). option_and_then (of_number base.Absolute) (number_spelled rest)) (strip 36 ms)
     (option_and_then far (number_spelled ms))
 
 -- `-%i`
@@ -50,7 +50,8 @@ negative_hole ms = option_and_then hole_front (strip 45 ms)
 
 -- what stands behind `$`
 unfoldable pub immediate_front : List Mark → Option (Base × List Mark)
-immediate_front ms = either (negative_hole ms) (of_hole base.Negative) (option_and_then (of_number base.Immediate) (number_spelled ms))
+immediate_front ms =
+    option_map_or (of_hole base.Negative) (negative_hole ms) (option_and_then (of_number base.Immediate) (number_spelled ms))
 
 abbrev pub register_zero : List Mark → Option (Base × List Mark)
 register_zero rest = Some (base.RegisterZero, rest)
@@ -62,10 +63,10 @@ named_front ms = option_and_then register_zero (strip 48 ms)
 -- an operand without its index
 unfoldable pub base_front : List Mark → Option (Base × List Mark)
 base_front ms =
-    either (strip 42 ms) deferred_front
-    (either (strip 36 ms) immediate_front
-    (either (strip 114 ms) named_front
-    (either (at_front ms) (of_hole base.RegisterDeferred)
+    option_map_or deferred_front (strip 42 ms)
+    (option_map_or immediate_front (strip 36 ms)
+    (option_map_or named_front (strip 114 ms)
+    (option_map_or (of_hole base.RegisterDeferred) (at_front ms)
     (option_and_then near (number_spelled ms)))))
 
 abbrev pub some_index : ℕ × List Mark → Option (Option ℕ × List Mark)
@@ -74,7 +75,7 @@ some_index x = Some (Some x.0, x.1)
 -- `[%i]`, which may be missing
 unfoldable pub index_front : List Mark → Option (Option ℕ × List Mark)
 index_front ms =
-    either (strip 91 ms) (λ (inner : List Mark). option_and_then some_index (option_and_then (closed 93) (hole_front inner)))
+    option_map_or (λ (inner : List Mark). option_and_then some_index (option_and_then (closed 93) (hole_front inner))) (strip 91 ms)
     (Some (None, ms))
 
 abbrev pub with_index : Base → Option ℕ × List Mark → Form × List Mark

@@ -1,7 +1,7 @@
 -- What a line of a template is: an instruction with its operands, or one that spells the hole of a label or a call.
-use Rattle.std.specs.Prelude.{ℕ, suc, ◌==◌, Bool, true, false, ◌&&◌, List, [], ◌∷◌, ◌++◌, map, take, drop, Option, Some}
+use Rattle.std.specs.Prelude.{ℕ, suc, ◌==◌, Bool, true, false, List, [], ◌∷◌, ◌++◌, map, take, drop, Option, Some}
 use Rattle.std.specs.Prelude.{None, if◌then◌else◌, codes}
-use Rattle.std.specs.Option.{option_and_then, option_map}
+use Rattle.std.specs.Option.{option_and_then, option_map, option_map_or}
 use Rattle.md_reader_text.specs.Words.{same}
 use Rattle.md_reader_pieces.specs.declared.piece.Piece.{Piece}
 use Rattle.md_reader_pieces.specs.declared.piece.Piece.TheVariants as piece
@@ -17,7 +17,7 @@ use Rattle.vax_machine.specs.Functions.{action_of}
 use Rattle.vax_templates.specs.declared.form.Mark.{Mark}
 use Rattle.vax_templates.specs.declared.form.Mark.TheVariants as mark
 use Rattle.vax_templates.specs.declared.form.Form.{Form}
-use Rattle.vax_templates.specs.Marks.{marks_of, either, is_byte, strip, hole_front}
+use Rattle.vax_templates.specs.Marks.{marks_of, strip, hole_front}
 use Rattle.vax_templates.specs.Forms.{form_front}
 
 -- `j%i %L`, `jbr %L`, `calls %N,%F`, `ret`, or an instruction with its operands
@@ -102,7 +102,7 @@ marks_behind (piece.Bytes w ∷ ps) = map mark.Byte (drop (word_len w) w) ++ mar
 marks_behind ps = marks_of ps
 
 abbrev pub read_behind : List ℕ → List Mark → Option Instruction
-read_behind word ms = either (op_of word) (with_op ms) (relation word ms)
+read_behind word ms = option_map_or (with_op ms) (op_of word) (relation word ms)
 
 -- the instruction of a line
 abbrev pub instruction_of : List Piece → Option Instruction

@@ -3,7 +3,7 @@ use Rattle.std.specs.Prelude.{ℕ, ◌+◌, ◌-◌, ◌*◌, ◌^◌, min, nat_
 use Rattle.std.specs.Prelude.{◌++◌, map, Option, Some, None}
 use Rattle.std.specs.Prelude.{if◌then◌else◌}
 use Rattle.std.specs.Char.{is_ascii_digit}
-use Rattle.std.specs.Option.{option_and_then, option_map}
+use Rattle.std.specs.Option.{option_and_then, option_map, option_map_or}
 use Rattle.md_reader_pieces.specs.declared.piece.Piece.{Piece}
 use Rattle.md_reader_pieces.specs.declared.piece.Piece.TheVariants as piece
 use Rattle.vax_templates.specs.declared.form.Mark.{Mark}
@@ -19,11 +19,6 @@ marks_of_piece piece.Count = mark.Count ∷ []
 abbrev pub marks_of : List Piece → List Mark
 marks_of [] = []
 marks_of (p ∷ ps) = marks_of_piece p ++ marks_of ps
-
--- what follows from a first reading where it finds something, else another reading
-abbrev pub either : {A B : Type 0} → Option A → (A → Option B) → Option B → Option B
-either (Some x) f other = f x
-either None f other = other
 
 abbrev pub is_byte : ℕ → Mark → Bool
 is_byte c (mark.Byte b) = b == c
@@ -74,7 +69,7 @@ below_zero ms = option_and_then negative (number_front ms)
 
 -- a number with its sign, on 32 bits
 unfoldable pub signed_front : List Mark → Option (ℕ × List Mark)
-signed_front ms = either (number_front ms) positive (option_and_then below_zero (strip 45 ms))
+signed_front ms = option_map_or positive (number_front ms) (option_and_then below_zero (strip 45 ms))
 
 -- a byte, then a closing byte behind what is read
 abbrev pub closed : {A : Type 0} → ℕ → A × List Mark → Option (A × List Mark)
