@@ -1,6 +1,6 @@
 -- The marks of a template's line, and what stands at their front.
 use Rattle.std.specs.Prelude.{ℕ, ◌+◌, ◌-◌, ◌*◌, ◌^◌, min, nat_le, Bool, false, not, ◌==◌, ◌&&◌, List, [], ◌∷◌}
-use Rattle.std.specs.Prelude.{◌++◌, map, Option, Some, None}
+use Rattle.std.specs.Prelude.{map, flat_map, Option, Some, None}
 use Rattle.std.specs.Prelude.{if◌then◌else◌}
 use Rattle.std.specs.Char.{is_ascii_digit}
 use Rattle.std.specs.Option.{option_and_then, option_map, option_map_or}
@@ -17,8 +17,7 @@ marks_of_piece piece.Callee = mark.Callee ∷ []
 marks_of_piece piece.Count = mark.Count ∷ []
 
 abbrev pub marks_of : List Piece → List Mark
-marks_of [] = []
-marks_of (p ∷ ps) = marks_of_piece p ++ marks_of ps
+marks_of ps = flat_map marks_of_piece ps
 
 abbrev pub is_byte : ℕ → Mark → Bool
 is_byte c (mark.Byte b) = b == c
