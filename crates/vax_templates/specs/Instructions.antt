@@ -1,6 +1,7 @@
 -- What a line of a template is: an instruction with its operands, or one that spells the hole of a label or a call.
-use Rattle.std.specs.Prelude.{ℕ, suc, ◌==◌, Bool, true, false, List, [], ◌∷◌, ◌++◌, map, take, drop, Option, Some}
+use Rattle.std.specs.Prelude.{ℕ, ◌==◌, Bool, true, false, List, [], ◌∷◌, ◌++◌, map, take, drop, Option, Some}
 use Rattle.std.specs.Prelude.{None, if◌then◌else◌, codes}
+use Rattle.std.specs.List.{position_or_len}
 use Rattle.std.specs.Option.{option_and_then, option_map, option_map_or}
 use Rattle.md_reader_text.specs.Words.{same}
 use Rattle.md_reader_pieces.specs.declared.piece.Piece.{Piece}
@@ -90,8 +91,7 @@ with_op ms op = behind (action_of op) op ms
 
 -- the mnemonic ends before a blank or a hole
 abbrev pub word_len : List ℕ → ℕ
-word_len [] = 0
-word_len (b ∷ bs) = if b == 32 then 0 else suc (word_len bs)
+word_len bytes = position_or_len (λ b. b == 32) bytes
 
 abbrev pub word_of : List Piece → List ℕ
 word_of (piece.Bytes w ∷ ps) = take (word_len w) w
