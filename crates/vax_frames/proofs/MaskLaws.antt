@@ -1,9 +1,9 @@
 -- The bits of a mask are the registers that a body names.
 use mathlib.Core.Bool.{or-false}
 use Rattle.std.proofs.Common.{◌≡◌, ℕ, zero, suc, ◌+◌, ◌^◌, ◌<◌, Bool, true, false, min, bit_and, bit_or, ltb, leb, ◌&&◌, ◌||◌, List, [], ◌∷◌, ◌++◌, refl, sym, ap, ◌∙◌, arith}
-use Rattle.std.proofs.Math.Bool.{or_assoc}
 use Rattle.std.proofs.Math.Dec.{lit<}
 use Rattle.std.proofs.lemmas.Bool.{le-ltb, and_right}
+use Rattle.std.proofs.lemmas.List.Folds.{list_any-append}
 use Rattle.std.proofs.lemmas.Nat.Bits.{bit_at-zero, bit_at_and, bit_at_above}
 use Rattle.std.proofs.lemmas.Nat.{and_le_r}
 use Rattle.std.specs.Int.{bit_at}
@@ -19,8 +19,7 @@ min_bits false true = refl
 min_bits false false = refl
 
 one_more : (xs : List CodeItem) (x : CodeItem) (n : ℕ) → body_names (xs ++ x ∷ []) n ≡ (body_names xs n || item_names x n)
-one_more [] x n = or-false (item_names x n)
-one_more (y ∷ xs) x n = ap (λ (b : Bool). item_names y n || b) (one_more xs x n) ∙ sym (or_assoc (item_names y n) (body_names xs n) (item_names x n))
+one_more xs x n = list_any-append (λ (y : CodeItem). item_names y n) xs (x ∷ []) ∙ ap (λ (b : Bool). body_names xs n || b) (or-false (item_names x n))
 
 pub none_named : IsSetOf 0 (λ n. false)
 none_named n = bit_at-zero n

@@ -1,6 +1,7 @@
 -- The code of a function: its frame round its body.
-use Rattle.std.specs.Prelude.{◌≡◌, ℕ, zero, suc, ◌*◌, ◌^◌, ◌<◌, Bool, false, ◌&&◌, ◌||◌, nat_lt, nat_le, List, [], ◌∷◌}
+use Rattle.std.specs.Prelude.{◌≡◌, ℕ, zero, suc, ◌*◌, ◌^◌, ◌<◌, Bool, false, ◌&&◌, nat_lt, nat_le, List, [], ◌∷◌}
 use Rattle.std.specs.Prelude.{◌++◌, map, None}
+use Rattle.std.specs.List.{list_any}
 use Rattle.tree_core.specs.Names.{function_label}
 use Rattle.vax_core.specs.declared.register.Reg.TheVariants.{R0, Sp}
 use Rattle.vax_core.specs.declared.operand.Base.TheVariants as bases
@@ -45,8 +46,7 @@ item_names (item_kind.Mask mask) r = false
 item_names (item_kind.Instr i) r = operands_name i.operands r
 
 abbrev pub body_names : List CodeItem → ℕ → Bool
-body_names [] r = false
-body_names (x ∷ xs) r = item_names x r || body_names xs r
+body_names body r = list_any (λ (x : CodeItem). item_names x r) body
 
 -- a function keeps r2 to r11 for its caller
 abbrev pub is_kept : ℕ → Bool
