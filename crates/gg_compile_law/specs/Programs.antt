@@ -1,6 +1,7 @@
 -- The code of a whole program, and states in which its run stands for a run of the trees.
-use Rattle.std.specs.Prelude.{◌≡◌, ℕ, ◌+◌, ◌^◌, ◌<◌, ◌≤◌, ◌==◌, ◌||◌, List, [], ◌∷◌, ◌++◌, length, slice_get}
+use Rattle.std.specs.Prelude.{◌≡◌, ℕ, ◌+◌, ◌^◌, ◌<◌, ◌≤◌, ◌==◌, List, [], ◌∷◌, ◌++◌, length, slice_get}
 use Rattle.std.specs.Prelude.{slice_index, Some, None, Bool, true, false}
+use Rattle.std.specs.List.{list_any}
 use Rattle.vax_core.specs.declared.code.Instr.{Instr}
 use Rattle.vax_core.specs.declared.code.CodeItem.{CodeItem}
 use Rattle.vax_core.specs.declared.code.CodeItem.TheVariants as item_kind
@@ -41,8 +42,7 @@ is_label_of (tree_item.Label l) n = l == n
 is_label_of (tree_item.Root w) n = false
 
 abbrev pub stands_in : List TreeItem → ℕ → Bool
-stands_in [] n = false
-stands_in (i ∷ is) n = is_label_of i n || stands_in is n
+stands_in items n = list_any (λ (item : TreeItem). is_label_of item n) items
 
 -- Pushes stand before calls, as many as the call takes and at most 255, a save directly behind a call: so many are
 -- pushed so far, and a call
