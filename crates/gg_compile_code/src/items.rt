@@ -7,27 +7,19 @@ ghost use Rattle.vax_frames.specs.Frames.{code_items};
 ghost use Rattle.gg_compile_code.specs.Selecting.{PutsItem, IsBody};
 ghost use Rattle.gg_compile_code.specs.Going.{ItemGoes, FunctionGoes};
 
-use gg_base::{Name, NoMemory};
+use gg_base::NoMemory;
 use sel_parse::{Generator, SelectFault, select};
 use sel_regs::Slots;
 use std::alloc::{AllocError, Global};
 use tree_core::{TreeFn, TreeItem, TreeProgram};
 use vax_core::{CodeItem, Instr};
-use vax_target::Vax;
+use vax_target::{Vax, label_name};
 
 /// The code of a function's items, and how many words its frame has.
 #[derive(Drop)]
 pub struct Body {
     pub items: Vec<CodeItem>,
     pub words: u32,
-}
-
-// `L` and the number in decimal.
-fn label_name(alloc: Global, label: u32) -> Result<Name, NoMemory>
-    ensures { IfOk result (λ n. n ≡ label_name label) }
-{
-    let name = format!(in alloc; "L{label}")?;
-    Ok(Name::from_vec(name.into_bytes()))
 }
 
 // Puts a label behind other items.

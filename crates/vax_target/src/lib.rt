@@ -17,4 +17,5 @@ mod taking;
 mod vax;
 mod word;
 
+pub use line::label_name;
 pub use vax::{State, Vax};

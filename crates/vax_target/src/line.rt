@@ -12,7 +12,7 @@ ghost use Rattle.vax_target.specs.Stages.{filled_view};
 use crate::filling::{Filling, addr_number, alone};
 use crate::instruction::{LineInstruction, instruction_of};
 use crate::refusal::Refusal;
-use gg_base::{Name, NoMemory, Rel, put_decimal};
+use gg_base::{Name, NoMemory, Rel};
 use md_reader::Piece;
 use sel_target::Attr;
 use std::alloc::Global;
@@ -89,13 +89,12 @@ fn callee_among(holes: &[Attr<Operand>]) -> Option<(u32, u32)>
     holes.iter().find_map(callee_in)
 }
 
-fn label_name(alloc: Global, n: u32) -> Result<Name, NoMemory>
-    ensures { IfOk result (λ name. name ≡ label_name n) }
+/// The label of a tree program's label: `L` and the number in decimal.
+pub fn label_name(alloc: Global, label: u32) -> Result<Name, NoMemory>
+    ensures { IfOk result (λ name. name ≡ label_name label) }
 {
-    let mut name = Vec::new(alloc);
-    name.push(b'L')?;
-    put_decimal(&mut name, u64::from(n))?;
-    Ok(Name::from_vec(name))
+    let name = format!(in alloc; "L{label}")?;
+    Ok(Name::from_vec(name.into_bytes()))
 }
 
 fn plain_return(alloc: Global) -> Instr
