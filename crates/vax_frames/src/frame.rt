@@ -79,8 +79,8 @@ fn ret(alloc: Global) -> CodeItem
     instr(Op::Ret, Operands::new(alloc))
 }
 
-// A function's label: its name with `_` in front.
-fn function_label(alloc: Global, name: &Name) -> Result<Name, NoMemory>
+/// A function's label: its name with `_` in front.
+pub fn function_label(alloc: Global, name: &Name) -> Result<Name, NoMemory>
     ensures { IfOk result (λ n. n ≡ function_label name.now) }
 {
     let mut label = Vec::new(alloc);

@@ -18,6 +18,7 @@ use sel_target::Attr;
 use std::alloc::Global;
 use tree_core::Att;
 use vax_core::{Base, Instr, Op, Operand, Operands};
+use vax_frames::function_label;
 use vax_templates::Form;
 
 fn op_of_relation(rel: Rel) -> Op
@@ -127,14 +128,14 @@ impl<'a> Filling<'a> {
         ensures { IfOk result (λ name. name ≡ callee_name self.entry.program.now n) }
     {
         let functions = self.program.functions.as_slice();
+        if let Some(function) = functions.get(n as usize) {
+            return function_label(self.alloc, &function.name);
+        }
         let mut name = Vec::new(self.alloc);
-        match functions.get(n as usize) {
-            Some(function) => {
-                name.push(b'_')?;
-                name.extend_from_slice(function.name.as_slice())?;
-            }
-            None if n as usize == functions.len() => name.extend_from_slice(b"_putchar")?,
-            None => name.extend_from_slice(b"_getchar")?,
+        if n as usize == functions.len() {
+            name.extend_from_slice(b"_putchar")?;
+        } else {
+            name.extend_from_slice(b"_getchar")?;
         }
         Ok(Name::from_vec(name))
     }
