@@ -1,7 +1,7 @@
 -- The names in lines of templates with their holes filled are there.
 use Rattle.std.proofs.Common.{◌≡◌, ℕ, ◌-◌, ◌==◌, List, [], ◌∷◌, ◌++◌, length, map, Option, Some, None, Bool, true, false, cond, refl, sym, ap, ◌∙◌, subst, take}
 use Rattle.std.specs.Prelude.{◌||◌, ◌&&◌, slice_get, codes}
-use Rattle.std.specs.Option.{option_map}
+use Rattle.std.specs.Option.{option_map, option_or}
 use Rattle.std.specs.List.{AllByRecursion as All}
 use Rattle.std.proofs.lemmas.Option.{same_Some}
 use Rattle.gg_base.proofs.Facts.{or_true}
@@ -23,7 +23,6 @@ use Rattle.vax_templates.specs.declared.form.Form.{Form}
 use Rattle.vax_templates.specs.Instructions.{Instruction, Relation, Jump, Calls, Ret, Operates, instruction_of}
 use Rattle.vax_templates.specs.Filled.{attr_at, filled}
 use Rattle.vax_templates.specs.FilledLines.{op_in, label_of_att, label_in, label_among, branch_to, callee_among, function_name, call_of, filled_instruction}
-use Rattle.vax_templates.specs.FilledLines as lines
 use Rattle.vax_target_meaning.specs.Vax.{vax}
 use Rattle.sel_parse_lines.specs.Claims.{IsFilled}
 use Rattle.sel_parse_lines.proofs.Filling.{selections_are_filled}
@@ -57,7 +56,7 @@ module _ (q : TreeProgram) (area : List AreaItem) (code : List CodeItem) (there 
   among [] h n e = absurd (cc)
   among (a ∷ holes) h n e = by (label_in a) refl e (λ f. among holes h.1 n f)
     where
-      by : (o : Option ℕ) → label_in a ≡ o → lines.first_of o (label_among holes) ≡ Some n → (label_among holes ≡ Some n → has_label code (label_name n) ≡ true)
+      by : (o : Option ℕ) → label_in a ≡ o → option_or o (label_among holes) ≡ Some n → (label_among holes ≡ Some n → has_label code (label_name n) ≡ true)
           → has_label code (label_name n) ≡ true
       by None is f more = more f
       by (Some k) is f more = in_hole a h.0 n (is ∙ f)

@@ -7,6 +7,7 @@ use Rattle.std.proofs.lemmas.Bool.{eqb-true, false_from_ne_true, true≢false}
 use Rattle.std.proofs.lemmas.List.{length-take-le}
 use Rattle.std.proofs.lemmas.Slice.Eq.{bytes_eq-Decides}
 use Rattle.std.proofs.lemmas.Option.{same_Some}
+use Rattle.std.specs.Option.{option_or}
 use Rattle.gg_base.proofs.Facts.{tail_same}
 use Rattle.tree_core.specs.declared.tree.Att.TheVariants as att
 use Rattle.tree_core.specs.declared.program.TreeFn.{TreeFn}
@@ -39,7 +40,7 @@ use Rattle.vax_machine_lists.specs.Instructions as lists
 use Rattle.vax_states.specs.Agreeing.{HasRoom}
 use Rattle.vax_states.proofs.Standing.{register_kept}
 use Rattle.vax_states.proofs.Popping.{put_acts, set_up, agrees_result, sp_high, agrees_popped, top_read}
-use Rattle.vax_templates.specs.FilledLines.{callee_in, callee_of_att, first_callee, callee_among, function_name, call_of}
+use Rattle.vax_templates.specs.FilledLines.{callee_in, callee_of_att, callee_among, function_name, call_of}
 use Rattle.vax_target_meaning.specs.Running.{course_of}
 use Rattle.vax_target_meaning.specs.Vax.{vax, stands}
 use Rattle.vax_target_lines.specs.Lines.{DoesDeed}
@@ -57,7 +58,7 @@ callee_first : (hs : List (Attr Operand)) (function count : ℕ) → att_of (sli
 callee_first [] function count e = cc
 callee_first (h ∷ hs) function count e =
     let t = token_is h (att.Callee function count) e in
-    ap (λ x. first_callee (callee_in x) (callee_among hs)) t.1 ∙ ap (λ x. first_callee (callee_of_att x) (callee_among hs)) t.2
+    ap (λ x. option_or (callee_in x) (callee_among hs)) t.1 ∙ ap (λ x. option_or (callee_of_att x) (callee_among hs)) t.2
 
 -- ---- names
 

@@ -1,7 +1,7 @@
 -- Statements that branch and jump.
 use Rattle.std.proofs.Common.{◌≡◌, ℕ, zero, suc, ◌-◌, ◌==◌, inl, inr, Bool, true, false, cond, List, [], ◌∷◌, Option, Some, None, refl, sym, ap, subst, ◌∙◌, arith}
 use Rattle.std.specs.Prelude.{slice_get}
-use Rattle.std.specs.Option.{option_map}
+use Rattle.std.specs.Option.{option_map, option_or}
 use Rattle.std.specs.List.{AllByRecursion}
 use Rattle.std.proofs.lemmas.Option.{same_Some}
 use Rattle.gg_base.specs.declared.relation.Rel.{Rel}
@@ -37,7 +37,7 @@ use Rattle.vax_machine.specs.Functions.{passes}
 use Rattle.vax_machine.specs.State.{State}
 use Rattle.vax_machine_lists.specs.Instructions.{Course, Goes, ends, branching, performed}
 use Rattle.vax_templates.specs.Settings.{is_signed}
-use Rattle.vax_templates.specs.FilledLines.{op_of_relation, op_of_att, op_in, label_of_att, label_in, first_of, label_among, branch_to}
+use Rattle.vax_templates.specs.FilledLines.{op_of_relation, op_of_att, op_in, label_of_att, label_in, label_among, branch_to}
 use Rattle.vax_target_meaning.specs.Running.{course_of}
 use Rattle.vax_target_meaning.specs.Vax.{vax, stands}
 use Rattle.vax_target_operands.specs.Scenes.{Scene, worth, filling_at}
@@ -65,7 +65,7 @@ first_label : (hs : List (Attr Operand)) (a : Att) (label : ℕ) → att_of (sli
 first_label [] a label e is = cc
 first_label (h ∷ hs) a label e is =
     let t = token_is h a e in
-    ap (λ x. first_of (label_in x) (label_among hs)) t.1 ∙ ap (λ x. first_of (label_of_att x) (label_among hs)) t.2 ∙ ap (λ x. first_of x (label_among hs)) is
+    ap (λ x. option_or (label_in x) (label_among hs)) t.1 ∙ ap (λ x. option_or (label_of_att x) (label_among hs)) t.2 ∙ ap (λ x. option_or x (label_among hs)) is
 
 jump_is : (o : Option ℕ) (label : ℕ) (n : State) → o ≡ Some label → performed (record { op = ops.Jbr; operands = []; target = option_map label_name o }) n ≡ ends (Goes (label_name label) n)
 unfolding performed

@@ -9,6 +9,7 @@ use Rattle.std.proofs.lemmas.Bool.{le-leb, and_from, false≢true}
 use Rattle.std.proofs.lemmas.Fmt.{decimal_by_steps, length-decimal-le}
 use Rattle.std.proofs.lemmas.List.Folds.{list_all-append}
 use Rattle.std.proofs.lemmas.Option.{none-some, same_Some}
+use Rattle.std.specs.Option.{option_or}
 use Rattle.gg_base.proofs.Facts.{second_true, first_true, either_is}
 use Rattle.tree_core.specs.declared.token.Tok.{Tok}
 use Rattle.tree_core.specs.declared.token.Tok.TheVariants as tok
@@ -36,7 +37,7 @@ use Rattle.sel_target.specs.declared.attr.Attr.TheVariants as attr
 use Rattle.sel_target.specs.Instances.{SymFits, Fit}
 use Rattle.vax_core.specs.declared.operand.Operand.{Operand}
 use Rattle.vax_core.specs.Valid.{is_name, is_name_part}
-use Rattle.vax_templates.specs.FilledLines.{label_in, label_of_att, first_of, label_among, callee_in, callee_of_att, first_callee, callee_among, function_name}
+use Rattle.vax_templates.specs.FilledLines.{label_in, label_of_att, label_among, callee_in, callee_of_att, callee_among, function_name}
 use Rattle.vax_target_meaning.specs.Fitting.{CanWrite}
 use Rattle.vax_target_meaning.specs.Vax.{vax}
 use Rattle.sel_target.specs.Spelled.{IsSpelled, TokenIsSpelled, AreSpelled}
@@ -212,10 +213,10 @@ module _ (q : TreeProgram) (classes : List Class) where
     further true is none e = let l = has s h f.0 is in absurd (none-some l.0 (sym none ∙ l.1))
 
     by : (o : Option ℕ) → label_in h ≡ o → (any_symbol p right ≡ true → CanGo hs) → CanGo (h ∷ hs)
-    by (Some n) at rest = record { label = n; found = ap (λ x. first_of x (label_among hs)) at; spelled = label_spelled n (attr_small q h n at sp.0) }
+    by (Some n) at rest = record { label = n; found = ap (λ x. option_or x (label_among hs)) at; spelled = label_spelled n (attr_small q h n at sp.0) }
     by None at rest =
         let g = rest (further (p (Some s)) refl at e) in
-        record { label = g.label; found = ap (λ x. first_of x (label_among hs)) at ∙ g.found; spelled = g.spelled }
+        record { label = g.label; found = ap (λ x. option_or x (label_among hs)) at ∙ g.found; spelled = g.spelled }
 
   can_call : CanWrite q → (right : List Sym) (hs : List (Attr Operand)) → Fit vax classes right hs → any_symbol is_call right ≡ true → CanCall q hs
   can_call can [] [] f e = absurd (cc)
@@ -230,13 +231,13 @@ module _ (q : TreeProgram) (classes : List Class) where
     by (Some c) at rest = record {
       function = c.0;
       count = c.1;
-      found = ap (λ x. first_callee x (callee_among hs)) at;
+      found = ap (λ x. option_or x (callee_among hs)) at;
       few = symbol_few classes s h c f.0 at;
       spelled = function_spelled q.functions c.0 _ can.functions;
     }
     by None at rest =
         let g = rest (further (is_call (Some s)) refl at e) in
-        record { function = g.function; count = g.count; found = ap (λ x. first_callee x (callee_among hs)) at ∙ g.found; few = g.few; spelled = g.spelled }
+        record { function = g.function; count = g.count; found = ap (λ x. option_or x (callee_among hs)) at ∙ g.found; few = g.few; spelled = g.spelled }
 
 -- ---- what a line may name
 

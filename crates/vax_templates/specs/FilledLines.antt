@@ -1,7 +1,7 @@
 -- Lines of templates with their holes filled.
 -- This is how the code computes it; that instructions do so is the law vax_is_lawful of vax_target_laws.
 use Rattle.std.specs.Prelude.{ℕ, ◌-◌, ◌==◌, List, [], ◌∷◌, ◌++◌, map, take, length, slice_get, Option, Some, None, if◌then◌else◌, codes}
-use Rattle.std.specs.Option.{option_map}
+use Rattle.std.specs.Option.{option_map, option_or}
 use Rattle.gg_base.specs.declared.relation.Rel.{Rel}
 use Rattle.gg_base.specs.declared.relation.Rel.TheVariants as relations
 use Rattle.tree_core.specs.declared.tree.Att.{Att}
@@ -50,14 +50,10 @@ abbrev pub label_in : Attr Operand → Option ℕ
 label_in (attr.Token l) = label_of_att l.att
 label_in a = None
 
-abbrev pub first_of : Option ℕ → Option ℕ → Option ℕ
-first_of (Some n) later = Some n
-first_of None later = later
-
 -- the label of a rule's branch or jump
 abbrev pub label_among : List (Attr Operand) → Option ℕ
 label_among [] = None
-label_among (a ∷ as') = first_of (label_in a) (label_among as')
+label_among (a ∷ as') = option_or (label_in a) (label_among as')
 
 abbrev pub branch_to : Op → List (Attr Operand) → Instr
 branch_to op holes = record { op = op; operands = []; target = option_map label_name (label_among holes) }
@@ -71,13 +67,9 @@ abbrev pub callee_in : Attr Operand → Option (ℕ × ℕ)
 callee_in (attr.Token l) = callee_of_att l.att
 callee_in a = None
 
-abbrev pub first_callee : Option (ℕ × ℕ) → Option (ℕ × ℕ) → Option (ℕ × ℕ)
-first_callee (Some c) later = Some c
-first_callee None later = later
-
 abbrev pub callee_among : List (Attr Operand) → Option (ℕ × ℕ)
 callee_among [] = None
-callee_among (a ∷ as') = first_callee (callee_in a) (callee_among as')
+callee_among (a ∷ as') = option_or (callee_in a) (callee_among as')
 
 -- behind the program's functions come the services
 abbrev pub service_name : ℕ → List ℕ

@@ -1,12 +1,13 @@
 use Rattle.std.proofs.Common.{◌≡◌, ℕ, List, [], ◌∷◌, Option, Some, None, refl, ap, ◌∙◌, rules, tests}
 use Rattle.std.proofs.lemmas.Iterator.{YieldsList-from_slice}
+use Rattle.std.specs.Option.{option_or}
 use Rattle.gg_base.proofs.Mapping.{or_later, first_given, found_first}
 use Rattle.sel_target.specs.declared.attr.Attr.{Attr}
 use Rattle.vax_core.specs.declared.operand.Operand.{Operand}
-use Rattle.vax_templates.specs.FilledLines.{first_callee, callee_in, callee_among}
+use Rattle.vax_templates.specs.FilledLines.{callee_in, callee_among}
 use Rattle.vax_target.proofs.line.callee_among.Goals as goal
 
-same_choice : (first later : Option (ℕ × ℕ)) → or_later first later ≡ first_callee first later
+same_choice : (first later : Option (ℕ × ℕ)) → or_later first later ≡ option_or first later
 same_choice None later = refl
 same_choice (Some x) later = refl
 
