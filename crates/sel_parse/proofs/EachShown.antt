@@ -4,6 +4,7 @@ use Rattle.std.specs.Prelude.{Result, Ok, Err, nat_lt, count_ones}
 use Rattle.std.specs.List.{AllByRecursion}
 use Rattle.std.proofs.lemmas.Option.{none-some}
 use Rattle.std.proofs.lemmas.Bool.{ltb-false}
+use Rattle.std.specs.Option.{option_or}
 use Rattle.gg_base.proofs.Facts.{none_is}
 use Rattle.md_reader_pieces.specs.declared.piece.Line.{Line}
 use Rattle.md_reader.specs.declared.types.Kind.{Kind}
@@ -17,10 +18,10 @@ use Rattle.sel_terms.specs.Reading.{effect_read}
 use Rattle.sel_terms.proofs.Alike.{same_effect_tells}
 use Rattle.sel_target.specs.Meaning.{Fault}
 use Rattle.sel_regs.specs.Need.{need}
-use Rattle.sel_parse.specs.Shown.{Refusal, Unshown, Template, PoolSmall, first_of, compared, small, pools_refused, lines_refused, rules_refused, saved_kinds}
+use Rattle.sel_parse.specs.Shown.{Refusal, Unshown, Template, PoolSmall, compared, small, pools_refused, lines_refused, rules_refused, saved_kinds}
 use Rattle.sel_parse.specs.Shown.{first_refusal, is_shown, saved_wanted, IsShown, IsLineShown, AreLinesShown}
 
-first_is_none : (a b : Option Refusal) → first_of a b ≡ None → (a ≡ None) × (b ≡ None)
+first_is_none : (a b : Option Refusal) → option_or a b ≡ None → (a ≡ None) × (b ≡ None)
 first_is_none None b e = (refl, e)
 first_is_none (Some r) b e = absurd (none-some r (sym e))
 
@@ -69,7 +70,7 @@ pub all_shown : (effect : Effects) (saved : Saving) (d : Content) → first_refu
 all_shown effect saved d h =
     let pools = pools_refused (count_ones d.pool) d.classes 1 d.rules in
     let rules = rules_refused effect d.classes 1 d.rules in
-    let later = first_is_none pools (first_of (lines_refused saved saved_kinds d.spills) rules) h in
+    let later = first_is_none pools (option_or (lines_refused saved saved_kinds d.spills) rules) h in
     each_shown effect (count_ones d.pool) 1 d.classes d.rules later.0 (first_is_none (lines_refused saved saved_kinds d.spills) rules later.1).1
 
 line_shown : (saved : Saving) (k : Kind) (l : Line) (o : Result EffectShape Fault) → saved k l ≡ o
@@ -94,7 +95,7 @@ all_lines_shown effect saved d h =
     let pools = pools_refused (count_ones d.pool) d.classes 1 d.rules in
     let lines = lines_refused saved saved_kinds d.spills in
     let rules = rules_refused effect d.classes 1 d.rules in
-    each_line_shown saved saved_kinds d.spills (first_is_none lines rules (first_is_none pools (first_of lines rules) h).1).0
+    each_line_shown saved saved_kinds d.spills (first_is_none lines rules (first_is_none pools (option_or lines rules) h).1).0
 
 pub rules_shown : (effect : Effects) (saved : Saving) (d : Content) → is_shown effect saved d ≡ true
     → AllByRecursion (IsShown effect (count_ones d.pool) d.classes) d.rules

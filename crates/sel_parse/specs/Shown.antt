@@ -2,6 +2,7 @@
 use Rattle.std.specs.Prelude.{◌≡◌, ℕ, ◌+◌, ◌≤◌, nat_lt, count_ones, Bool, List, [], ◌∷◌, Option, Some, None, is_none}
 use Rattle.std.specs.Prelude.{Result, Ok, Err, if◌then◌else◌}
 use Rattle.std.specs.List.{AllByRecursion}
+use Rattle.std.specs.Option.{option_or}
 use Rattle.gg_base.specs.declared.size.Size.TheVariants.{Byte, Word, Long}
 use Rattle.md_reader_pieces.specs.declared.piece.Line.{Line}
 use Rattle.md_reader.specs.declared.types.Kind.{Kind}
@@ -24,10 +25,6 @@ pub data Refusal : Type 0 where
   PoolSmall : (rule need : ℕ) → Refusal
   Template : (rule line : ℕ) (kind : TemplateKind) → Refusal
   Unshown : (rule : ℕ) (wanted found : EffectShape) → Refusal
-
-abbrev pub first_of : Option Refusal → Option Refusal → Option Refusal
-first_of (Some r) later = Some r
-first_of None later = later
 
 abbrev pub unlike : ℕ → EffectShape → EffectShape → Option Refusal
 unlike n wanted found = if same_effect wanted found then None else Some (Unshown n wanted found)
@@ -58,24 +55,24 @@ small registers n wanted = if nat_lt registers wanted then Some (PoolSmall n wan
 -- the first rule, from one with this number on, that needs more registers than there are
 abbrev pub pools_refused : ℕ → List Class → ℕ → List Rule → Option Refusal
 pools_refused registers classes n [] = None
-pools_refused registers classes n (r ∷ rs) = first_of (small registers n (need classes r)) (pools_refused registers classes (n + 1) rs)
+pools_refused registers classes n (r ∷ rs) = option_or (small registers n (need classes r)) (pools_refused registers classes (n + 1) rs)
 
 -- the lines that save and reload are rule 0
 abbrev pub lines_refused : (Kind → Line → Result EffectShape Fault) → List Kind → List Line → Option Refusal
 lines_refused saved [] ls = None
 lines_refused saved (k ∷ ks) [] = None
-lines_refused saved (k ∷ ks) (l ∷ ls) = first_of (compared 0 (saved_facts k) (saved_wanted k) (saved k l)) (lines_refused saved ks ls)
+lines_refused saved (k ∷ ks) (l ∷ ls) = option_or (compared 0 (saved_facts k) (saved_wanted k) (saved k l)) (lines_refused saved ks ls)
 
 abbrev pub rules_refused : (List Class → Rule → Result EffectShape Fault) → List Class → ℕ → List Rule → Option Refusal
 rules_refused effect classes n [] = None
 rules_refused effect classes n (r ∷ rs) =
-    first_of (rule_refused effect classes n r) (rules_refused effect classes (n + 1) rs)
+    option_or (rule_refused effect classes n r) (rules_refused effect classes (n + 1) rs)
 
 abbrev pub first_refusal : (List Class → Rule → Result EffectShape Fault) → (Kind → Line → Result EffectShape Fault) → Content
     → Option Refusal
 first_refusal effect saved d =
-    first_of (pools_refused (count_ones d.pool) d.classes 1 d.rules)
-    (first_of (lines_refused saved saved_kinds d.spills) (rules_refused effect d.classes 1 d.rules))
+    option_or (pools_refused (count_ones d.pool) d.classes 1 d.rules)
+    (option_or (lines_refused saved saved_kinds d.spills) (rules_refused effect d.classes 1 d.rules))
 
 -- A rule is shown where it needs no more registers than there are, its template has no fault, and the template's effect is the pattern's in
 -- normal form.
