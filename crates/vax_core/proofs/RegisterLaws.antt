@@ -1,9 +1,9 @@
 -- The bits of a set are the registers that are named.
 use mathlib.Core.Bool.{or-false}
 use Rattle.std.proofs.Common.{◌≡◌, ℕ, ◌^◌, Bool, true, false, cond, eqb, ltb, ◌&&◌, ◌||◌, max, bit_or, List, [], ◌∷◌, Option, Some, None, refl, sym, ap, ◌∙◌, ◌++◌}
-use Rattle.std.proofs.Math.Bool.{or_assoc}
 use Rattle.std.specs.Int.{bit_at}
 use Rattle.std.proofs.lemmas.Bool.{eqb-true, eqb-false}
+use Rattle.std.proofs.lemmas.List.Folds.{list_any-append}
 use Rattle.std.proofs.lemmas.Nat.Bits.{bit_at-zero, bit_at-pow_same, bit_at-pow_other, bit_at_or}
 use Rattle.vax_core.specs.declared.register.Reg.{Reg}
 use Rattle.vax_core.specs.declared.operand.Operand.{Operand}
@@ -37,12 +37,9 @@ either a b f g h k n = bit_at_or a b n ∙ ap (λ (x : ℕ). max x (bit_at b n))
 pub operand_named : (o : Operand) → IsSetOf (operand_bits o) (operand_names o)
 operand_named o = either (named_bits (base_register o.base)) (named_bits o.index) (is_named (base_register o.base)) (is_named o.index) (named (base_register o.base)) (named o.index)
 
-shift : (x y z : Bool) → (x || (y || z)) ≡ (x || y || z)
-shift x y z = sym (or_assoc x y z)
-
 one_more : (os : List Operand) (o : Operand) (n : ℕ) → operands_name (os ++ o ∷ []) n ≡ (operands_name os n || operand_names o n)
-one_more [] o n = or-false (operand_names o n)
-one_more (p ∷ os) o n = ap (λ (b : Bool). operand_names p n || b) (one_more os o n) ∙ shift (operand_names p n) (operands_name os n) (operand_names o n)
+one_more os o n =
+    list_any-append (λ (p : Operand). operand_names p n) os (o ∷ []) ∙ ap (λ (b : Bool). operands_name os n || b) (or-false (operand_names o n))
 
 pub none_named : IsSetOf 0 (operands_name [])
 none_named n = bit_at-zero n

@@ -1,6 +1,7 @@
 -- How registers are written, and their bits in an entry mask.
-use Rattle.std.specs.Prelude.{◌≡◌, ℕ, ◌^◌, Bool, true, false, ◌==◌, ◌&&◌, ◌||◌, nat_lt, if◌then◌else◌, bit_or, List, []}
-use Rattle.std.specs.Prelude.{◌∷◌, Option, Some, None, codes}
+use Rattle.std.specs.Prelude.{◌≡◌, ℕ, ◌^◌, Bool, true, false, ◌==◌, ◌&&◌, ◌||◌, nat_lt, if◌then◌else◌, bit_or, List}
+use Rattle.std.specs.Prelude.{Option, Some, None, codes}
+use Rattle.std.specs.List.{list_any}
 use Rattle.std.specs.Int.{bit_at}
 use Rattle.vax_core.specs.declared.register.Reg.{Reg}
 use Rattle.vax_core.specs.declared.register.Reg.TheVariants.{R0, R1, R2, R3, R4, R5, R6, R7, R8, R9, R10, R11, Ap, Fp, Sp}
@@ -71,8 +72,7 @@ abbrev pub operand_names : Operand → ℕ → Bool
 operand_names o n = is_named (base_register o.base) n || is_named o.index n
 
 abbrev pub operands_name : List Operand → ℕ → Bool
-operands_name [] n = false
-operands_name (o ∷ os) n = operand_names o n || operands_name os n
+operands_name os n = list_any (λ (o : Operand). operand_names o n) os
 
 -- the same as sets of bits
 abbrev pub named_bits : Option Reg → ℕ
