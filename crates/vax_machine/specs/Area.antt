@@ -1,5 +1,6 @@
 -- The data area: how its items are laid out from 65,536 on, what its labels stand for, and its bytes.
-use Rattle.std.specs.Prelude.{ℕ, ◌+◌, ◌-◌, ◌%◌, ◌^◌, Bool, false, ◌||◌, List, [], ◌∷◌, ◌++◌, replicate, Option, Some, None, if◌then◌else◌}
+use Rattle.std.specs.Prelude.{ℕ, ◌+◌, ◌-◌, ◌%◌, ◌^◌, Bool, false, List, [], ◌∷◌, ◌++◌, replicate, Option, Some, None, if◌then◌else◌}
+use Rattle.std.specs.List.{list_any}
 use Rattle.std.specs.Int.{w16, w32, to_le_bytes}
 use Rattle.std.specs.Str.{bytes_eq}
 use Rattle.gg_base.specs.Arithmetic.{add32}
@@ -44,8 +45,7 @@ is_area_label (areas.Long a) name = false
 is_area_label (areas.Space n) name = false
 
 abbrev pub has_area_label : List AreaItem → List ℕ → Bool
-has_area_label [] name = false
-has_area_label (item ∷ rest) name = is_area_label item name || has_area_label rest name
+has_area_label items name = list_any (λ (item : AreaItem). is_area_label item name) items
 
 -- the address of the first label of that name among items that are laid out from an address on
 abbrev pub address_from : List AreaItem → ℕ → List ℕ → ℕ

@@ -1,5 +1,6 @@
 -- Places in a code, and its labels.
 use Rattle.std.specs.Prelude.{ℕ, ◌+◌, Bool, true, false, ◌||◌, ◌&&◌, List, [], ◌∷◌, drop, Option, Some, None, codes, if◌then◌else◌}
+use Rattle.std.specs.List.{list_any}
 use Rattle.std.specs.Str.{bytes_eq}
 use Rattle.vax_core.specs.declared.operand.Base.{Base}
 use Rattle.vax_core.specs.declared.operand.Base.TheVariants as bases
@@ -40,8 +41,7 @@ is_label (item_kind.Mask m) name = false
 is_label (item_kind.Instr i) name = false
 
 abbrev pub has_label : List CodeItem → List ℕ → Bool
-has_label [] name = false
-has_label (item ∷ rest) name = is_label item name || has_label rest name
+has_label items name = list_any (λ (item : CodeItem). is_label item name) items
 
 -- the place of the first label of that name
 abbrev pub label_place : List CodeItem → List ℕ → ℕ
