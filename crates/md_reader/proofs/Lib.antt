@@ -5,4 +5,3 @@ pub mod ValidLaws
 pub mod ToldLaws
 pub mod FirstLaws
 pub mod AgainLaws
-pub mod RowLaws
