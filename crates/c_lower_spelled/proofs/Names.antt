@@ -4,6 +4,7 @@ use Rattle.std.specs.Prelude.{true, nat_le, slice_get}
 use Rattle.std.specs.List.{AllByRecursion, list_all}
 use Rattle.std.proofs.lemmas.Bool.{le-leb, and_from}
 use Rattle.std.proofs.lemmas.Bool.Decides.{nat_tests}
+use Rattle.gg_base.specs.Names.{is_name_part}
 use Rattle.tree_core.specs.declared.program.TreeFn.{TreeFn}
 use Rattle.tree_core.specs.Names.{function_label}
 use Rattle.c_tokens.specs.Letters.{in_word}
@@ -11,7 +12,7 @@ use Rattle.c_tokens.specs.Grammar.{Pass}
 use Rattle.c_typed_words.specs.Words.{IsName}
 use Rattle.c_program.specs.Programs.{ARoutine}
 use Rattle.c_lower_scheme.specs.Programs.{body_of, lower_all}
-use Rattle.vax_core.specs.Valid.{is_name_part, is_name}
+use Rattle.vax_core.specs.Valid.{is_name}
 use Rattle.c_lower_spelled.specs.Claims.{NamesAreSpelled}
 
 letter_part : (b : ℕ) → in_word b ≡ true → is_name_part b ≡ true

@@ -1,8 +1,8 @@
 -- Labels of objects, and the addresses that their links hold.
 use Rattle.std.specs.Prelude.{◌≡◌, ◌≢◌, ℕ, ◌==◌, ◌&&◌, ◌||◌, nat_le, Bool, true, false, List, [], ◌∷◌, length}
 use Rattle.std.specs.Prelude.{codes, Some, slice_get}
-use Rattle.std.specs.Char.{is_ascii_alphanumeric}
 use Rattle.std.specs.List.{All, list_all}
+use Rattle.gg_base.specs.Names.{is_name_part}
 use Rattle.tree_core.specs.declared.program.Object.{Object}
 use Rattle.tree_core.specs.Area.{HoldsAddress}
 
@@ -10,14 +10,10 @@ use Rattle.tree_core.specs.Area.{HoldsAddress}
 abbrev pub is_label_start : ℕ → Bool
 is_label_start c = (c == 95) || ((c == 83) || (c == 84))
 
--- a letter, a digit or `_`
-abbrev pub is_label_part : ℕ → Bool
-is_label_part c = is_ascii_alphanumeric c || (c == 95)
-
 -- a label that assembly text can spell: at most 64 such characters
 abbrev pub is_label : List ℕ → Bool
 is_label [] = false
-is_label (c ∷ cs) = is_label_start c && (nat_le (length cs) 63 && list_all is_label_part cs)
+is_label (c ∷ cs) = is_label_start c && (nat_le (length cs) 63 && list_all is_name_part cs)
 
 -- the label of a function or service
 abbrev pub entry_label : List ℕ → List ℕ

@@ -7,3 +7,4 @@ pub mod Runs
 pub mod Turns
 pub mod Lasting
 pub mod Follows
+pub mod Names

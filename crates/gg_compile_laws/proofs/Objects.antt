@@ -6,11 +6,12 @@ use Rattle.std.specs.Str.{bytes_eq}
 use Rattle.std.proofs.lemmas.Slice.Eq.{bytes_eq-Decides}
 use Rattle.std.proofs.lemmas.Option.{same_Some}
 use Rattle.gg_base.proofs.Facts.{index_there}
+use Rattle.gg_base.specs.Names.{is_name_part}
 use Rattle.tree_core.specs.declared.program.Object.{Object}
 use Rattle.tree_core.specs.declared.program.TreeFn.{TreeFn}
 use Rattle.tree_core.specs.Names.{label_name}
 use Rattle.c_sound.specs.Fits.{AreBytes}
-use Rattle.c_sound.specs.Labels.{is_label_start, is_label_part, is_label, AreLabelled}
+use Rattle.c_sound.specs.Labels.{is_label_start, is_label, AreLabelled}
 use Rattle.c_sound.specs.Sound.{HoldBytes}
 use Rattle.vax_core.specs.Valid.{is_name_start, is_name}
 use Rattle.vax_core.specs.First.{putchar_name}
@@ -70,7 +71,7 @@ both_wider false b c f h = absurd (cc)
 label_is_name : (s : List ℕ) → is_label s ≡ true → is_name s ≡ true
 label_is_name [] h = absurd (cc)
 label_is_name (c ∷ cs) h =
-    both_wider (is_label_start c) (is_name_start c) (nat_le (length cs) 63 && list_all is_label_part cs) (λ e. wider_start (c == 95) (c == 83) (c == 84) (c == 76) e) h
+    both_wider (is_label_start c) (is_name_start c) (nat_le (length cs) 63 && list_all is_name_part cs) (λ e. wider_start (c == 95) (c == 83) (c == 84) (c == 76) e) h
 
 pub objects_named : (os : List Object) → ((i : ℕ) (o : Object) → slice_get os i ≡ Some o → is_label o.label ≡ true) → AllByRecursion (λ (o : Object). is_name o.label ≡ true) os
 objects_named [] h = tt

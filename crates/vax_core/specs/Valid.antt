@@ -1,7 +1,7 @@
 -- The codes that an assembly text can be written of.
 use Rattle.std.specs.Prelude.{ℕ, ◌^◌, Bool, true, false, not, ◌==◌, ◌&&◌, ◌||◌, nat_lt, nat_le, List, [], ◌∷◌, length, Option, Some, None}
 use Rattle.std.specs.List.{list_all}
-use Rattle.std.specs.Char.{is_ascii_alphanumeric}
+use Rattle.gg_base.specs.Names.{is_name_part}
 use Rattle.vax_core.specs.declared.register.Reg.{Reg}
 use Rattle.vax_core.specs.declared.operand.Addr.{Addr}
 use Rattle.vax_core.specs.declared.operand.Base.{Base}
@@ -22,10 +22,6 @@ use Rattle.vax_core.specs.Ops.{shape}
 -- `_`, `L`, `S` or `T`
 abbrev pub is_name_start : ℕ → Bool
 is_name_start c = (c == 95) || ((c == 76) || ((c == 83) || (c == 84)))
-
--- a letter, a digit or `_`
-abbrev pub is_name_part : ℕ → Bool
-is_name_part c = is_ascii_alphanumeric c || (c == 95)
 
 -- a name: at most 64 such characters
 abbrev pub is_name : List ℕ → Bool

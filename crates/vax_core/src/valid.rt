@@ -1,7 +1,8 @@
 // Which codes an assembly text can be written of.
 ghost use Rattle.std.specs.Prelude.{◌≡◌};
 ghost use Rattle.std.specs.List.{list_all};
-ghost use Rattle.vax_core.specs.Valid.{is_name_start, is_name_part, is_name, is_named_addr, is_addr, is_base, is_memory, is_place};
+ghost use Rattle.gg_base.specs.Names.{is_name_part};
+ghost use Rattle.vax_core.specs.Valid.{is_name_start, is_name, is_named_addr, is_addr, is_base, is_memory, is_place};
 ghost use Rattle.vax_core.specs.Valid.{is_count, allows, may_index, is_operand, are_operands, is_target, is_instr, is_area_item};
 ghost use Rattle.vax_core.specs.Valid.{is_code_item, is_code};
 

@@ -9,11 +9,12 @@ use Rattle.std.proofs.lemmas.List.{take_at, drop_at, take-append-drop, length-ta
 use Rattle.std.proofs.lemmas.Option.{none-some, same_Some, option_and_then_some, cond_some}
 use Rattle.gg_base.proofs.Facts.{guarded}
 use Rattle.gg_base.specs.Fronts.{run_len}
+use Rattle.gg_base.specs.Names.{is_name_part}
 use Rattle.vax_core.specs.declared.register.Reg.{Reg}
 use Rattle.vax_core.specs.declared.register.Reg.TheVariants.{R0, R1, R2, R3, R4, R5, R6, R7, R8, R9, R10, R11, Ap, Fp, Sp}
 use Rattle.vax_core.specs.Registers.{reg_text}
 use Rattle.vax_core.specs.Text.{at_text}
-use Rattle.vax_core.specs.Valid.{is_name_start, is_name_part, is_name}
+use Rattle.vax_core.specs.Valid.{is_name_start, is_name}
 use Rattle.vax_reader.specs.Fronts.{strip, number_front, name_of, name_front, general, numbered, general_front, found_reg, reg_front, closed, at_front}
 use Rattle.vax_reader.proofs.Choices.{map_or_some, map_some}
 use Rattle.vax_reader.proofs.FrontLaws.{strip_takes, EndsNumber, number_takes, number_again}

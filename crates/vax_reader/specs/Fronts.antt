@@ -6,9 +6,10 @@ use Rattle.std.specs.Char.{is_ascii_digit}
 use Rattle.std.specs.Str.Parse.{digits_value}
 use Rattle.std.specs.Option.{option_and_then, option_map, option_map_or}
 use Rattle.gg_base.specs.Fronts.{run_len}
+use Rattle.gg_base.specs.Names.{is_name_part}
 use Rattle.vax_core.specs.declared.register.Reg.{Reg}
 use Rattle.vax_core.specs.declared.register.Reg.TheVariants as regs
-use Rattle.vax_core.specs.Valid.{is_name_start, is_name_part}
+use Rattle.vax_core.specs.Valid.{is_name_start}
 
 -- what is left behind a word that stands at the front
 abbrev pub strip : List ℕ → List ℕ → Option (List ℕ)

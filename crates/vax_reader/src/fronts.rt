@@ -3,7 +3,7 @@ ghost use Rattle.std.specs.Prelude.{◌≡◌, ◌+◌, ◌≤◌, ◌^◌, leng
 ghost use Rattle.std.specs.Option.{option_copied, option_map};
 ghost use Rattle.std.specs.Str.Parse.{digits_value, AllDigits};
 ghost use Rattle.gg_base.specs.Fronts.{run_len};
-ghost use Rattle.vax_core.specs.Valid.{is_name_part};
+ghost use Rattle.gg_base.specs.Names.{is_name_part};
 ghost use Rattle.vax_reader.specs.Fronts.{strip, number_front, up_to, from_one, below_zero, signed_front, offset_front};
 ghost use Rattle.vax_reader.specs.Fronts.{name_front, general, reg_front, at_front};
 

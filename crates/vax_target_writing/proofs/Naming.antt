@@ -11,6 +11,7 @@ use Rattle.std.proofs.lemmas.List.Folds.{list_all-append}
 use Rattle.std.proofs.lemmas.Option.{none-some, same_Some}
 use Rattle.std.specs.Option.{option_or}
 use Rattle.gg_base.proofs.Facts.{second_true, first_true, either_is}
+use Rattle.gg_base.specs.Names.{is_name_part}
 use Rattle.tree_core.specs.declared.token.Tok.{Tok}
 use Rattle.tree_core.specs.declared.token.Tok.TheVariants as tok
 use Rattle.tree_core.specs.declared.token.AttKind.{AttKind}
@@ -36,7 +37,7 @@ use Rattle.sel_target.specs.declared.attr.Attr.{Attr}
 use Rattle.sel_target.specs.declared.attr.Attr.TheVariants as attr
 use Rattle.sel_target.specs.Instances.{SymFits, Fit}
 use Rattle.vax_core.specs.declared.operand.Operand.{Operand}
-use Rattle.vax_core.specs.Valid.{is_name, is_name_part}
+use Rattle.vax_core.specs.Valid.{is_name}
 use Rattle.vax_templates.specs.FilledLines.{label_in, label_of_att, label_among, callee_in, callee_of_att, callee_among, function_name}
 use Rattle.vax_target_meaning.specs.Fitting.{CanWrite}
 use Rattle.vax_target_meaning.specs.Vax.{vax}

@@ -1,7 +1,7 @@
 use Rattle.std.proofs.Common.{rules, tests}
 use Rattle.std.proofs.lemmas.Iterator.{YieldsList-from_slice}
 use Rattle.std.proofs.lemmas.Iterator.Search.{all_from_yields_List}
-use Rattle.vax_core.specs.Valid.{is_name_part}
+use Rattle.gg_base.specs.Names.{is_name_part}
 use Rattle.vax_core.proofs.valid.are_name_parts.Goals as goal
 
 pub returns : goal.returns

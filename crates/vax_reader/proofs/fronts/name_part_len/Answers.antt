@@ -3,8 +3,8 @@ use Rattle.std.specs.Prelude.{unwrap_or}
 use Rattle.std.proofs.lemmas.Iterator.{YieldsList-from_slice}
 use Rattle.std.proofs.lemmas.Iterator.Search.{position_from_yields_List}
 use borrow.Author.Tests.{tests}
-use Rattle.vax_core.specs.Valid.{is_name_part}
 use Rattle.gg_base.proofs.FrontLaws.{run_found}
+use Rattle.gg_base.specs.Names.{is_name_part}
 use Rattle.vax_reader.proofs.fronts.name_part_len.Goals as goal
 
 pub returns-clause-len : goal.returns-clause-len
