@@ -1,26 +1,17 @@
 -- Functions' labels.
-use Rattle.std.proofs.Common.{◌≡◌, ℕ, zero, suc, List, [], ◌∷◌, length, Some, refl, arith}
+use Rattle.std.proofs.Common.{◌≡◌, ℕ, zero, suc, List, [], ◌∷◌, length, Some, refl}
 use Rattle.std.specs.Prelude.{true, nat_le, slice_get}
 use Rattle.std.specs.List.{AllByRecursion, list_all}
 use Rattle.std.proofs.lemmas.Bool.{le-leb, and_from}
-use Rattle.std.proofs.lemmas.Bool.Decides.{nat_tests}
 use Rattle.gg_base.specs.Names.{is_name_part}
 use Rattle.tree_core.specs.declared.program.TreeFn.{TreeFn}
 use Rattle.tree_core.specs.Names.{function_label}
-use Rattle.c_tokens.specs.Letters.{in_word}
-use Rattle.c_tokens.specs.Grammar.{Pass}
+use Rattle.c_tokens.proofs.NameParts.{letters_are_parts}
 use Rattle.c_typed_words.specs.Words.{IsName}
 use Rattle.c_program.specs.Programs.{ARoutine}
 use Rattle.c_lower_scheme.specs.Programs.{body_of, lower_all}
 use Rattle.vax_core.specs.Valid.{is_name}
 use Rattle.c_lower_spelled.specs.Claims.{NamesAreSpelled}
-
-letter_part : (b : ℕ) → in_word b ≡ true → is_name_part b ≡ true
-letter_part b h = grind (arith, nat_tests)
-
-letters_are_parts : (n : List ℕ) → Pass in_word n → list_all is_name_part n ≡ true
-letters_are_parts [] h = refl
-letters_are_parts (b ∷ n) h = and_from (is_name_part b) (list_all is_name_part n) (letter_part b h.0) (letters_are_parts n h.1)
 
 name_spelled : (n : List ℕ) → IsName n → is_name (function_label n) ≡ true
 name_spelled n h = and_from (nat_le (length n) 63) (list_all is_name_part n) (le-leb _ _ h.short) (letters_are_parts n h.letters)

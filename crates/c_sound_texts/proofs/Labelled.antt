@@ -1,24 +1,22 @@
 -- The labels of a typed program's objects, as `AreLabelled` has them, and the addresses at their links.
-use Rattle.std.proofs.Common.{◌≡◌, ◌≢◌, ℕ, zero, suc, ◌+◌, ◌%◌, ◌^◌, ◌<◌, ◌≤◌, ◌==◌, ◌&&◌, true, List, [], ◌∷◌, ◌++◌, length, map, Some, refl}
+use Rattle.std.proofs.Common.{◌≡◌, ◌≢◌, ℕ, zero, suc, ◌+◌, ◌^◌, ◌<◌, ◌≤◌, ◌==◌, ◌&&◌, true, List, [], ◌∷◌, length, map, Some, refl}
 use Rattle.std.proofs.Common.{sym, ap, subst, ◌∙◌, arith}
 use Rattle.std.proofs.lemmas.Bool.{and_from, and_parts, le-leb, leb-true, eqb-true}
-use Rattle.std.proofs.lemmas.Bool.Decides.{nat_tests}
-use Rattle.std.proofs.lemmas.Fmt.{decimal_by_steps, length-decimal-le}
+use Rattle.std.proofs.lemmas.Fmt.{length-decimal-le}
 use Rattle.std.proofs.lemmas.List.Elements.{All-head, All-tail, All-weaker}
-use Rattle.std.proofs.lemmas.List.Folds.{list_all-append}
 use Rattle.std.specs.Fmt.{decimal}
 use Rattle.std.specs.Int.{w32, to_le_bytes}
 use Rattle.std.specs.List.{All, list_all}
 use Rattle.std.specs.Prelude.{codes, nat_le, slice_get}
 use Rattle.gg_base.proofs.Facts.{tail_same}
 use Rattle.gg_base.specs.Names.{is_name_part}
+use Rattle.gg_base.proofs.Names.{digits_are_parts}
 use Rattle.tree_core.specs.declared.program.Object.{Object}
 use Rattle.tree_core.specs.declared.program.Link.{Link}
 use Rattle.tree_core.specs.Valid.{is_aligned, is_whole, is_placed, rounded, object_lies}
 use Rattle.tree_core.proofs.Validity.{rounded_up}
-use Rattle.c_tokens.specs.Letters.{in_word}
 use Rattle.tree_core.specs.Area.{HoldsAddress}
-use Rattle.c_tokens.specs.Grammar.{Pass}
+use Rattle.c_tokens.proofs.NameParts.{letters_are_parts}
 use Rattle.c_typed_scope.specs.declared.entry.Entry.{Entry}
 use Rattle.c_typed_scope.specs.declared.entry.Entry.TheVariants as entries
 use Rattle.c_typed_scope.specs.Scopes.{Scope, find}
@@ -33,33 +31,11 @@ use Rattle.c_sound_texts.proofs.Held.{places_of, Addressed, Contains, contents, 
 use Rattle.c_sound_texts.proofs.Labels.{Each, Differ, labels, OfStatic, OfLiteral, HasFew}
 use Rattle.c_sound_texts.proofs.Named.{start, IsFunctionEntry, not_named, IsLabel, Numbered, Variable, NamesFunction, IsNamed}
 
--- digits of a number may stand in a label
-digit_part : (m : ℕ) → m < 10 → is_name_part (48 + m) ≡ true
-digit_part m h = grind (arith, nat_tests)
-
-digits_step : (m : ℕ) (ds : List ℕ) → list_all is_name_part ds ≡ true → list_all is_name_part (ds ++ (48 + m % 10) ∷ []) ≡ true
-digits_step m ds h =
-    list_all-append is_name_part ds ((48 + m % 10) ∷ []) ∙ rw (h, digit_part (m % 10) (omega arith)) refl
-
-digit_one : (m : ℕ) → m < 10 → list_all is_name_part ((48 + m) ∷ []) ≡ true
-digit_one m h = rw (digit_part m h) refl
-
-digits_are_parts : (n : ℕ) → n < 2 ^ 64 → list_all is_name_part (decimal n) ≡ true
-digits_are_parts = decimal_by_steps (λ m ds. list_all is_name_part ds ≡ true) (λ m l. digit_one m l) (λ m ds l h. digits_step m ds h)
-
 numbered_spelled : (c k : ℕ) → is_label_start c ≡ true → k < 2 ^ 32 → is_label (c ∷ decimal k) ≡ true
 numbered_spelled c k begins small =
     let short = length-decimal-le 10 k (omega arith) (omega arith) (omega arith) in
     and_from (is_label_start c) _ begins
     (and_from (nat_le (length (decimal k)) 63) (list_all is_name_part (decimal k)) (le-leb _ _ (omega arith)) (digits_are_parts k (omega arith)))
-
--- letters of a name may
-letter_part : (b : ℕ) → in_word b ≡ true → is_name_part b ≡ true
-letter_part b h = grind (arith, nat_tests)
-
-letters_are_parts : (n : List ℕ) → Pass in_word n → list_all is_name_part n ≡ true
-letters_are_parts [] h = refl
-letters_are_parts (b ∷ n) h = and_from (is_name_part b) (list_all is_name_part n) (letter_part b h.0) (letters_are_parts n h.1)
 
 named_spelled : (n : List ℕ) → IsName n → is_label (95 ∷ n) ≡ true
 named_spelled n h =

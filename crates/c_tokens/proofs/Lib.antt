@@ -9,3 +9,4 @@ pub mod PieceLaws
 pub mod AgainLaws
 pub mod TextLaws
 pub mod Law
+pub mod NameParts

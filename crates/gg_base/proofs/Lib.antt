@@ -5,3 +5,4 @@ pub mod Facts
 pub mod Words
 pub mod Mapping
 pub mod FrontLaws
+pub mod Names

@@ -7,7 +7,7 @@ use Rattle.std.proofs.lemmas.Bool.{le-leb, and_from}
 use Rattle.std.proofs.lemmas.Fmt.{length-decimal-le}
 use Rattle.gg_base.specs.Names.{is_name_part}
 use Rattle.tree_core.specs.Names.{label_name}
-use Rattle.vax_target_writing.proofs.Naming.{digits_are_parts}
+use Rattle.gg_base.proofs.Names.{digits_are_parts}
 use Rattle.vax_core.specs.Valid.{is_name}
 
 -- ---- all elements

@@ -1,17 +1,17 @@
 -- A line of a rule names a label or a function only where the rule has one, and its name can be spelled.
-use Rattle.std.proofs.Common.{◌≡◌, ℕ, zero, suc, ◌+◌, ◌%◌, ◌^◌, ◌<◌, ◌≤◌, ◌==◌, Bool, true, false, cond, ◌||◌, Option, Some, None, List, [], ◌∷◌, ◌++◌, length, refl, sym, ap}
+use Rattle.std.proofs.Common.{◌≡◌, ℕ, zero, suc, ◌^◌, ◌<◌, ◌≤◌, ◌==◌, Bool, true, false, cond, ◌||◌, Option, Some, None, List, [], ◌∷◌, length, refl, sym, ap}
 use Rattle.std.proofs.Common.{subst, ◌∙◌, arith, slice_get}
 use Rattle.std.specs.Prelude.{nat_le, codes}
 use Rattle.std.specs.Fmt.{decimal}
 use Rattle.std.specs.List.{AllByRecursion, list_any, list_all}
 use Rattle.std.proofs.lemmas.Bool.Decides.{nat_tests}
 use Rattle.std.proofs.lemmas.Bool.{le-leb, and_from, false≢true}
-use Rattle.std.proofs.lemmas.Fmt.{decimal_by_steps, length-decimal-le}
-use Rattle.std.proofs.lemmas.List.Folds.{list_all-append}
+use Rattle.std.proofs.lemmas.Fmt.{length-decimal-le}
 use Rattle.std.proofs.lemmas.Option.{none-some, same_Some}
 use Rattle.std.specs.Option.{option_or}
 use Rattle.gg_base.proofs.Facts.{second_true, first_true, either_is}
 use Rattle.gg_base.specs.Names.{is_name_part}
+use Rattle.gg_base.proofs.Names.{digits_are_parts}
 use Rattle.tree_core.specs.declared.token.Tok.{Tok}
 use Rattle.tree_core.specs.declared.token.Tok.TheVariants as tok
 use Rattle.tree_core.specs.declared.token.AttKind.{AttKind}
@@ -47,18 +47,6 @@ use Rattle.vax_target_writing.proofs.Lines.{is_label_piece, is_count_piece}
 use Rattle.vax_target_writing.proofs.Written.{CanGo, CanCall, Names}
 
 -- ---- names
-
-pub digit_part : (m : ℕ) → m < 10 → is_name_part (48 + m) ≡ true
-digit_part m h = grind (arith, nat_tests)
-
-pub digits_step : (m : ℕ) (ds : List ℕ) → list_all is_name_part ds ≡ true → list_all is_name_part (ds ++ (48 + m % 10) ∷ []) ≡ true
-digits_step m ds h = list_all-append is_name_part ds ((48 + m % 10) ∷ []) ∙ rw (h, digit_part (m % 10) (omega arith)) refl
-
-pub digit_one : (m : ℕ) → m < 10 → list_all is_name_part ((48 + m) ∷ []) ≡ true
-digit_one m h = rw (digit_part m h) refl
-
-pub digits_are_parts : (n : ℕ) → n < 2 ^ 64 → list_all is_name_part (decimal n) ≡ true
-digits_are_parts = decimal_by_steps (λ m ds. list_all is_name_part ds ≡ true) (λ m l. digit_one m l) (λ m ds l h. digits_step m ds h)
 
 label_spelled : (n : ℕ) → n < 2 ^ 32 → is_name (label_name n) ≡ true
 label_spelled n lt =
