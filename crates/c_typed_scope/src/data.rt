@@ -10,6 +10,7 @@ use c_types::{Expression, TypeFault, TypeKind};
 use gg_base::limits::{AREA_LIMIT, AREA_START};
 use gg_base::{Bytes, Name};
 use std::alloc::{AllocError, Global};
+use tree_core::spelling::function_label;
 use tree_core::{Links, Object};
 
 /// The objects so far, the end of the last, and how many literals and static locals have one. While a length is
@@ -136,12 +137,9 @@ pub fn static_label(alloc: Global, number: u32) -> Result<Name, AllocError>
     Ok(Name::from_vec(text.into_bytes()))
 }
 
-/// The label of a variable at file level: an underscore and its name.
+/// The label of a variable at file level: an underscore and its name, as a function's.
 pub fn variable_label(alloc: Global, name: &Name) -> Result<Name, AllocError>
     ensures { IfOk result (λ n. n ≡ 95 ∷ name.now) }
 {
-    let mut label = Vec::new(alloc);
-    label.push(b'_')?;
-    label.extend_from_slice(name.as_slice())?;
-    Ok(Name::from_vec(label))
+    function_label(alloc, name)
 }

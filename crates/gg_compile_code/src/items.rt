@@ -11,9 +11,10 @@ use gg_base::NoMemory;
 use sel_parse::{Generator, SelectFault, select};
 use sel_regs::Slots;
 use std::alloc::{AllocError, Global};
+use tree_core::spelling::label_name;
 use tree_core::{TreeFn, TreeItem, TreeProgram};
 use vax_core::{CodeItem, Instr};
-use vax_target::{Vax, label_name};
+use vax_target::Vax;
 
 /// The code of a function's items, and how many words its frame has.
 #[derive(Drop)]

@@ -8,6 +8,7 @@ mod lists;
 mod names;
 mod objects;
 mod program;
+pub mod spelling;
 mod token;
 mod tree;
 mod typing;

@@ -12,6 +12,7 @@ use crate::mask::entry_mask;
 use gg_base::{Name, NoMemory};
 use std::alloc::Global;
 use tree_core::TreeFn;
+use tree_core::spelling::function_label;
 use vax_core::{Addr, Base, CodeItem, Instr, Op, Operand, Operands, Reg};
 
 /// The home of a local: `-4(k+1)(fp)` for local k.
@@ -77,16 +78,6 @@ fn ret(alloc: Global) -> CodeItem
     ensures { result ≡ item_kind.Instr (instr Ret []) }
 {
     instr(Op::Ret, Operands::new(alloc))
-}
-
-/// A function's label: its name with `_` in front.
-pub fn function_label(alloc: Global, name: &Name) -> Result<Name, NoMemory>
-    ensures { IfOk result (λ n. n ≡ function_label name.now) }
-{
-    let mut label = Vec::new(alloc);
-    label.push(b'_')?;
-    label.extend_from_slice(name.as_slice())?;
-    Ok(Name::from_vec(label))
 }
 
 // What stands before the body.

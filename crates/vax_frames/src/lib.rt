@@ -4,7 +4,7 @@
 pub mod frame;
 pub mod mask;
 
-pub use frame::{frame_code, function_label, home};
+pub use frame::{frame_code, home};
 
 #[cfg(test)]
 mod tests;

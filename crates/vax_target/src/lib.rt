@@ -17,5 +17,4 @@ mod taking;
 mod vax;
 mod word;
 
-pub use line::label_name;
 pub use vax::{State, Vax};

@@ -1,7 +1,6 @@
 // Lines of templates with their holes filled.
 ghost use Rattle.std.specs.Prelude.{◌≡◌, IfOk, map, take};
 ghost use Rattle.std.specs.Option.{option_map};
-ghost use Rattle.tree_core.specs.Names.{label_name};
 ghost use Rattle.vax_templates.specs.FilledLines.{op_of_relation, op_of_att, op_in, label_of_att, label_in, label_among};
 ghost use Rattle.vax_templates.specs.FilledLines.{branch_to};
 ghost use Rattle.vax_templates.specs.FilledLines.{callee_of_att, callee_in, callee_among, callee_name, plain_return, call_of};
@@ -17,8 +16,8 @@ use md_reader::Piece;
 use sel_target::Attr;
 use std::alloc::Global;
 use tree_core::Att;
+use tree_core::spelling::{function_label, label_name};
 use vax_core::{Base, Instr, Op, Operand, Operands};
-use vax_frames::function_label;
 use vax_templates::Form;
 
 fn op_of_relation(rel: Rel) -> Op
@@ -90,14 +89,6 @@ fn callee_among(holes: &[Attr<Operand>]) -> Option<(u32, u32)>
     holes.iter().find_map(callee_in)
 }
 
-/// The label of a tree program's label: `L` and the number in decimal.
-pub fn label_name(alloc: Global, label: u32) -> Result<Name, NoMemory>
-    ensures { IfOk result (λ name. name ≡ label_name label) }
-{
-    let name = format!(in alloc; "L{label}")?;
-    Ok(Name::from_vec(name.into_bytes()))
-}
-
 fn plain_return(alloc: Global) -> Instr
     ensures { result ≡ plain_return }
 {
@@ -129,7 +120,7 @@ impl<'a> Filling<'a> {
     {
         let functions = self.program.functions.as_slice();
         if let Some(function) = functions.get(n as usize) {
-            return function_label(self.alloc, &function.name);
+            return Ok(function_label(self.alloc, &function.name)?);
         }
         let mut name = Vec::new(self.alloc);
         if n as usize == functions.len() {
