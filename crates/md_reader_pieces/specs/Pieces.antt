@@ -1,5 +1,5 @@
 -- The text of an instruction, and the pieces of a text.
-use Rattle.std.specs.Prelude.{◌≡◌, ℕ, suc, ◌==◌, List, [], ◌∷◌, ◌++◌, take, drop, Option, Some, None, Result, Ok, Err, if◌then◌else◌}
+use Rattle.std.specs.Prelude.{◌≡◌, ℕ, not, ◌==◌, List, [], ◌∷◌, ◌++◌, take, drop, Option, Some, None, Result, Ok, Err, if◌then◌else◌}
 use Rattle.std.specs.Char.{is_ascii_digit}
 use Rattle.std.specs.Option.{option_map}
 use Rattle.std.specs.Global.{Vec}
@@ -69,8 +69,7 @@ pieces text = pieces_of (parts text)
 
 -- how a part is cut off
 abbrev pub part_len : List ℕ → ℕ
-part_len [] = 0
-part_len (b ∷ bs) = if b == 37 then 0 else suc (part_len bs)
+part_len text = run_len (λ b. not (b == 37)) text
 
 -- the parts of what is left, which begins with a `%` if it is not empty
 abbrev pub parts_behind : List ℕ → List (List ℕ)

@@ -1,5 +1,6 @@
 -- The lines of a text.
-use Rattle.std.specs.Prelude.{ℕ, suc, ◌==◌, List, [], ◌∷◌, take, drop, Option, Some, None, if◌then◌else◌}
+use Rattle.std.specs.Prelude.{ℕ, not, ◌==◌, List, [], ◌∷◌, take, drop, Option, Some, None, if◌then◌else◌}
+use Rattle.gg_base.specs.Fronts.{run_len}
 use Rattle.md_reader_text.specs.Lists.{put_front}
 
 -- what line feeds end; the last line may lack its own
@@ -9,8 +10,7 @@ lines (b ∷ bs) = if b == 10 then [] ∷ lines bs else put_front b (lines bs)
 
 -- how a line is cut off
 abbrev pub line_len : List ℕ → ℕ
-line_len [] = 0
-line_len (b ∷ bs) = if b == 10 then 0 else suc (line_len bs)
+line_len text = run_len (λ b. not (b == 10)) text
 
 abbrev pub behind_first : List ℕ → List ℕ
 behind_first [] = []

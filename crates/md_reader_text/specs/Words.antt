@@ -1,6 +1,7 @@
 -- The words of a line.
-use Rattle.std.specs.Prelude.{ℕ, suc, Bool, true, false, ◌==◌, ◌||◌, List, [], ◌∷◌, take, drop, Option, Some, None, if◌then◌else◌}
+use Rattle.std.specs.Prelude.{ℕ, Bool, true, false, not, ◌==◌, ◌||◌, List, [], ◌∷◌, take, drop, Option, Some, None, if◌then◌else◌}
 use Rattle.std.specs.Str.{bytes_eq}
+use Rattle.gg_base.specs.Fronts.{run_len}
 use Rattle.md_reader_text.specs.Lists.{put_front}
 
 -- a space or a tab
@@ -27,8 +28,7 @@ without_blanks [] = []
 without_blanks (b ∷ bs) = if is_blank b then without_blanks bs else b ∷ bs
 
 abbrev pub word_len : List ℕ → ℕ
-word_len [] = 0
-word_len (b ∷ bs) = if is_blank b then 0 else suc (word_len bs)
+word_len line = run_len (λ b. not (is_blank b)) line
 
 abbrev pub word_at : List ℕ → Option (List ℕ × List ℕ)
 word_at [] = None

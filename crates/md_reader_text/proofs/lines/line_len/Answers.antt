@@ -1,14 +1,13 @@
-use Rattle.std.proofs.Common.{rules, ◌∙◌, ◌==◌, length, refl, sym, ap}
+use Rattle.std.proofs.Common.{rules, ◌∙◌, ◌==◌, length, sym, ap}
 use Rattle.std.specs.Prelude.{unwrap_or}
 use Rattle.std.proofs.lemmas.Iterator.{YieldsList-from_slice}
 use Rattle.std.proofs.lemmas.Iterator.Search.{position_from_yields_List}
 use borrow.Author.Tests.{tests}
-use Rattle.md_reader_text.specs.Lines.{line_len}
-use Rattle.gg_base.proofs.FrontLaws.{len_found}
+use Rattle.gg_base.proofs.FrontLaws.{ends_found}
 use Rattle.md_reader_text.proofs.lines.line_len.Goals as goal
 
 pub returns-clause-len : goal.returns-clause-len
 returns-clause-len c =
     let text = c.args.text.now in
     let found = position_from_yields_List (λ b. b == 10) _ _ _ c.position.ensures.ran (YieldsList-from_slice text cc) (λ x b q k. search (rules, tests)) in
-    c.unwrap_or.ensures ∙ (ap (λ o. unwrap_or o (length text)) found ∙ sym (len_found (λ b. b == 10) line_len refl (λ b bs. refl) text))
+    c.unwrap_or.ensures ∙ (ap (λ o. unwrap_or o (length text)) found ∙ sym (ends_found (λ b. b == 10) text))

@@ -1,14 +1,14 @@
-use Rattle.std.proofs.Common.{rules, ◌∙◌, length, refl, sym, ap}
+use Rattle.std.proofs.Common.{rules, ◌∙◌, length, sym, ap}
 use Rattle.std.specs.Prelude.{unwrap_or}
 use Rattle.std.proofs.lemmas.Iterator.{YieldsList-from_slice}
 use Rattle.std.proofs.lemmas.Iterator.Search.{position_from_yields_List}
 use borrow.Author.Tests.{tests}
-use Rattle.md_reader_text.specs.Words.{is_blank, word_len}
-use Rattle.gg_base.proofs.FrontLaws.{len_found}
+use Rattle.md_reader_text.specs.Words.{is_blank}
+use Rattle.gg_base.proofs.FrontLaws.{ends_found}
 use Rattle.md_reader_text.proofs.words.word_len.Goals as goal
 
 pub returns-clause-len : goal.returns-clause-len
 returns-clause-len c =
     let line = c.args.line.now in
     let found = position_from_yields_List is_blank _ _ _ c.position.ensures.ran (YieldsList-from_slice line cc) (λ x b q k. search (rules, tests)) in
-    c.unwrap_or.ensures ∙ (ap (λ o. unwrap_or o (length line)) found ∙ sym (len_found is_blank word_len refl (λ b bs. refl) line))
+    c.unwrap_or.ensures ∙ (ap (λ o. unwrap_or o (length line)) found ∙ sym (ends_found is_blank line))
