@@ -1,7 +1,7 @@
 -- What `find_map` answers, by the list that is gone through.
 use Rattle.std.proofs.Common.{◌≡◌, ℕ, suc, List, [], ◌∷◌, Option, Some, None, sym, ap, ◌∙◌, subst, refl}
 use Rattle.std.specs.Prelude.{◌<◌, ◌+◌, IsTrue, IfSome, slice_get}
-use Rattle.std.specs.Option.{MatchOption, option_map}
+use Rattle.std.specs.Option.{MatchOption, option_map, option_or}
 use Rattle.std.specs.Fn.{Called}
 use Rattle.std.specs.List.{FoldsTo}
 use Rattle.std.specs.Iterator.{AlwaysYields, Yields, FindsMapped}
@@ -9,15 +9,10 @@ use Rattle.std.specs.Iterator.Runs.{YieldsRun, SomeRun, AllItemsGive, IsFirstToG
 use Rattle.gg_base.proofs.Facts.{some_none}
 use denote.Param.Members.{Mut}
 
--- an answer, or else what comes later
-abbrev pub or_later : {C : Type 0} → Option C → Option C → Option C
-or_later (Some x) later = Some x
-or_later None later = later
-
 -- the first answer of h
 abbrev pub first_given : {B C : Type 0} → (B → Option C) → List B → Option C
 first_given h [] = None
-first_given h (y ∷ ys) = or_later (h y) (first_given h ys)
+first_given h (y ∷ ys) = option_or (h y) (first_given h ys)
 
 module _ {S A B C R F : Type 0} (steps : S → Option A → S → Type 0) (v : A → B) (w : R → C) (g : Mut F (A × Unit {0}) (Option R)) (f : F) (h : B → Option C)
     (k : (x : A) (r : Option R) (q : F) → Called g f (x, tt) r q → (q ≡ f) × (option_map w r ≡ h (v x))) where
@@ -29,13 +24,13 @@ module _ {S A B C R F : Type 0} (steps : S → Option A → S → Type 0) (v : A
   found n [] (Some x) s t u j (z ∷ ys) e y c p m =
       let a = k x (Some n) m.0 (subst (λ i. Called g i (x, tt) (Some n) m.0) (sym c) m.1) in
       let next = e.1 x u (subst (λ i. steps i (Some x) u) (sym y) p) in
-      ap (λ i. or_later i (first_given h ys)) (a.1 ∙ ap h next.0)
+      ap (λ i. option_or i (first_given h ys)) (a.1 ∙ ap h next.0)
   found n (x ∷ xs) o s t u j [] e y c p m = absurd (e x y.0 y.1)
   found n (x ∷ xs) o s t u j (z ∷ ys) e y c p m =
       let a = k x None c.0 c.1 in
       let next = e.1 x y.0 y.1 in
       found n xs o y.0 t u j ys next.1 y.2 (subst (λ i. FoldsTo (λ l w q. Called g l (w, tt) None q) i xs j) a.0 c.2) p m
-      ∙ ap (λ i. or_later i (first_given h ys)) (a.1 ∙ ap h next.0)
+      ∙ ap (λ i. option_or i (first_given h ys)) (a.1 ∙ ap h next.0)
 
   none_found : (xs : List A) (s t u : S) (ys : List B) → AlwaysYields steps v s ys → Yields steps s xs t → steps t None u
       → ((i : ℕ) → IfSome (slice_get xs i) (λ x. Called g f (x, tt) None f)) → None ≡ first_given h ys
@@ -45,7 +40,7 @@ module _ {S A B C R F : Type 0} (steps : S → Option A → S → Type 0) (v : A
   none_found (x ∷ xs) s t u (z ∷ ys) e y p b =
       let a = k x None f (b 0) in
       let next = e.1 x y.0 y.1 in
-      none_found xs y.0 t u ys next.1 y.2 p (λ i. b (suc i)) ∙ ap (λ i. or_later i (first_given h ys)) (a.1 ∙ ap h next.0)
+      none_found xs y.0 t u ys next.1 y.2 p (λ i. b (suc i)) ∙ ap (λ i. option_or i (first_given h ys)) (a.1 ∙ ap h next.0)
 
   -- what is found, read by w, is the first answer
   pub found_by : (r : Option R) (s u : S) (ys : List B) → AlwaysYields steps v s ys → FindsMapped steps g s f r u

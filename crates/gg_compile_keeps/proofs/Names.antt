@@ -2,6 +2,7 @@
 use Rattle.std.proofs.Common.{◌≡◌, ℕ, zero, suc, List, [], ◌∷◌, ◌++◌, Option, Some, None, refl, sym, ap, ◌∙◌, subst}
 use Rattle.std.specs.Prelude.{slice_get}
 use Rattle.std.specs.List.{AllByRecursion as All}
+use Rattle.std.specs.Option.{option_or}
 use Rattle.gg_base.proofs.Facts.{all_append}
 use Rattle.tree_core.specs.declared.tree.Leaf.{Leaf}
 use Rattle.tree_core.specs.declared.program.TreeItem.{TreeItem}
@@ -14,7 +15,7 @@ use Rattle.sel_parse_effect.specs.Claims.{IsFit}
 use Rattle.vax_core.specs.declared.code.AreaItem.{AreaItem}
 use Rattle.vax_core.specs.declared.code.CodeItem.{CodeItem}
 use Rattle.vax_core.specs.declared.code.Instr.{Instr}
-use Rattle.vax_machine.specs.Labels.{first_of, undefined_in, undefined_at, undefined_label}
+use Rattle.vax_machine.specs.Labels.{undefined_in, undefined_at, undefined_label}
 use Rattle.vax_frames.specs.Frames.{code_items, room_code, end_code}
 use Rattle.vax_target_meaning.specs.Vax.{vax}
 use Rattle.gg_compile_law.specs.Spelling.{area_of}
@@ -81,7 +82,7 @@ module _ (q : TreeProgram) (ok : IsSelectable q) (d : Content) (fit : IsFit vax 
 
   none_undefined : (xs : List CodeItem) → All Fine xs → undefined_label xs area code ≡ None
   none_undefined [] h = refl
-  none_undefined (x ∷ xs) h = ap (λ (o : Option (List ℕ)). first_of o (undefined_label xs area code)) h.0 ∙ none_undefined xs h.1
+  none_undefined (x ∷ xs) h = ap (λ (o : Option (List ℕ)). option_or o (undefined_label xs area code)) h.0 ∙ none_undefined xs h.1
 
   pub all_named : AreSelectedFunctions vax d q q.functions code → undefined_label code area code ≡ None
   all_named s = none_undefined code (functions_fine q.functions code (λ k g e. (k, e)) s)

@@ -7,13 +7,14 @@ use Rattle.std.proofs.lemmas.Bool.{and_parts, eqb-true, leb-true, true≢false}
 use Rattle.std.proofs.lemmas.List.{length-replicate}
 use Rattle.std.proofs.lemmas.Slice.Eq.{bytes_eq-Decides}
 use Rattle.std.proofs.lemmas.Option.{same_Some}
+use Rattle.std.specs.Option.{option_or}
 use Rattle.gg_base.proofs.Facts.{some_none, or_true}
 use Rattle.vax_core.specs.declared.code.Code.{Code}
 use Rattle.vax_core.specs.declared.code.CodeItem.{CodeItem}
 use Rattle.vax_core.specs.declared.code.AreaItem.{AreaItem}
 use Rattle.vax_core.specs.declared.code.AreaItem.TheVariants as areas
 use Rattle.vax_machine.specs.Area.{zeros, padding, size_at, end_from, is_area_label, has_area_label, address_from, label_address, item_bytes, bytes_from}
-use Rattle.vax_machine.specs.Labels.{is_service, has_label, double_area_label, double_label, first_of}
+use Rattle.vax_machine.specs.Labels.{is_service, has_label, double_area_label, double_label}
 use Rattle.vax_machine.specs.Loading.{Loads, or_double}
 use Rattle.tree_core.specs.declared.program.Object.{Object}
 use Rattle.tree_core.specs.Area.{bytes_from as opening_from}
@@ -166,7 +167,7 @@ first_address (x ∷ pre) post n code at e =
 pub area_labels_differ : (c : Code) → Loads c → double_area_label c.area c.items ≡ None
 area_labels_differ c h = by (double_area_label c.area c.items) (double_label c.items) h
   where
-    by : (a b : Option (List ℕ)) → or_double (first_of a b) c ≡ None → a ≡ None
+    by : (a b : Option (List ℕ)) → or_double (option_or a b) c ≡ None → a ≡ None
     by (Some n) b e = absurd (some_none _ e)
     by None b e = refl
 

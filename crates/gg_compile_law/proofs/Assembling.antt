@@ -7,11 +7,12 @@ use Rattle.std.proofs.lemmas.List.{drop_at}
 use Rattle.std.proofs.lemmas.Bool.{eqb-true, true≢false}
 use Rattle.std.proofs.lemmas.Slice.Eq.{bytes_eq-Decides}
 use Rattle.std.proofs.lemmas.Option.{same_Some}
+use Rattle.std.specs.Option.{option_or}
 use Rattle.gg_base.proofs.Facts.{some_none, slice_seam}
 use Rattle.vax_core.specs.declared.code.Code.{Code}
 use Rattle.vax_core.specs.declared.code.CodeItem.{CodeItem}
 use Rattle.vax_core.specs.declared.code.CodeItem.TheVariants as item_kind
-use Rattle.vax_machine.specs.Labels.{label_place, double_label, double_area_label, skipped, next_item, first_of}
+use Rattle.vax_machine.specs.Labels.{label_place, double_label, double_area_label, skipped, next_item}
 use Rattle.vax_machine.specs.Loading.{Loads, or_double}
 use Rattle.tree_core.specs.declared.program.TreeItem.{TreeItem}
 use Rattle.tree_core.specs.declared.program.TreeItem.TheVariants as tree_item
@@ -55,7 +56,7 @@ has_all (x ∷ xs) pre rest =
 pub labels_differ : (c : Code) → Loads c → double_label c.items ≡ None
 labels_differ c h = by (double_area_label c.area c.items) (double_label c.items) h
   where
-    by : (a b : Option (List ℕ)) → or_double (first_of a b) c ≡ None → b ≡ None
+    by : (a b : Option (List ℕ)) → or_double (option_or a b) c ≡ None → b ≡ None
     by (Some n) b e = absurd (some_none _ e)
     by None (Some n) e = absurd (some_none _ e)
     by None None e = refl

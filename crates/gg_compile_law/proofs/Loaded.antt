@@ -7,6 +7,7 @@ use Rattle.std.proofs.lemmas.Bool.{and_parts, le-ltb, ltb-true, true≢false, fa
 use Rattle.std.proofs.lemmas.List.Elements.{recursion_from_All}
 use Rattle.std.proofs.lemmas.Slice.Eq.{bytes_eq-Decides}
 use Rattle.std.proofs.lemmas.Option.{same_Some}
+use Rattle.std.specs.Option.{option_or}
 use Rattle.gg_base.proofs.Facts.{slice_some, or_true}
 use Rattle.vax_core.specs.declared.code.Code.{Code}
 use Rattle.vax_core.specs.declared.code.CodeItem.{CodeItem}
@@ -14,7 +15,7 @@ use Rattle.vax_core.specs.declared.code.AreaItem.{AreaItem}
 use Rattle.vax_core.specs.declared.code.AreaItem.TheVariants as areas
 use Rattle.vax_machine.specs.declared.loading.LoadFault.TheVariants as loading_fault
 use Rattle.vax_machine.specs.Area.{end_from, area_size, is_area_label, has_area_label}
-use Rattle.vax_machine.specs.Labels.{is_service, has_label, double_label, double_area_label, undefined_name, undefined_area_label, undefined_label, first_of}
+use Rattle.vax_machine.specs.Labels.{is_service, has_label, double_label, double_area_label, undefined_name, undefined_area_label, undefined_label}
 use Rattle.vax_machine.specs.Loading.{too_large, or_undefined, or_double, undefined_name_of, double_label_of}
 use Rattle.tree_core.specs.declared.program.Link.{Link}
 use Rattle.tree_core.specs.declared.program.Object.{Object}
@@ -125,7 +126,7 @@ module _ (all : List Object) where
 
     named_link : (l : Link) (xs : List AreaItem) → l.object < length all → Named xs → Named (areas.Long (link_addr all l) ∷ xs)
     unfolding Named
-    named_link l xs lt h = ap (λ (o : Option (List ℕ)). first_of o (undefined_area_label xs whole)) (defined l lt) ∙ h
+    named_link l xs lt h = ap (λ (o : Option (List ℕ)). option_or o (undefined_area_label xs whole)) (defined l lt) ∙ h
 
     abbrev LinksName : List Link → Type 0
     LinksName [] = Unit {0}
@@ -151,8 +152,8 @@ module _ (all : List Object) where
     named_behind (areas.Space n ∷ xs) ys h g = named_behind xs ys h g
     named_behind (areas.Long a ∷ xs) ys h g = by (undefined_name whole a.name) h (λ k. named_behind xs ys k g)
       where
-        by : (o : Option (List ℕ)) → first_of o (undefined_area_label xs whole) ≡ None → (undefined_area_label xs whole ≡ None → undefined_area_label (xs ++ ys) whole ≡ None)
-            → first_of o (undefined_area_label (xs ++ ys) whole) ≡ None
+        by : (o : Option (List ℕ)) → option_or o (undefined_area_label xs whole) ≡ None → (undefined_area_label xs whole ≡ None → undefined_area_label (xs ++ ys) whole ≡ None)
+            → option_or o (undefined_area_label (xs ++ ys) whole) ≡ None
         by None k more = more k
         by (Some n) k more = absurd (cc)
 
@@ -204,11 +205,11 @@ assembled_loads program c valid small apart functions area names =
     (from_trees o.label program.functions small) in
     let double_area : double_area_label c.area c.items ≡ None = ap (λ (x : List AreaItem). double_area_label x c.items) area ∙ no_double os c.items os apart.differ apart.services none_there in
     let double_code = code_labels_differ program c.items valid small functions in
-    let double : double_label_of c ≡ None = ap (λ (o : Option (List ℕ)). first_of o (double_label c.items)) double_area ∙ double_code in
+    let double : double_label_of c ≡ None = ap (λ (o : Option (List ℕ)). option_or o (double_label c.items)) double_area ∙ double_code in
     let labels : (k : ℕ) (o : Object) → slice_get os k ≡ Some o → has_area_label c.area o.label ≡ true =
     λ k o is. ap (λ (x : List AreaItem). has_area_label x o.label) area ∙ has_object os os k o is in
     let named_area : undefined_area_label c.area c.area ≡ None = ap (λ (x : List AreaItem). undefined_area_label x c.area) area ∙ area_named program c labels links in
-    let named : undefined_name_of c ≡ None = ap (λ (o : Option (List ℕ)). first_of o (undefined_label c.items c.area c.items)) named_area ∙ names in
+    let named : undefined_name_of c ≡ None = ap (λ (o : Option (List ℕ)). option_or o (undefined_label c.items c.area c.items)) named_area ∙ names in
     let main = main_stands program c.items valid functions in
     let low : end_from (area_of os) 65536 ≤ 1114112 = size_low os os 65536 valid.objects links (omega arith) in
     let small_area : nat_lt 1048576 (area_size c.area) ≡ false = ap (λ (x : List AreaItem). nat_lt 1048576 (area_size x)) area ∙ le-ltb 1048576 (area_size (area_of os)) (omega (arith, low)) in

@@ -18,7 +18,7 @@ use Rattle.vax_core.specs.declared.code.AreaItem.{AreaItem}
 use Rattle.vax_core.specs.declared.code.CodeItem.{CodeItem}
 use Rattle.vax_core.specs.declared.code.Instr.{Instr}
 use Rattle.vax_machine.specs.Functions.{action_of}
-use Rattle.vax_machine.specs.Labels.{is_service, is_call, has_label, first_of, undefined_operand, undefined_target, undefined_in}
+use Rattle.vax_machine.specs.Labels.{is_service, is_call, has_label, undefined_operand, undefined_target, undefined_in}
 use Rattle.vax_templates.specs.declared.form.Form.{Form}
 use Rattle.vax_templates.specs.Instructions.{Instruction, Relation, Jump, Calls, Ret, Operates, instruction_of}
 use Rattle.vax_templates.specs.Filled.{attr_at, filled}
@@ -89,7 +89,7 @@ module _ (q : TreeProgram) (area : List AreaItem) (code : List CodeItem) (there 
       → undefined_operand area (map (filled q holes z) fs) ≡ None
   operands_fine holes z h k [] = refl
   operands_fine holes z h k (f ∷ fs) =
-      ap (λ (o : Option (List ℕ)). first_of o (undefined_operand area (map (filled q holes z) fs))) (filled_named q area code there.objects holes z f h k)
+      ap (λ (o : Option (List ℕ)). option_or o (undefined_operand area (map (filled q holes z) fs))) (filled_named q area code there.objects holes z f h k)
       ∙ operands_fine holes z h k fs
 
   instruction_fine : (holes : List (Attr Operand)) (z : Attr Operand) → All (Good q area code) holes → Good q area code z → (i : Option Instruction)
@@ -100,7 +100,7 @@ module _ (q : TreeProgram) (area : List AreaItem) (code : List CodeItem) (there 
   instruction_fine holes z h k (Some Calls) = call_fine (callee_among holes)
   instruction_fine holes z h k (Some Ret) = refl
   instruction_fine holes z h k (Some (Operates op fs)) =
-      ap (λ (o : Option (List ℕ)). first_of o None) (operands_fine holes z h k (take 3 fs))
+      ap (λ (o : Option (List ℕ)). option_or o None) (operands_fine holes z h k (take 3 fs))
 
   filled_fine : (is : List Instr) → All (IsFilled vax q (good q area code)) is → All Fine is
   filled_fine [] h = tt

@@ -2,6 +2,7 @@
 use Rattle.std.proofs.Common.{◌≡◌, ℕ, ◌≤◌, true, false, cond, List, [], Option, Some, None, Result, Ok, Err, refl, sym, ap, subst, ◌∙◌, arith}
 use Rattle.std.specs.Prelude.{nat_lt}
 use Rattle.std.proofs.lemmas.Bool.{le-ltb}
+use Rattle.std.specs.Option.{option_or}
 use Rattle.vax_core.specs.declared.code.AreaItem.{AreaItem}
 use Rattle.vax_core.specs.declared.code.CodeItem.{CodeItem}
 use Rattle.vax_core.specs.declared.code.Code.{Code}
@@ -13,7 +14,7 @@ use Rattle.vax_machine.specs.declared.loading.LoadFault.TheVariants as loading_f
 use Rattle.vax_machine.specs.State.{State}
 use Rattle.vax_machine.specs.Area.{zeros, area_size, area_bytes}
 use Rattle.vax_machine.specs.LaidOut.{IsLaidOut}
-use Rattle.vax_machine.specs.Labels.{has_label, label_place, first_of, undefined_label, undefined_area_label}
+use Rattle.vax_machine.specs.Labels.{has_label, label_place, undefined_label, undefined_area_label}
 use Rattle.vax_machine.specs.Calls.{called}
 use Rattle.vax_machine.specs.Loading.{too_large, or_undefined, or_double, undefined_name_of, double_label_of, Loads, blank, begun, start, SameFrom, Stands}
 
@@ -33,7 +34,7 @@ loads_by c layout items l e f double area code main laid =
     let area_is : undefined_area_label c.area c.area ≡ None = sym (area ∙ ap (λ (x : List AreaItem). undefined_area_label x x) e) in
     let code_is : undefined_label c.items c.area c.items ≡ None = sym (code ∙ ap (λ (x : List CodeItem). undefined_label x layout x) f
     ∙ ap (λ (x : List AreaItem). undefined_label c.items x c.items) e) in
-    let names : undefined_name_of c ≡ None = ap (λ (o : Option (List ℕ)). first_of o (undefined_label c.items c.area c.items)) area_is ∙ code_is in
+    let names : undefined_name_of c ≡ None = ap (λ (o : Option (List ℕ)). option_or o (undefined_label c.items c.area c.items)) area_is ∙ code_is in
     let main_is : has_label c.items main_name ≡ true = sym (main ∙ ap (λ (x : List CodeItem). has_label x main_name) f) in
     let size : area_size layout ≤ 1048576 = omega (arith, laid.end, laid.small) in
     let fits : nat_lt 1048576 (area_size c.area) ≡ false = ap (λ (x : List AreaItem). nat_lt 1048576 (area_size x)) (sym e) ∙ le-ltb 1048576 (area_size layout) size in

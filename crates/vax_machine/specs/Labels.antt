@@ -2,6 +2,7 @@
 use Rattle.std.specs.Prelude.{ℕ, ◌+◌, Bool, true, false, ◌||◌, ◌&&◌, List, [], ◌∷◌, drop, Option, Some, None, codes, if◌then◌else◌}
 use Rattle.std.specs.List.{list_any}
 use Rattle.std.specs.Str.{bytes_eq}
+use Rattle.std.specs.Option.{option_or}
 use Rattle.vax_core.specs.declared.operand.Base.{Base}
 use Rattle.vax_core.specs.declared.operand.Base.TheVariants as bases
 use Rattle.vax_core.specs.declared.operand.Operand.{Operand}
@@ -87,10 +88,6 @@ name_in (bases.Abs n) = None
 name_in (bases.Rel a) = a.name
 name_in (bases.RelDef a) = a.name
 
-abbrev pub first_of : Option (List ℕ) → Option (List ℕ) → Option (List ℕ)
-first_of (Some n) others = Some n
-first_of None others = others
-
 -- a name with an offset is a label of the data area
 abbrev pub undefined_name : List AreaItem → Option (List ℕ) → Option (List ℕ)
 undefined_name layout None = None
@@ -99,7 +96,7 @@ undefined_name layout (Some n) = if has_area_label layout n then None else Some 
 -- the first name in some operands that is no label of the data area
 abbrev pub undefined_operand : List AreaItem → List Operand → Option (List ℕ)
 undefined_operand layout [] = None
-undefined_operand layout (o ∷ os) = first_of (undefined_name layout (name_in o.base)) (undefined_operand layout os)
+undefined_operand layout (o ∷ os) = option_or (undefined_name layout (name_in o.base)) (undefined_operand layout os)
 
 abbrev pub is_call : Action → Bool
 is_call (action.Compute f) = false
@@ -114,7 +111,7 @@ undefined_target all call None = None
 undefined_target all call (Some t) = if (call && is_service t) || has_label all t then None else Some t
 
 abbrev pub undefined_in : List AreaItem → List CodeItem → Instr → Option (List ℕ)
-undefined_in layout all i = first_of (undefined_operand layout i.operands) (undefined_target all (is_call (action_of i.op)) i.target)
+undefined_in layout all i = option_or (undefined_operand layout i.operands) (undefined_target all (is_call (action_of i.op)) i.target)
 
 abbrev pub undefined_at : List AreaItem → List CodeItem → CodeItem → Option (List ℕ)
 undefined_at layout all (item_kind.Label n) = None
@@ -125,7 +122,7 @@ undefined_at layout all (item_kind.Instr i) = undefined_in layout all i
 -- the first name of an instruction that isn't defined for its use
 abbrev pub undefined_label : List CodeItem → List AreaItem → List CodeItem → Option (List ℕ)
 undefined_label [] layout all = None
-undefined_label (item ∷ rest) layout all = first_of (undefined_at layout all item) (undefined_label rest layout all)
+undefined_label (item ∷ rest) layout all = option_or (undefined_at layout all item) (undefined_label rest layout all)
 
 abbrev pub undefined_area_at : List AreaItem → AreaItem → Option (List ℕ)
 undefined_area_at layout (areas.Label n) = None
@@ -139,4 +136,4 @@ undefined_area_at layout (areas.Space n) = None
 -- the first name of a `.long` that is no label of the data area
 abbrev pub undefined_area_label : List AreaItem → List AreaItem → Option (List ℕ)
 undefined_area_label [] layout = None
-undefined_area_label (item ∷ rest) layout = first_of (undefined_area_at layout item) (undefined_area_label rest layout)
+undefined_area_label (item ∷ rest) layout = option_or (undefined_area_at layout item) (undefined_area_label rest layout)

@@ -1,5 +1,6 @@
 -- When a code can be run, and where its run begins.
 use Rattle.std.specs.Prelude.{◌≡◌, ℕ, nat_lt, List, [], ◌∷◌, Option, Some, None, Result, Ok, Err, if◌then◌else◌}
+use Rattle.std.specs.Option.{option_or}
 use Rattle.vax_core.specs.declared.code.Code.{Code}
 use Rattle.vax_core.specs.First.{main_name}
 use Rattle.vax_machine.specs.declared.turn.Stop.{Stop}
@@ -9,7 +10,7 @@ use Rattle.vax_machine.specs.declared.loading.LoadFault.{LoadFault}
 use Rattle.vax_machine.specs.declared.loading.LoadFault.TheVariants as loading_fault
 use Rattle.vax_machine.specs.State.{State, cleared}
 use Rattle.vax_machine.specs.Area.{zeros, area_size, area_bytes}
-use Rattle.vax_machine.specs.Labels.{has_label, label_place, first_of, double_label, double_area_label}
+use Rattle.vax_machine.specs.Labels.{has_label, label_place, double_label, double_area_label}
 use Rattle.vax_machine.specs.Labels.{undefined_label, undefined_area_label}
 use Rattle.vax_machine.specs.Calls.{called}
 use Rattle.vax_machine.specs.View.{state}
@@ -27,7 +28,7 @@ or_undefined None c = no_main c
 
 -- the first name of a text that isn't defined for its use, the data area's before the code's
 abbrev pub undefined_name_of : Code → Option (List ℕ)
-undefined_name_of c = first_of (undefined_area_label c.area c.area) (undefined_label c.items c.area c.items)
+undefined_name_of c = option_or (undefined_area_label c.area c.area) (undefined_label c.items c.area c.items)
 
 abbrev pub or_double : Option (List ℕ) → Code → Option LoadFault
 or_double (Some n) c = Some (loading_fault.DoubleLabel n)
@@ -35,7 +36,7 @@ or_double None c = or_undefined (undefined_name_of c) c
 
 -- the first label of a text that stands again behind it or has a service's name, the data area's before the code's
 abbrev pub double_label_of : Code → Option (List ℕ)
-double_label_of c = first_of (double_area_label c.area c.items) (double_label c.items)
+double_label_of c = option_or (double_area_label c.area c.items) (double_label c.items)
 
 -- the first fault of a code: a label that stands twice or is a service's name; a name that isn't defined for its use;
 -- no `_main`; a data area that is too large

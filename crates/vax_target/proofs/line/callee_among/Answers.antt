@@ -1,19 +1,15 @@
-use Rattle.std.proofs.Common.{◌≡◌, ℕ, List, [], ◌∷◌, Option, Some, None, refl, ap, ◌∙◌, rules, tests}
+use Rattle.std.proofs.Common.{◌≡◌, List, [], ◌∷◌, refl, ap, ◌∙◌, rules, tests}
 use Rattle.std.proofs.lemmas.Iterator.{YieldsList-from_slice}
 use Rattle.std.specs.Option.{option_or}
-use Rattle.gg_base.proofs.Mapping.{or_later, first_given, found_first}
+use Rattle.gg_base.proofs.Mapping.{first_given, found_first}
 use Rattle.sel_target.specs.declared.attr.Attr.{Attr}
 use Rattle.vax_core.specs.declared.operand.Operand.{Operand}
 use Rattle.vax_templates.specs.FilledLines.{callee_in, callee_among}
 use Rattle.vax_target.proofs.line.callee_among.Goals as goal
 
-same_choice : (first later : Option (ℕ × ℕ)) → or_later first later ≡ option_or first later
-same_choice None later = refl
-same_choice (Some x) later = refl
-
 callee_given : (holes : List (Attr Operand)) → first_given callee_in holes ≡ callee_among holes
 callee_given [] = refl
-callee_given (a ∷ rest) = ap (or_later (callee_in a)) (callee_given rest) ∙ same_choice (callee_in a) (callee_among rest)
+callee_given (a ∷ rest) = ap (option_or (callee_in a)) (callee_given rest)
 
 pub returns : goal.returns
 returns c =

@@ -1,19 +1,15 @@
-use Rattle.std.proofs.Common.{◌≡◌, ℕ, List, [], ◌∷◌, Option, Some, None, refl, ap, ◌∙◌, rules, tests}
+use Rattle.std.proofs.Common.{◌≡◌, List, [], ◌∷◌, refl, ap, ◌∙◌, rules, tests}
 use Rattle.std.proofs.lemmas.Iterator.{YieldsList-from_slice}
 use Rattle.std.specs.Option.{option_or}
-use Rattle.gg_base.proofs.Mapping.{or_later, first_given, found_first}
+use Rattle.gg_base.proofs.Mapping.{first_given, found_first}
 use Rattle.sel_target.specs.declared.attr.Attr.{Attr}
 use Rattle.vax_core.specs.declared.operand.Operand.{Operand}
 use Rattle.vax_templates.specs.FilledLines.{label_in, label_among}
 use Rattle.vax_target.proofs.line.label_among.Goals as goal
 
-same_choice : (first later : Option ℕ) → or_later first later ≡ option_or first later
-same_choice None later = refl
-same_choice (Some x) later = refl
-
 label_given : (holes : List (Attr Operand)) → first_given label_in holes ≡ label_among holes
 label_given [] = refl
-label_given (a ∷ rest) = ap (or_later (label_in a)) (label_given rest) ∙ same_choice (label_in a) (label_among rest)
+label_given (a ∷ rest) = ap (option_or (label_in a)) (label_given rest)
 
 pub returns : goal.returns
 returns c =

@@ -1,13 +1,15 @@
 use Rattle.std.proofs.Common.{◌≡◌, List, [], ◌∷◌, refl, ap, ◌∙◌, rules, tests}
 use Rattle.std.proofs.lemmas.Iterator.{YieldsList-from_slice}
+use Rattle.std.specs.Option.{option_or}
 use Rattle.vax_core.specs.declared.code.AreaItem.{AreaItem}
-use Rattle.vax_machine.specs.Labels.{first_of, undefined_area_at, undefined_area_label}
-use Rattle.vax_machine.proofs.Mapping.{first_name, mapped}
+use Rattle.vax_machine.specs.Labels.{undefined_area_at, undefined_area_label}
+use Rattle.gg_base.proofs.Mapping.{first_given}
+use Rattle.vax_machine.proofs.Mapping.{mapped}
 use Rattle.vax_machine.proofs.label.Names.undefined_area_label.Goals as goal
 
-first_item : (items layout : List AreaItem) → first_name (undefined_area_at layout) items ≡ undefined_area_label items layout
+first_item : (items layout : List AreaItem) → first_given (undefined_area_at layout) items ≡ undefined_area_label items layout
 first_item [] layout = refl
-first_item (item ∷ items) layout = ap (first_of (undefined_area_at layout item)) (first_item items layout)
+first_item (item ∷ items) layout = ap (option_or (undefined_area_at layout item)) (first_item items layout)
 
 pub returns : goal.returns
 returns c =

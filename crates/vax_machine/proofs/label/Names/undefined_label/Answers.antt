@@ -1,14 +1,16 @@
 use Rattle.std.proofs.Common.{◌≡◌, List, [], ◌∷◌, refl, ap, ◌∙◌, rules, tests}
 use Rattle.std.proofs.lemmas.Iterator.{YieldsList-from_slice}
+use Rattle.std.specs.Option.{option_or}
 use Rattle.vax_core.specs.declared.code.AreaItem.{AreaItem}
 use Rattle.vax_core.specs.declared.code.CodeItem.{CodeItem}
-use Rattle.vax_machine.specs.Labels.{first_of, undefined_at, undefined_label}
-use Rattle.vax_machine.proofs.Mapping.{first_name, mapped}
+use Rattle.vax_machine.specs.Labels.{undefined_at, undefined_label}
+use Rattle.gg_base.proofs.Mapping.{first_given}
+use Rattle.vax_machine.proofs.Mapping.{mapped}
 use Rattle.vax_machine.proofs.label.Names.undefined_label.Goals as goal
 
-first_item : (items : List CodeItem) (layout : List AreaItem) (all : List CodeItem) → first_name (undefined_at layout all) items ≡ undefined_label items layout all
+first_item : (items : List CodeItem) (layout : List AreaItem) (all : List CodeItem) → first_given (undefined_at layout all) items ≡ undefined_label items layout all
 first_item [] layout all = refl
-first_item (item ∷ items) layout all = ap (first_of (undefined_at layout all item)) (first_item items layout all)
+first_item (item ∷ items) layout all = ap (option_or (undefined_at layout all item)) (first_item items layout all)
 
 pub returns : goal.returns
 returns c =

@@ -1,14 +1,16 @@
 use Rattle.std.proofs.Common.{◌≡◌, List, [], ◌∷◌, refl, ap, ◌∙◌, rules, tests}
 use Rattle.std.proofs.lemmas.Iterator.{YieldsList-from_slice}
+use Rattle.std.specs.Option.{option_or}
 use Rattle.vax_core.specs.declared.code.AreaItem.{AreaItem}
 use Rattle.vax_core.specs.declared.operand.Operand.{Operand}
-use Rattle.vax_machine.specs.Labels.{first_of, name_in, undefined_name, undefined_operand}
-use Rattle.vax_machine.proofs.Mapping.{first_name, mapped}
+use Rattle.vax_machine.specs.Labels.{name_in, undefined_name, undefined_operand}
+use Rattle.gg_base.proofs.Mapping.{first_given}
+use Rattle.vax_machine.proofs.Mapping.{mapped}
 use Rattle.vax_machine.proofs.label.Names.undefined_operand.Goals as goal
 
-first_operand : (layout : List AreaItem) (os : List Operand) → first_name (λ o. undefined_name layout (name_in o.base)) os ≡ undefined_operand layout os
+first_operand : (layout : List AreaItem) (os : List Operand) → first_given (λ o. undefined_name layout (name_in o.base)) os ≡ undefined_operand layout os
 first_operand layout [] = refl
-first_operand layout (o ∷ os) = ap (first_of (undefined_name layout (name_in o.base))) (first_operand layout os)
+first_operand layout (o ∷ os) = ap (option_or (undefined_name layout (name_in o.base))) (first_operand layout os)
 
 pub returns : goal.returns
 returns c =
