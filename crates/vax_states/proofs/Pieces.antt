@@ -1,6 +1,7 @@
 -- The pieces of the stack that live calls hold.
-use Rattle.std.proofs.Common.{◌≡◌, ◌⊎◌, inl, inr, ℕ, ◌+◌, ◌-◌, ◌*◌, ◌^◌, ◌<◌, ◌≤◌, Bool, true, false, List, [], ◌∷◌, ◌++◌, length, Some, refl, ap, subst, ◌∙◌, arith}
+use Rattle.std.proofs.Common.{◌≡◌, ◌⊎◌, inl, inr, ℕ, ◌+◌, ◌-◌, ◌*◌, ◌^◌, ◌<◌, ◌≤◌, Bool, false, List, [], ◌∷◌, ◌++◌, length, Some, refl, ap, subst, ◌∙◌, arith}
 use Rattle.std.specs.Prelude.{nat_lt, ◌||◌}
+use Rattle.std.proofs.lemmas.List.Folds.{list_any-append}
 use Rattle.std.proofs.lemmas.Bool.{le-ltb, or_from, and_left, and_right}
 use Rattle.gg_base.specs.declared.size.Size.TheVariants.{Long}
 use Rattle.gg_base.specs.LittleEndian.{with_number}
@@ -97,12 +98,8 @@ hold_end stack frames es xs low (caller outer all f e rest_e a rest low' high eq
     omega (arith, up, down, end)
 
 pub control_last : (outer : List Frame) (f : Frame) (a k : ℕ) → in_control (outer ++ f ∷ []) a k ≡ (in_control outer a k || overlaps f a k)
-control_last [] f a k = or-false (overlaps f a k)
-control_last (g ∷ outer) f a k = ap (λ (b : Bool). overlaps g a k || b) (control_last outer f a k) ∙ by (overlaps g a k) (in_control outer a k) (overlaps f a k)
-  where
-    by : (x y z : Bool) → (x || (y || z)) ≡ ((x || y) || z)
-    by true y z = refl
-    by false y z = refl
+control_last outer f a k =
+    list_any-append (λ (g : Frame). overlaps g a k) outer (f ∷ []) ∙ ap (λ (b : Bool). in_control outer a k || b) (or-false (overlaps f a k))
 
 pub last_free : (outer all : List Frame) (f : Frame) (a k : ℕ) → all ≡ outer ++ f ∷ [] → in_control outer a k ≡ false → overlaps f a k ≡ false → in_control all a k ≡ false
 last_free outer all f a k eq h g = ap (λ (fs : List Frame). in_control fs a k) eq ∙ control_last outer f a k ∙ or_from (in_control outer a k) (overlaps f a k) h g
