@@ -1,5 +1,6 @@
 -- The grammar of tokens over whole texts: which piece stands at the front of a text, and which tokens a text has.
 use Rattle.std.specs.Prelude.{◌≡◌, ◌≢◌, ◌⊎◌, ◌<◌, ◌≤◌, ℕ, ◌+◌, ◌*◌, Bool, true, false, List, [], ◌∷◌, ◌++◌, length, Option, Some, None}
+use Rattle.std.specs.List.{AllByRecursion}
 use Rattle.c_tokens.specs.declared.marks.Mark.{Mark}
 use Rattle.c_tokens.specs.declared.words.Key.{Key}
 use Rattle.c_tokens.specs.declared.token.Token.{Token}
@@ -14,8 +15,7 @@ use Rattle.c_tokens.specs.Reading.{spanned}
 
 -- each byte passes the test
 abbrev pub Pass : (ℕ → Bool) → List ℕ → Type 0
-Pass p [] = Unit {0}
-Pass p (b ∷ bs) = (p b ≡ true) × Pass p bs
+Pass p bs = AllByRecursion (λ (b : ℕ). p b ≡ true) bs
 
 -- what stands here does not go on with a run of bytes that pass
 abbrev pub Stops : (ℕ → Bool) → List ℕ → Type 0
