@@ -1,5 +1,6 @@
 -- What the grammar asks of a phrase beyond its tokens.
 use Rattle.std.specs.Prelude.{◌≡◌, ℕ, List, [], ◌∷◌, Option, Some, None}
+use Rattle.std.specs.List.{AllByRecursion}
 use Rattle.c_phrases.specs.declared.operator.Spec.{Spec}
 use Rattle.c_phrases.specs.declared.operator.Spec.TheVariants as specs
 use Rattle.c_phrases.specs.Phrases.{AnExp, SomeExps, no_exps, exps, IsAt, AllAt}
@@ -33,8 +34,7 @@ abbrev pub DeclaratorFits : ADeclarator → Type 0
 DeclaratorFits d = LengthFits d.length × InitialisedFits d.init
 
 abbrev pub DeclaratorsFit : List ADeclarator → Type 0
-DeclaratorsFit [] = Unit {0}
-DeclaratorsFit (d ∷ ds) = DeclaratorFits d × DeclaratorsFit ds
+DeclaratorsFit ds = AllByRecursion DeclaratorFits ds
 
 abbrev pub HasDeclarator : List ADeclarator → Type 0
 HasDeclarator [] = ⊥
@@ -75,8 +75,7 @@ abbrev pub ParamFits : AParam → Type 0
 ParamFits p = LengthFits p.length
 
 abbrev pub ParamsFit : List AParam → Type 0
-ParamsFit [] = Unit {0}
-ParamsFit (p ∷ ps) = ParamFits p × ParamsFit ps
+ParamsFit ps = AllByRecursion ParamFits ps
 
 -- the word void alone is no parameter
 abbrev pub IsVoid : Spec → Type 0
@@ -102,5 +101,4 @@ DeclaredFits (function f) = SomeParamsFit f.params × BodyFits f.body
 DeclaredFits (globals ds) = HasDeclarator ds × DeclaratorsFit ds
 
 abbrev pub ExternalsFit : List AnExternal → Type 0
-ExternalsFit [] = Unit {0}
-ExternalsFit (x ∷ xs) = DeclaredFits x.declared × ExternalsFit xs
+ExternalsFit xs = AllByRecursion (λ (x : AnExternal). DeclaredFits x.declared) xs
