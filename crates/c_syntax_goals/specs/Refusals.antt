@@ -1,5 +1,6 @@
 -- What a fault says of the tokens: how far they begin a unit, and where the levels are passed.
 use Rattle.std.specs.Prelude.{◌≡◌, ℕ, zero, suc, List, [], ◌∷◌, ◌++◌, length, Err, true, false}
+use Rattle.std.specs.List.{AllByRecursion}
 use Rattle.c_tokens.specs.declared.token.Spanned.{Spanned}
 use Rattle.c_phrases.specs.Classes.{Placed, placed, seen}
 use Rattle.c_phrases.specs.Levels.{limit}
@@ -23,8 +24,7 @@ IsPlace ts k place = (before : List Spanned) (t : Spanned) (behind : List Spanne
 
 -- No token opens a level past the limit.
 abbrev pub NoneDeep : List Opening → Type 0
-NoneDeep [] = Unit {0}
-NoneDeep (o ∷ w) = (limit o.level ≡ true) × NoneDeep w
+NoneDeep w = AllByRecursion (λ (o : Opening). limit o.level ≡ true) w
 
 -- The first k tokens open no level past the limit.
 abbrev pub FirstAreLow : ℕ → List Opening → Type 0
