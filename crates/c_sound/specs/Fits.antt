@@ -1,5 +1,6 @@
 -- Expressions and statements in which each automatic local is in scope, each number is a longword, and each jump has a loop around it.
 use Rattle.std.specs.Prelude.{◌≡◌, ◌⊎◌, ℕ, ◌<◌, ◌^◌, List, [], ◌∷◌, Option, Some, None, Bool, true}
+use Rattle.std.specs.List.{AllByRecursion}
 use Rattle.c_types.specs.declared.types.CType.{CType}
 use Rattle.c_types.specs.declared.typed.Variable.{Variable}
 use Rattle.c_types.specs.declared.typed.Variable.TheVariants as variables
@@ -15,8 +16,7 @@ use Rattle.c_program.specs.Statements.{ReturnOf, IfOf, IfElseOf, WhileOf, DoOf, 
 
 -- bytes, and longwords
 abbrev pub AreBytes : List ℕ → Type 0
-AreBytes [] = Unit {0}
-AreBytes (b ∷ bs) = (b < 256) × AreBytes bs
+AreBytes bs = AllByRecursion (λ (b : ℕ). b < 256) bs
 
 -- a variable's automatic local is in scope
 abbrev pub StandsIn : (ℕ → Type 0) → Variable → Type 0
