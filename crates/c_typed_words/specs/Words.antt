@@ -1,5 +1,6 @@
 -- The tokens that a unit is spelled with: names, numbers and strings as the token grammar has them, and no more than a source has.
 use Rattle.std.specs.Prelude.{◌≡◌, ◌≢◌, ◌≤◌, ◌<◌, ◌^◌, ℕ, List, [], ◌∷◌, length, true}
+use Rattle.std.specs.List.{AllByRecursion}
 use Rattle.c_tokens.specs.declared.token.Token.{Token}
 use Rattle.c_tokens.specs.declared.token.Token.TheVariants as token
 use Rattle.c_tokens.specs.declared.words.Key.{Key}
@@ -32,8 +33,7 @@ IsToken (token.Mark m) = Unit {0}
 IsToken token.End = Unit {0}
 
 abbrev pub EachIs : (Token → Type 0) → List Placed → Type 0
-EachIs T [] = Unit {0}
-EachIs T (t ∷ ts) = T t.kind × EachIs T ts
+EachIs T ts = AllByRecursion (λ (t : Placed). T t.kind) ts
 
 -- a unit of at most 1,048,577 tokens, each of which is one of the grammar
 pub record HasTokens (u : AUnit) : Type 0 where
