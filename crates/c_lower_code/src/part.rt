@@ -99,10 +99,7 @@ pub struct Frame {
 pub(crate) fn after(n: u32) -> Result<u32, NoMemory>
     ensures { IfOk result (λ m. m ≡ suc n) }
 {
-    match n.checked_add(1) {
-        Some(m) => Ok(m),
-        None => Err(NoMemory),
-    }
+    n.checked_add(1).ok_or(NoMemory)
 }
 
 // The next number if a temporary is taken.
