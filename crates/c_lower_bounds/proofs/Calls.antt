@@ -1,10 +1,10 @@
 -- How many temporaries and forks calls have.
-use Rattle.std.proofs.Common.{ℕ, ◌+◌, ◌≤◌, List, [], ◌∷◌, refl, arith}
+use Rattle.std.proofs.Common.{ℕ, ◌+◌, ◌≤◌, List, [], ◌∷◌, length, refl, arith}
 use Rattle.std.specs.Prelude.{Bool}
 use Rattle.c_types.specs.declared.types.CType.{CType}
 use Rattle.c_lower_scheme.specs.Trees.{Tree, Item, Push, Call, Save}
 use Rattle.c_lower_scheme.specs.Parts.{Lowered, Passing, Destination, InLocal, AsResult, over}
-use Rattle.c_lower_scheme.specs.Calls.{pushes, args_count, called_drop, called_low, called_deliver, passed_as, no_arguments, pass_so}
+use Rattle.c_lower_scheme.specs.Calls.{pushes, called_drop, called_low, called_deliver, passed_as, no_arguments, pass_so}
 use Rattle.c_lower_bounds.proofs.Trees.{tree_forks, Narrow, none, next, behind}
 use Rattle.c_lower_bounds.proofs.Values.{Within, Ends, narrow_saving, saved_forks, next_one, fitted_forks, over_within, delivered_ends}
 
@@ -47,7 +47,7 @@ called_low_within f {n = n} {p = p} h = record {
   temps = omega (arith, h.temps);
   tree = omega arith;
   items = λ k le.
-      let call : List Item = Call f (args_count p.trees) ∷ Save p.temps ∷ [] in
+      let call : List Item = Call f (length p.trees) ∷ Save p.temps ∷ [] in
       let last : Narrow k call = next (omega arith) (next (omega arith) none) in
       behind (h.items k (omega arith)) (narrow_pushes k p.trees call (h.trees k (omega arith)) last);
 }
@@ -56,7 +56,7 @@ pub called_drop_ends : (f : ℕ) {t n : ℕ} {p : Passing} → WithinPassing t n
 called_drop_ends f {n = n} {p = p} h = record {
   temps = omega (arith, h.temps);
   items = λ k le.
-      let call : List Item = Call f (args_count p.trees) ∷ [] in
+      let call : List Item = Call f (length p.trees) ∷ [] in
       behind (h.items k (omega arith)) (narrow_pushes k p.trees call (h.trees k (omega arith)) (next (omega arith) none));
 }
 
@@ -65,7 +65,7 @@ called_deliver_ends AsResult f h = delivered_ends AsResult (called_low_within f 
 called_deliver_ends (InLocal x) f {n = n} {p = p} h = record {
   temps = omega (arith, h.temps);
   items = λ k le.
-      let call : List Item = Call f (args_count p.trees) ∷ Save x ∷ [] in
+      let call : List Item = Call f (length p.trees) ∷ Save x ∷ [] in
       let last : Narrow k call = next (omega arith) (next (omega arith) none) in
       behind (h.items k (omega arith)) (narrow_pushes k p.trees call (h.trees k (omega arith)) last);
 }

@@ -12,7 +12,7 @@ use crate::part::{
 };
 use crate::tree::{Tree, fitted};
 use c_types::{CType, Callee};
-use gg_base::NoMemory;
+use gg_base::{NoMemory, number_of};
 use std::alloc::Global;
 
 /// The number of what is called: the services stand behind the program's functions.
@@ -23,16 +23,6 @@ pub(crate) fn callee_number(functions: u32, callee: Callee) -> Result<u32, NoMem
         Callee::Defined(f) => Ok(f),
         Callee::Putchar => Ok(functions),
         Callee::Getchar => after(functions),
-    }
-}
-
-// How many trees these are.
-fn args_count(trees: &Vec<Tree>) -> Result<u32, NoMemory>
-    ensures { IfOk result (λ n. n ≡ calls.args_count (all_trees trees.now.items)) }
-{
-    match u32::try_from(trees.len()) {
-        Ok(n) => Ok(n),
-        Err(_) => Err(NoMemory),
     }
 }
 
@@ -50,7 +40,7 @@ fn push_all(items: &mut Vec<Item>, trees: Vec<Tree>) -> Result<(), NoMemory>
 pub(crate) fn called_drop(f: u32, p: Passing) -> Result<Emitted, NoMemory>
     ensures { IfOk result (λ r. done r ≡ calls.called_drop f (passing p)) }
 {
-    let count = args_count(&p.trees)?;
+    let count = number_of(p.trees.len())?;
     let mut items = p.items;
     push_all(&mut items, p.trees)?;
     put(&mut items, Item::Call(f, count))?;
@@ -66,7 +56,7 @@ pub(crate) fn called_low(f: u32, p: Passing) -> Result<Lowered, NoMemory>
     ensures { IfOk result (λ r. low r ≡ calls.called_low f (passing p)) }
 {
     let temps = after(p.temps)?;
-    let count = args_count(&p.trees)?;
+    let count = number_of(p.trees.len())?;
     let mut items = p.items;
     push_all(&mut items, p.trees)?;
     put(&mut items, Item::Call(f, count))?;
@@ -83,7 +73,7 @@ pub(crate) fn called_low(f: u32, p: Passing) -> Result<Lowered, NoMemory>
 fn called_into(n: u32, f: u32, p: Passing) -> Result<Emitted, NoMemory>
     ensures { IfOk result (λ r. done r ≡ calls.called_deliver (InLocal n) f (passing p)) }
 {
-    let count = args_count(&p.trees)?;
+    let count = number_of(p.trees.len())?;
     let mut items = p.items;
     push_all(&mut items, p.trees)?;
     put(&mut items, Item::Call(f, count))?;

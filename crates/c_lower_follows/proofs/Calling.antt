@@ -15,7 +15,7 @@ use Rattle.c_meaning.specs.Values.{RestAll, Behind, Next, Body, Rest}
 use Rattle.c_lower_scheme.specs.Trees.{Push, Call, Save, Tree, Loc, Item, AssignLoc, divides, reads, breaks, stable}
 use Rattle.c_lower_scheme.specs.Spelling.{spelled_all}
 use Rattle.c_lower_scheme.specs.Parts.{Passing, Lowered, is_nil, Destination, InLocal, AsResult}
-use Rattle.c_lower_scheme.specs.Calls.{pushes, args_count, called_drop, called_low, must_pass_by, must_pass, pass_on, pass_so, no_arguments, callee_number, called_deliver}
+use Rattle.c_lower_scheme.specs.Calls.{pushes, called_drop, called_low, must_pass_by, must_pass, pass_on, pass_so, no_arguments, callee_number, called_deliver}
 use Rattle.c_lower_scheme.specs.Assignments.{stays}
 use Rattle.c_sound.specs.Fits.{AreBytes}
 use Rattle.c_lower_follows.proofs.Values.{SmallTree, Ranged, Small, worth_small}
@@ -242,8 +242,8 @@ module _ (program : TreeProgram) (code : List TreeItem) (callers : List Activati
   pass_does p q t m n sz does does' = pass_by (must_pass size count p.tree q) p q t m n refl sz does does'
 
   first_push : (w x : Tree) (ws : List Tree) (k : ℕ) (is : List Item) (κ : List ℕ → Runs) (d : Desk) → SmallTree w → divides w ≡ false → Ranged (desk_sight d)
-      → ((vs : List ℕ) → length vs ≡ args_count (w ∷ x ∷ ws) → AllSmall vs → Leads k (κ vs) (run is (record d { pushed = vs ++ d.pushed }))) → (o : Value) → value program w d ≡ o
-      → ((κ' : List ℕ → Runs) → ((vs : List ℕ) → length vs ≡ args_count (x ∷ ws) → AllSmall vs → Leads k (κ' vs) (run (Push w ∷ is) (record d { pushed = vs ++ d.pushed })))
+      → ((vs : List ℕ) → length vs ≡ length (w ∷ x ∷ ws) → AllSmall vs → Leads k (κ vs) (run is (record d { pushed = vs ++ d.pushed }))) → (o : Value) → value program w d ≡ o
+      → ((κ' : List ℕ → Runs) → ((vs : List ℕ) → length vs ≡ length (x ∷ ws) → AllSmall vs → Leads k (κ' vs) (run (Push w ∷ is) (record d { pushed = vs ++ d.pushed })))
       → Leads k (on_all program (x ∷ ws) d κ') (run (pushes (x ∷ ws) (Push w ∷ is)) d))
       → Leads k (on o (λ v. on_all program (x ∷ ws) d (λ vs. κ (v ∷ vs)))) (run (pushes (x ∷ ws) (Push w ∷ is)) d)
   first_push w x ws k is κ d small pure r h (Number v) e others =
@@ -259,7 +259,7 @@ module _ (program : TreeProgram) (code : List TreeItem) (callers : List Activati
 
   -- the values are pushed, the last first
   pub pushes_step : (ws : List Tree) (k : ℕ) (is : List Item) (κ : List ℕ → Runs) (d : Desk) → SmallAll ws → PureBut ws → Ranged (desk_sight d)
-      → ((vs : List ℕ) → length vs ≡ args_count ws → AllSmall vs → Leads k (κ vs) (run is (record d { pushed = vs ++ d.pushed }))) → Leads k (on_all program ws d κ) (run (pushes ws is) d)
+      → ((vs : List ℕ) → length vs ≡ length ws → AllSmall vs → Leads k (κ vs) (run is (record d { pushed = vs ++ d.pushed }))) → Leads k (on_all program ws d κ) (run (pushes ws is) d)
   pushes_step [] k is κ d small pure r h = h [] refl tt
   pushes_step (w ∷ []) k is κ d small pure r h = push_step program code callers k w is (λ v. κ (v ∷ [])) d small.0 r
       (λ v e. h (v ∷ []) (omega arith) (subst Small e (worth_small program.objects (desk_sight d) r w small.0), tt))
@@ -437,7 +437,7 @@ module _ (program : TreeProgram) (code : List TreeItem) (callers : List Activati
     small = tt;
     runs = λ k le is κ res st d ag h.
         let u = q.temps in
-        let n = args_count q.trees in
+        let n = length q.trees in
         let c = Call (callee_number count f) n in
         let tail : List Item = pushes q.trees (c ∷ Save u ∷ []) in
         let rest : List Item = c ∷ Save u ∷ is in
@@ -463,7 +463,7 @@ module _ (program : TreeProgram) (code : List TreeItem) (callers : List Activati
   called_drop_does f q t m sz does = record {
     grows = does.grows;
     runs = λ k le is κ res st d ag h.
-        let n = args_count q.trees in
+        let n = length q.trees in
         let c = Call (callee_number count f) n in
         let tail : List Item = pushes q.trees (c ∷ []) in
         let rest : List Item = c ∷ is in
@@ -485,10 +485,10 @@ module _ (program : TreeProgram) (code : List TreeItem) (callers : List Activati
       → Delivers program code callers size count scope level to (called_deliver to (callee_number count f) q) t (λ κ. m (λ vs. call p next f vs κ))
   called_deliver_does (InLocal x) f q t m sz does = record {
     grows = does.grows;
-    some = λ e. append_some q.items (pushes q.trees (Call (callee_number count f) (args_count q.trees) ∷ Save x ∷ []))
-        (pushes_some q.trees (Call (callee_number count f) (args_count q.trees)) (Save x ∷ [])) e;
+    some = λ e. append_some q.items (pushes q.trees (Call (callee_number count f) (length q.trees) ∷ Save x ∷ []))
+        (pushes_some q.trees (Call (callee_number count f) (length q.trees)) (Save x ∷ [])) e;
     runs = λ k le is κ res st d ag h.
-        let n = args_count q.trees in
+        let n = length q.trees in
         let c = Call (callee_number count f) n in
         let tail : List Item = pushes q.trees (c ∷ Save x ∷ []) in
         let rest : List Item = c ∷ Save x ∷ is in

@@ -1,5 +1,5 @@
 -- Calls, and which of their arguments are saved.
-use Rattle.std.specs.Prelude.{ℕ, suc, List, [], ◌∷◌, ◌++◌, Bool, true, false, not, ◌||◌, ◌&&◌}
+use Rattle.std.specs.Prelude.{ℕ, suc, List, [], ◌∷◌, ◌++◌, length, Bool, true, false, not, ◌||◌, ◌&&◌}
 use Rattle.c_types.specs.declared.types.CType.{CType}
 use Rattle.c_types.specs.declared.typed.Callee.{Callee}
 use Rattle.c_types.specs.declared.typed.Callee.TheVariants as callees
@@ -18,17 +18,13 @@ abbrev pub pushes : List Tree → List Item → List Item
 pushes [] is = is
 pushes (w ∷ ws) is = pushes ws (Push w ∷ is)
 
-abbrev pub args_count : List Tree → ℕ
-args_count [] = 0
-args_count (w ∷ ws) = suc (args_count ws)
-
 abbrev pub called_drop : ℕ → Passing → Emitted
-called_drop f p = record { items = p.items ++ pushes p.trees (Call f (args_count p.trees) ∷ []); temps = p.temps; labels = p.labels }
+called_drop f p = record { items = p.items ++ pushes p.trees (Call f (length p.trees) ∷ []); temps = p.temps; labels = p.labels }
 
 -- a call's result is saved directly behind it
 abbrev pub called_low : ℕ → Passing → Lowered
 called_low f p = record {
-  items = p.items ++ pushes p.trees (Call f (args_count p.trees) ∷ Save p.temps ∷ []);
+  items = p.items ++ pushes p.trees (Call f (length p.trees) ∷ Save p.temps ∷ []);
   tree =
       Loc p.temps;
   temps = suc p.temps;
@@ -38,7 +34,7 @@ called_low f p = record {
 -- or straight in the local that it goes to
 abbrev pub called_deliver : Destination → ℕ → Passing → Emitted
 called_deliver (InLocal n) f p = record {
-  items = p.items ++ pushes p.trees (Call f (args_count p.trees) ∷ Save n ∷ []);
+  items = p.items ++ pushes p.trees (Call f (length p.trees) ∷ Save n ∷ []);
   temps = p.temps;
   labels = p.labels;
 }

@@ -1,5 +1,5 @@
 -- Parts of expressions: their items name what is there, with calls in order.
-use Rattle.std.proofs.Common.{ℕ, suc, ◌≤◌, ◌<◌, List, [], ◌∷◌, ◌++◌, arith}
+use Rattle.std.proofs.Common.{ℕ, suc, ◌≤◌, ◌<◌, List, [], ◌∷◌, ◌++◌, length, arith}
 use Rattle.std.specs.Prelude.{Bool, true, false, ◌==◌, if◌then◌else◌}
 use Rattle.gg_base.specs.declared.relation.Rel.{Rel}
 use Rattle.c_types.specs.declared.types.CType.{CType}
@@ -15,7 +15,7 @@ use Rattle.c_lower_scheme.specs.Places.{saving, saved, next_if, integer_of, conv
 use Rattle.c_lower_scheme.specs.Conditions.{truth_of, test, compare, dropped}
 use Rattle.c_lower_scheme.specs.Values.{scaled_by, advance, advance_by, retreat, apart, step}
 use Rattle.c_lower_scheme.specs.Values
-use Rattle.c_lower_scheme.specs.Calls.{pushes, args_count, pass_so, called_drop, called_low, called_deliver}
+use Rattle.c_lower_scheme.specs.Calls.{pushes, pass_so, called_drop, called_low, called_deliver}
 use Rattle.c_lower_scheme.specs.Assignments.{ready_so, update_so, postfix_so, store_drop, store_low_at, store_low}
 use Rattle.c_lower_scheme.proofs.Facts.{next_grows}
 use Rattle.c_lower_valid.proofs.Named.{Scene, Names, ItemNames, AllName, names_more, all_more, all_append}
@@ -382,14 +382,14 @@ module _ (scene : Scene) where
   name_pushes u [] is h g = g
   name_pushes u (w ∷ ws) is h g = name_pushes u ws (Push w ∷ is) h.1 (h.0, g)
 
-  pub fine_called_drop : (f t : ℕ) (p : Passing) → scene.callable f (args_count p.trees) → FinePassing t p → FineDone t (called_drop f p)
+  pub fine_called_drop : (f t : ℕ) (p : Passing) → scene.callable f (length p.trees) → FinePassing t p → FineDone t (called_drop f p)
   fine_called_drop f t p c h = record {
     grows = h.grows;
     items = fine_append p.temps p.items _ h.items (record
         { names = name_pushes p.temps p.trees _ h.trees (c, tt); order = orderly_call p.trees f });
   }
 
-  pub fine_called_low : (f t : ℕ) (p : Passing) → scene.callable f (args_count p.trees) → FinePassing t p → FineLow t (called_low f p)
+  pub fine_called_low : (f t : ℕ) (p : Passing) → scene.callable f (length p.trees) → FinePassing t p → FineLow t (called_low f p)
   fine_called_low f t p c h =
       let u = p.temps in
       let le = h.grows in
@@ -405,7 +405,7 @@ module _ (scene : Scene) where
         tree = here;
       }
 
-  pub fine_called_deliver : (to : Destination) (f t : ℕ) (p : Passing) → Reaches t to → scene.callable f (args_count p.trees) → FinePassing t p → FineDone t (called_deliver to f p)
+  pub fine_called_deliver : (to : Destination) (f t : ℕ) (p : Passing) → Reaches t to → scene.callable f (length p.trees) → FinePassing t p → FineDone t (called_deliver to f p)
   fine_called_deliver (InLocal n) f t p lt c h =
       let le = h.grows in
       let here : n < p.temps = omega arith in

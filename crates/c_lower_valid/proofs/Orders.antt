@@ -7,7 +7,7 @@ use Rattle.tree_core.specs.declared.program.TreeItem.TheVariants as tree_item
 use Rattle.tree_core.specs.Items.{role_of, AllPush, CallsInOrder, nothing, other, call, saved}
 use Rattle.c_lower_scheme.specs.Trees.{Tree, Item, Label, AssignLoc, AssignArg, AssignMem, Cbr, Jump, Push, Call, Save, Ret}
 use Rattle.c_lower_scheme.specs.Spelling.{spelled, spelled_all}
-use Rattle.c_lower_scheme.specs.Calls.{pushes, args_count}
+use Rattle.c_lower_scheme.specs.Calls.{pushes}
 use Rattle.c_lower_scheme.proofs.Facts.{spelled_append}
 
 order_append : {a : List TreeItem} (b : List TreeItem) → CallsInOrder a → CallsInOrder b → CallsInOrder (a ++ b)
@@ -68,7 +68,7 @@ record Pushed (ws : List Tree) (is : List Item) : Type 0 where
   front : List TreeItem
   spells : spelled_all (pushes ws is) ≡ front ++ spelled_all is
   push : AllPush front
-  many : length front ≡ args_count ws
+  many : length front ≡ length ws
 
 push_last : (ps : List TreeItem) (i : TreeItem) → AllPush ps → AllPush (i ∷ []) → AllPush (ps ++ i ∷ [])
 push_last [] i a r = r
@@ -86,13 +86,13 @@ pushed (w ∷ ws) is =
       many = omega (arith, length-append h.front (spelled (Push w) ∷ []), many);
     }
 
-pub orderly_call : (ws : List Tree) (f : ℕ) → Orderly (pushes ws (Call f (args_count ws) ∷ []))
+pub orderly_call : (ws : List Tree) (f : ℕ) → Orderly (pushes ws (Call f (length ws) ∷ []))
 orderly_call ws f =
-    let h = pushed ws (Call f (args_count ws) ∷ []) in
-    call h.front (spelled (Call f (args_count ws))) [] _ h.push (ap (λ n. role_of (spelled (Call f n))) (sym h.many)) nothing h.spells
+    let h = pushed ws (Call f (length ws) ∷ []) in
+    call h.front (spelled (Call f (length ws))) [] _ h.push (ap (λ n. role_of (spelled (Call f n))) (sym h.many)) nothing h.spells
 
-pub orderly_saved : (ws : List Tree) (f n : ℕ) → Orderly (pushes ws (Call f (args_count ws) ∷ Save n ∷ []))
+pub orderly_saved : (ws : List Tree) (f n : ℕ) → Orderly (pushes ws (Call f (length ws) ∷ Save n ∷ []))
 orderly_saved ws f n =
-    let h = pushed ws (Call f (args_count ws) ∷ Save n ∷ []) in
-    saved h.front (spelled (Call f (args_count ws))) (spelled (Save n)) [] _ h.push
+    let h = pushed ws (Call f (length ws) ∷ Save n ∷ []) in
+    saved h.front (spelled (Call f (length ws))) (spelled (Save n)) [] _ h.push
     (ap (λ n. role_of (spelled (Call f n))) (sym h.many)) refl nothing h.spells

@@ -1,5 +1,5 @@
 -- Each expression's items name what is there, with calls in order.
-use Rattle.std.proofs.Common.{◌≡◌, ℕ, ◌≤◌, ◌<◌, List, [], ◌∷◌, refl, arith, sym, subst}
+use Rattle.std.proofs.Common.{◌≡◌, ℕ, ◌≤◌, ◌<◌, List, [], ◌∷◌, length, refl, arith, sym, subst}
 use Rattle.std.specs.Prelude.{true, false}
 use Rattle.c_types.specs.declared.types.CType.{CType}
 use Rattle.c_types.specs.declared.typed.Variable.{Variable}
@@ -13,7 +13,7 @@ use Rattle.c_sound.specs.Stands.{Stands, StandsAt, StandAll, arguments, IsThere}
 use Rattle.c_lower_scheme.specs.Trees.{Num, Gaddr, Bin}
 use Rattle.c_lower_scheme.specs.Places.{where_of, address_tree, fitted}
 use Rattle.c_lower_scheme.specs.Values.{advance, advance_by, retreat, apart}
-use Rattle.c_lower_scheme.specs.Calls.{args_count, callee_number, others, called_low}
+use Rattle.c_lower_scheme.specs.Calls.{callee_number, others, called_low}
 use Rattle.c_lower_scheme.specs.Assignments
 use Rattle.c_lower_scheme.specs.Expressions
 use Rattle.c_lower_valid.proofs.Named.{Scene}
@@ -23,7 +23,7 @@ use Rattle.c_lower_valid.proofs.Ways.{FineWay, fine_due, fine_valued, fine_effec
 use Rattle.c_lower_valid.proofs.Ways.{fine_choose, fine_comma, fine_unary, fine_update_by, fine_step_ready, fine_step, fine_assign_low, fine_assign_drop}
 
 passes_all : (size count : ℕ) (es : SomeExpressions) (to : List CType) (t l : ℕ)
-    → args_count (Expressions.pass size count es to t l).trees ≡ arguments es
+    → length (Expressions.pass size count es to t l).trees ≡ arguments es
 passes_all size count NoExpressions to t l = refl
 passes_all size count (MoreExpressions e es) to t l =
     let p = (Expressions.way size count e).low t l in
@@ -46,7 +46,7 @@ module _ (scene : Scene) (size count : ℕ) (takes : Callee → ℕ → Type 0)
   ok_variable scope within (variables.Static n) u le k h = h
 
   callable_so : (f : Callee) (es : SomeExpressions) (to : List CType) (t l : ℕ) → takes f (arguments es)
-      → scene.callable (callee_number count f) (args_count (Expressions.pass size count es to t l).trees)
+      → scene.callable (callee_number count f) (length (Expressions.pass size count es to t l).trees)
   callable_so f es to t l h = subst (λ n. scene.callable (callee_number count f) n) (sym (passes_all size count es to t l))
       (calls f (arguments es) h)
 
