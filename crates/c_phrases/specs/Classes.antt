@@ -1,5 +1,5 @@
 -- Tokens as the phrases see them: what class a token has, and which of its offsets a phrase keeps.
-use Rattle.std.specs.Prelude.{ℕ, List, [], ◌∷◌, Bool, true, false, if◌then◌else◌}
+use Rattle.std.specs.Prelude.{ℕ, List, map, Bool, true, false, if◌then◌else◌}
 use Rattle.c_tokens.specs.declared.token.Token.{Token}
 use Rattle.c_tokens.specs.declared.token.Token.TheVariants as token
 use Rattle.c_tokens.specs.declared.token.Spanned.{Spanned}
@@ -129,8 +129,7 @@ abbrev pub placed : Spanned → Placed
 placed t = record { kind = t.kind; at = if is_kept (class_of t.kind) then t.start else 0 }
 
 abbrev pub seen : List Spanned → List Placed
-seen [] = []
-seen (t ∷ ts) = placed t ∷ seen ts
+seen ts = map placed ts
 
 abbrev pub word : Key → ℕ → Placed
 word k at = record { kind = token.Key k; at = at }

@@ -1,5 +1,5 @@
 -- The plain declaration, statement or unit of a tree.
-use Rattle.std.specs.Prelude.{List, [], ◌∷◌, Option, Some, None}
+use Rattle.std.specs.Prelude.{List, [], ◌∷◌, map, Option, Some, None}
 use Rattle.std.specs.Global.{Vec}
 use Rattle.c_phrases.specs.declared.tree.Expr.{Expr}
 use Rattle.c_phrases.specs.declared.tree.Length.{Length}
@@ -47,8 +47,7 @@ abbrev pub declarator_of : Declarator → ADeclarator
 declarator_of d = record { stars = d.stars; name = d.name; at = d.at; length = length_of d.length; init = initialised_of d.initialiser }
 
 abbrev pub declarators_of : List Declarator → List ADeclarator
-declarators_of [] = []
-declarators_of (d ∷ ds) = declarator_of d ∷ declarators_of ds
+declarators_of ds = map declarator_of ds
 
 abbrev pub local_of : Local → ALocal
 local_of l = record { storage = l.storage; spec = l.spec; declarators = declarators_of l.declarators.items }
@@ -83,8 +82,7 @@ abbrev pub param_of : Param → AParam
 param_of p = record { spec = p.spec; stars = p.stars; name = p.name; length = length_of p.length }
 
 abbrev pub param_list : List Param → List AParam
-param_list [] = []
-param_list (p ∷ ps) = param_of p ∷ param_list ps
+param_list ps = map param_of ps
 
 abbrev pub params_of : Params → SomeParams
 params_of parameters.None = no_params
@@ -111,8 +109,7 @@ abbrev pub external_of : External → AnExternal
 external_of x = record { static_at = x.static_at; spec = x.spec; declared = declared_of x.declared }
 
 abbrev pub externals_of : List External → List AnExternal
-externals_of [] = []
-externals_of (x ∷ xs) = external_of x ∷ externals_of xs
+externals_of xs = map external_of xs
 
 abbrev pub unit_of : Ast → AUnit
 unit_of a = record { externals = externals_of a.externals.items; end = a.end }
