@@ -1,5 +1,5 @@
 -- The tokens of what stands at file level, each with the level that it opens.
-use Rattle.std.specs.Prelude.{ℕ, ◌+◌, List, [], ◌∷◌, Option, Some, None}
+use Rattle.std.specs.Prelude.{ℕ, ◌+◌, List, [], ◌∷◌, map, Option, Some, None}
 use Rattle.c_tokens.specs.declared.token.Token.TheVariants as token
 use Rattle.c_tokens.specs.declared.words.Key.TheVariants as keys
 use Rattle.c_tokens.specs.declared.marks.Mark.TheVariants as marks
@@ -57,5 +57,4 @@ levelled u = levelled_externals u.externals 0 (plain (record { kind = token.End;
 
 -- The tokens alone.
 abbrev pub tokens_of : List Opening → List Placed
-tokens_of [] = []
-tokens_of (t ∷ ts) = t.token ∷ tokens_of ts
+tokens_of ts = map (λ (t : Opening). t.token) ts
