@@ -3,3 +3,4 @@ pub mod Phrases
 pub mod Calls
 pub mod Expressions
 pub mod Relations
+pub mod Functions

@@ -4,6 +4,7 @@ ghost use Rattle.c_types.specs.Answers.{Gives};
 ghost use Rattle.c_types.specs.Typed.{term, terms};
 ghost use Rattle.c_typed_scope.specs.Answers.{Turns};
 ghost use Rattle.c_phrases.specs.Shapes.{exp, exp_list};
+ghost use Rattle.c_typed_expressions.specs.Functions.{by_functions};
 ghost use Rattle.c_typed_expressions.specs.Phrases.{first};
 ghost use Rattle.c_typed_scope.specs.Scopes.{find};
 ghost use Rattle.c_typed_scope.specs.Views.{scope, area};
@@ -105,7 +106,7 @@ fn named(
     at: u32,
     name: &Name,
 ) -> Result<Expression, TypeFault>
-    ensures { Gives (λ t. term t) result (named functions.now.names functions.now.signatures.items (scope blocks.now) at name.now) }
+    ensures { Gives (λ t. term t) result (by_functions functions.now named (scope blocks.now) at name.now) }
 {
     match blocks.lookup(name.as_slice()) {
         Some(Entry::Variable(t, variable)) => Ok(Expression::Read(Place::Variable(t, variable))),
@@ -137,7 +138,7 @@ fn callee(
     at: u32,
     name: &Name,
 ) -> Result<Option<usize>, TypeFault>
-    ensures { Gives (λ n. n) result (callee functions.now.names functions.now.signatures.items (scope blocks.now) at name.now) }
+    ensures { Gives (λ n. n) result (by_functions functions.now callee (scope blocks.now) at name.now) }
 {
     match blocks.lookup(name.as_slice()) {
         Some(Entry::Variable(_, _)) => Ok(None),
@@ -150,7 +151,7 @@ fn callee(
 // Whether it is a function's name, also in parentheses.
 #[tactic(auto, unfolding(crate::specs::Expressions::is_function))]
 fn is_function(functions: &Functions, blocks: &Blocks, e: &Expr) -> bool
-    ensures { result ≡ is_function functions.now.names functions.now.signatures.items (scope blocks.now) (exp e.now) }
+    ensures { result ≡ by_functions functions.now is_function (scope blocks.now) (exp e.now) }
 {
     match e {
         Expr::Name { name, .. } => match blocks.lookup(name.as_slice()) {
@@ -244,7 +245,7 @@ pub fn expression(
     e: &Expr,
     layout: &mut Data,
 ) -> Result<Expression, TypeFault>
-    ensures { Turns (λ t. term t) result (area layout.new) (type_exp functions.now.names functions.now.signatures.items
+    ensures { Turns (λ t. term t) result (area layout.new) (by_functions functions.now type_exp
         (scope blocks.now) (exp e.now) (area layout.old)) }
 {
     match e {
@@ -355,7 +356,7 @@ fn boxed(
     e: &Expr,
     layout: &mut Data,
 ) -> Result<Box<Expression>, TypeFault>
-    ensures { Turns (λ t. term t.value) result (area layout.new) (type_exp functions.now.names functions.now.signatures.items
+    ensures { Turns (λ t. term t.value) result (area layout.new) (by_functions functions.now type_exp
         (scope blocks.now) (exp e.now) (area layout.old)) }
 {
     Ok(Box::new(alloc, expression(alloc, functions, blocks, e, layout)?)?)
@@ -372,7 +373,7 @@ fn expressions(
 ) -> Result<Vec<Expression>, TypeFault>
     ensures same { IfOk result (λ v. length v.items ≡ length es.now) }
     ensures typed { Turns (λ v. terms v.items) result (area layout.new)
-        (type_exps functions.now.names functions.now.signatures.items (scope blocks.now) (exp_list es.now) (area layout.old)) }
+        (by_functions functions.now type_exps (scope blocks.now) (exp_list es.now) (area layout.old)) }
 {
     let mut xs = Vec::new(alloc);
     for e in es {
