@@ -29,7 +29,7 @@ fn begin(
     environment: &mut Environment,
 ) -> Result<Declaration, TypeFault>
     ensures { Turns (λ x. declaration x) result (state environment.new)
-        (begun functions.now.names functions.now.signatures.items of number (init_in (initialised_of given.now)) (state environment.old)) }
+        (by_functions functions.now begun of number (init_in (initialised_of given.now)) (state environment.old)) }
 {
     let Some(given) = given else {
         return Ok(Declaration::Clear(number));
@@ -51,6 +51,7 @@ fn begin(
 }
 
 ghost use Rattle.c_phrases.specs.UnitShapes.{initialised_of};
+ghost use Rattle.c_typed_expressions.specs.Functions.{by_functions};
 ghost use Rattle.c_typed_expressions.specs.Phrases.{init_in};
 
 #[tactic(auto, unfolding(c_typed_definition::specs::Declarations::type_automatic), using(crate::proofs::Forms::automatic_free))]
@@ -62,7 +63,7 @@ fn automatic(
     environment: &mut Environment,
 ) -> Result<Declaration, TypeFault>
     ensures { Turns (λ x. declaration x) result (state environment.new)
-        (type_automatic functions.now.names functions.now.signatures.items spec (declarator_of d.now) (state environment.old)) }
+        (by_functions functions.now type_automatic spec (declarator_of d.now) (state environment.old)) }
 {
     let of = written(spec, &d.stars);
     check_automatic(of, d, &environment.blocks)?;
@@ -86,7 +87,7 @@ fn local(
     environment: &mut Environment,
 ) -> Result<Declaration, TypeFault>
     ensures { Turns (λ x. declaration x) result (state environment.new)
-        (type_local functions.now.names functions.now.signatures.items storage spec (declarator_of d.now) (state environment.old)) }
+        (by_functions functions.now type_local storage spec (declarator_of d.now) (state environment.old)) }
 {
     match storage {
         Storage::Automatic => automatic(alloc, functions, spec, d, environment),
@@ -108,7 +109,7 @@ pub fn locals(
     environment: &mut Environment,
 ) -> Result<Vec<Declaration>, TypeFault>
     ensures { Turns (λ v. map declaration v.items) result (state environment.new)
-        (type_locals functions.now.names functions.now.signatures.items storage spec (declarators_of ds.now) [] (state environment.old)) }
+        (by_functions functions.now type_locals storage spec (declarators_of ds.now) [] (state environment.old)) }
 {
     let mut done = Vec::new(alloc);
     for d in ds {

@@ -3,6 +3,7 @@ ghost use Rattle.std.specs.Prelude.{◌≡◌};
 ghost use Rattle.c_phrases.specs.Shapes.{exp, exp_list};
 ghost use Rattle.c_typed_scope.specs.Answers.{Turns, OnlyTurns};
 ghost use Rattle.c_typed_scope.specs.Views.{scope, area, filled_so_far};
+ghost use Rattle.c_typed_expressions.specs.Functions.{by_functions};
 ghost use Rattle.c_typed_definition.specs.Initialisers.{type_length, type_element, type_elements};
 
 use c_phrases::tree::Expr;
@@ -22,7 +23,7 @@ pub fn array_length(
     e: &Expr,
     layout: &mut Data,
 ) -> Result<u32, TypeFault>
-    ensures { Turns (λ n. n) result (area layout.new) (type_length functions.now.names functions.now.signatures.items
+    ensures { Turns (λ n. n) result (area layout.new) (by_functions functions.now type_length
         (scope blocks.now) (exp e.now) (area layout.old)) }
 {
     let x = expression(alloc, functions, blocks, e, layout)?;
@@ -41,7 +42,7 @@ pub fn element(
     contents: &mut Contents,
 ) -> Result<(), TypeFault>
     ensures { OnlyTurns result (filled_so_far contents.new, area layout.new)
-        (type_element functions.now.names functions.now.signatures.items (scope blocks.now) to (exp e.now)
+        (by_functions functions.now type_element (scope blocks.now) to (exp e.now)
         (filled_so_far contents.old, area layout.old)) }
 {
     let x = expression(alloc, functions, blocks, e, layout)?;
@@ -59,7 +60,7 @@ pub fn elements(
     contents: &mut Contents,
 ) -> Result<(), TypeFault>
     ensures { OnlyTurns result (filled_so_far contents.new, area layout.new)
-        (type_elements functions.now.names functions.now.signatures.items (scope blocks.now) to (exp_list es.now)
+        (by_functions functions.now type_elements (scope blocks.now) to (exp_list es.now)
         (filled_so_far contents.old, area layout.old)) }
 {
     for e in es {

@@ -6,6 +6,7 @@ ghost use Rattle.c_typed_scope.specs.Answers.{Turns};
 ghost use Rattle.c_typed_scope.specs.Scopes.{find};
 ghost use Rattle.c_typed_scope.specs.Views.{scope, area, filled_so_far};
 ghost use Rattle.c_typed_scope.specs.Layout.{placed};
+ghost use Rattle.c_typed_expressions.specs.Functions.{by_functions};
 ghost use Rattle.c_typed_expressions.specs.Phrases.{init_in};
 ghost use Rattle.c_typed_objects.specs.Views.{state};
 ghost use Rattle.c_typed_definition.specs.State.{variable_of, label_of, counted_static, laid};
@@ -35,7 +36,7 @@ fn measure(
     given: &Option<Initialised>,
     layout: &mut Data,
 ) -> Result<u32, TypeFault>
-    ensures { Turns (λ n. n) result (area layout.new) (length_in functions.now.names functions.now.signatures.items
+    ensures { Turns (λ n. n) result (area layout.new) (by_functions functions.now length_in
         (part length.now) (init_in (initialised_of given.now)) (scope blocks.now) (area layout.old)) }
 {
     match length {
@@ -57,7 +58,7 @@ fn lay_literals(
     length: &Option<Expr>,
     layout: &mut Data,
 ) -> Result<(), TypeFault>
-    ensures { OnlyTurns result (area layout.new) (literals_in functions.now.names functions.now.signatures.items
+    ensures { OnlyTurns result (area layout.new) (by_functions functions.now literals_in
         (part length.now) (scope blocks.now) (area layout.old)) }
 {
     if let Some(e) = length {
@@ -117,8 +118,8 @@ fn contents(
     given: &Option<Initialised>,
     layout: &mut Data,
 ) -> Result<Contents, TypeFault>
-    ensures { Turns (λ c. filled_so_far c) result (area layout.new) (contents_of functions.now.names
-        functions.now.signatures.items of is_array (init_in (initialised_of given.now)) (scope blocks.now) (area layout.old)) }
+    ensures { Turns (λ c. filled_so_far c) result (area layout.new) (by_functions functions.now contents_of
+        of is_array (init_in (initialised_of given.now)) (scope blocks.now) (area layout.old)) }
 {
     let mut contents = Contents::new(alloc);
     let Some(given) = given else {
@@ -153,7 +154,7 @@ fn declare_object(
     environment: &mut Environment,
 ) -> Result<u32, TypeFault>
     requires { find environment.old.blocks.here d.now.name ≡ None }
-    ensures { Turns (λ n. n) result (state environment.new) (object_with functions.now.names functions.now.signatures.items
+    ensures { Turns (λ n. n) result (state environment.new) (by_functions functions.now object_with
         number size of is_array (declarator_of d.now) entry (state environment.old)) }
 {
     declare(alloc, &mut environment.blocks, &d.name, entry)?;
@@ -184,7 +185,7 @@ fn plain_object(
 ) -> Result<u32, TypeFault>
     requires free { find environment.old.blocks.here d.now.name ≡ None }
     requires scalar { is_scalar of ≡ true }
-    ensures { Turns (λ n. n) result (state environment.new) (plain_object functions.now.names functions.now.signatures.items
+    ensures { Turns (λ n. n) result (state environment.new) (by_functions functions.now plain_object
         is_static of (declarator_of d.now) (state environment.old)) }
 {
     let size = of.size();
@@ -243,7 +244,7 @@ fn counted_array(
 ) -> Result<u32, TypeFault>
     requires free { find environment.old.blocks.here d.now.name ≡ None }
     requires scalar { is_scalar of ≡ true }
-    ensures { Turns (λ n. n) result (state environment.new) (counted_array functions.now.names functions.now.signatures.items
+    ensures { Turns (λ n. n) result (state environment.new) (by_functions functions.now counted_array
         is_static of (declarator_of d.now) (part length.now) count (state environment.old)) }
 {
     let size = u64::from(count) * u64::from(of.size());
@@ -296,7 +297,7 @@ fn array_object(
 ) -> Result<u32, TypeFault>
     requires free { find environment.old.blocks.here d.now.name ≡ None }
     requires scalar { is_scalar of ≡ true }
-    ensures { Turns (λ n. n) result (state environment.new) (array_object functions.now.names functions.now.signatures.items
+    ensures { Turns (λ n. n) result (state environment.new) (by_functions functions.now array_object
         is_static of (declarator_of d.now) (part length.now) (state environment.old)) }
 {
     let layout = &mut environment.layout;
@@ -336,7 +337,7 @@ pub fn object(
     d: &Declarator,
     environment: &mut Environment,
 ) -> Result<u32, TypeFault>
-    ensures { Turns (λ n. n) result (state environment.new) (type_object functions.now.names functions.now.signatures.items
+    ensures { Turns (λ n. n) result (state environment.new) (by_functions functions.now type_object
         is_static spec (declarator_of d.now) (state environment.old)) }
 {
     let of = written(spec, &d.stars);
