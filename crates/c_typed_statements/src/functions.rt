@@ -7,6 +7,7 @@ ghost use Rattle.c_program.specs.Programs.{routine};
 ghost use Rattle.c_typed_scope.specs.Answers.{OnlyTurns};
 ghost use Rattle.c_typed_scope.specs.Scopes.{find};
 ghost use Rattle.c_typed_scope.specs.Views.{scope, area};
+ghost use Rattle.c_typed_expressions.specs.Functions.{by_functions};
 ghost use Rattle.c_typed_expressions.specs.Phrases.{brackets_in};
 ghost use Rattle.c_typed_expressions.specs.Expressions.{integer_of};
 ghost use Rattle.c_typed_objects.specs.Views.{state};
@@ -152,7 +153,7 @@ fn measure_parameter(
     length: &Option<Length>,
     layout: &mut Data,
 ) -> Result<(), TypeFault>
-    ensures { OnlyTurns result (area layout.new) (parameter_length functions.now.names functions.now.signatures.items
+    ensures { OnlyTurns result (area layout.new) (by_functions functions.now parameter_length
         (brackets_in (length_of length.now)) (scope blocks.now) (area layout.old)) }
 {
     match length {
@@ -177,7 +178,7 @@ fn declare_parameter(
     p: &Param,
     environment: &mut Environment,
 ) -> Result<(), TypeFault>
-    ensures { OnlyTurns result (state environment.new) (type_parameter functions.now.names functions.now.signatures.items
+    ensures { OnlyTurns result (state environment.new) (by_functions functions.now type_parameter
         defines at (param_of p.now) number (state environment.old)) }
 {
     check_parameter(defines, at, p, &environment.blocks)?;
@@ -211,7 +212,7 @@ fn declare_parameters(
     params: &[Param],
     environment: &mut Environment,
 ) -> Result<(), TypeFault>
-    ensures { OnlyTurns result (state environment.new) (type_parameters functions.now.names functions.now.signatures.items
+    ensures { OnlyTurns result (state environment.new) (by_functions functions.now type_parameters
         defines at (param_list params.now) 0 (state environment.old)) }
 {
     for (number, parameter) in params.iter().enumerate() {
@@ -333,7 +334,7 @@ fn define(
     row: &[Item],
     builder: &mut Builder,
 ) -> Result<(), TypeFault>
-    ensures { OnlyTurns result (text builder.new) (type_body functions.now.names functions.now.signatures.items spec
+    ensures { OnlyTurns result (text builder.new) (by_functions functions.now type_body spec
         (function_of f.now) (Some (items_of row.now)) (state builder.old.environment) (text builder.old)) }
 {
     let result = written(spec, &f.stars);
@@ -362,7 +363,7 @@ fn introduced(
     f: &Function,
     builder: &mut Builder,
 ) -> Result<(), TypeFault>
-    ensures { OnlyTurns result (text builder.new) (type_introduced functions.now.names functions.now.signatures.items earlier
+    ensures { OnlyTurns result (text builder.new) (by_functions functions.now type_introduced earlier
         spec (function_of f.now) (text builder.old)) }
 {
     let environment = &mut builder.environment;
@@ -396,7 +397,7 @@ pub fn function(
     f: &Function,
     builder: &mut Builder,
 ) -> Result<(), TypeFault>
-    ensures { OnlyTurns result (text builder.new) (type_function functions.now.names functions.now.signatures.items spec
+    ensures { OnlyTurns result (text builder.new) (by_functions functions.now type_function spec
         (function_of f.now) (text builder.old)) }
 {
     let before = earlier(&builder.environment.blocks.here, &f.name, f.at)?;

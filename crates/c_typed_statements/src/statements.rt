@@ -7,6 +7,7 @@ ghost use Rattle.c_phrases.specs.Units.{no_items};
 ghost use Rattle.c_phrases.specs.UnitShapes.{part, item_onto, items_of, statement_of};
 ghost use Rattle.c_typed_objects.specs.Views.{state};
 ghost use Rattle.c_program.specs.Statements.{act, acts, maybe_term};
+ghost use Rattle.c_typed_expressions.specs.Functions.{by_functions};
 ghost use Rattle.c_typed_definition.specs.State.{State};
 ghost use Rattle.c_typed_statements.specs.Views.{scoped};
 ghost use Rattle.c_typed_definition.specs.Statements.{entered, jump, type_full, type_condition, type_maybe, type_maybe_condition};
@@ -28,7 +29,7 @@ fn full(
     e: &Expr,
     environment: &mut Environment,
 ) -> Result<Expression, TypeFault>
-    ensures { Turns (λ t. term t) result (state environment.new) (type_full functions.now.names functions.now.signatures.items
+    ensures { Turns (λ t. term t) result (state environment.new) (by_functions functions.now type_full
         (exp e.now) (state environment.old)) }
 {
     expression(
@@ -47,8 +48,8 @@ fn tested(
     e: &Expr,
     environment: &mut Environment,
 ) -> Result<Expression, TypeFault>
-    ensures { Turns (λ t. term t) result (state environment.new) (type_condition functions.now.names
-        functions.now.signatures.items (exp e.now) (state environment.old)) }
+    ensures { Turns (λ t. term t) result (state environment.new) (by_functions functions.now type_condition
+        (exp e.now) (state environment.old)) }
 {
     let x = full(alloc, functions, e, environment)?;
     condition(first(e), x)
@@ -60,8 +61,8 @@ fn maybe_full(
     e: &Option<Expr>,
     environment: &mut Environment,
 ) -> Result<Option<Expression>, TypeFault>
-    ensures { Turns (λ t. maybe_term t) result (state environment.new) (type_maybe functions.now.names
-        functions.now.signatures.items (part e.now) (state environment.old)) }
+    ensures { Turns (λ t. maybe_term t) result (state environment.new) (by_functions functions.now type_maybe
+        (part e.now) (state environment.old)) }
 {
     match e {
         None => Ok(None),
@@ -75,8 +76,8 @@ fn maybe_tested(
     e: &Option<Expr>,
     environment: &mut Environment,
 ) -> Result<Option<Expression>, TypeFault>
-    ensures { Turns (λ t. maybe_term t) result (state environment.new) (type_maybe_condition functions.now.names
-        functions.now.signatures.items (part e.now) (state environment.old)) }
+    ensures { Turns (λ t. maybe_term t) result (state environment.new) (by_functions functions.now type_maybe_condition
+        (part e.now) (state environment.old)) }
 {
     match e {
         None => Ok(None),
@@ -91,7 +92,7 @@ fn returned(
     e: &Option<Expr>,
     environment: &mut Environment,
 ) -> Result<Action, TypeFault>
-    ensures { Turns (λ a. act a) result (state environment.new) (type_return functions.now.names functions.now.signatures.items
+    ensures { Turns (λ a. act a) result (state environment.new) (by_functions functions.now type_return
         gives (part e.now) (state environment.old)) }
 {
     match e {
@@ -127,8 +128,8 @@ pub fn statement(
     s: &Statement,
     environment: &mut Environment,
 ) -> Result<Action, TypeFault>
-    ensures { Turns (λ a. act a) result (state environment.new) (type_statement functions.now.names
-        functions.now.signatures.items gives looping (statement_of s.now) (state environment.old)) }
+    ensures { Turns (λ a. act a) result (state environment.new) (by_functions functions.now type_statement
+        gives looping (statement_of s.now) (state environment.old)) }
 {
     match s {
         Statement::Block(row) => {
@@ -205,7 +206,7 @@ fn block(
     environment: &mut Environment,
 ) -> Result<Vec<Action>, TypeFault>
     ensures { Turns (λ v. acts v.items) result (state environment.new) (scoped
-        (type_items functions.now.names functions.now.signatures.items gives looping (items_of row.now)
+        (by_functions functions.now type_items gives looping (items_of row.now)
         (entered (state environment.old)))) }
 {
     environment.blocks.enter(alloc)?;
@@ -223,7 +224,7 @@ fn one_item(
     i: &Item,
     environment: &mut Environment,
 ) -> Result<Action, TypeFault>
-    ensures { Turns (λ a. act a) result (state environment.new) (type_item functions.now.names functions.now.signatures.items
+    ensures { Turns (λ a. act a) result (state environment.new) (by_functions functions.now type_item
         gives looping (item_onto i.now no_items) (state environment.old)) }
 {
     match i {
@@ -249,8 +250,8 @@ pub fn items(
     row: &[Item],
     environment: &mut Environment,
 ) -> Result<Vec<Action>, TypeFault>
-    ensures { Turns (λ v. acts v.items) result (state environment.new) (type_items functions.now.names
-        functions.now.signatures.items gives looping (items_of row.now) (state environment.old)) }
+    ensures { Turns (λ v. acts v.items) result (state environment.new) (by_functions functions.now type_items
+        gives looping (items_of row.now) (state environment.old)) }
 {
     let mut actions = Vec::new(alloc);
     for i in row {
