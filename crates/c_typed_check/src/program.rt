@@ -9,6 +9,7 @@ ghost use Rattle.c_typed_scope.specs.Answers.{OnlyTurns};
 ghost use Rattle.c_typed_objects.specs.Views.{state};
 ghost use Rattle.c_program.specs.Programs.{AProgram, routine, program};
 ghost use Rattle.c_typed_statements.specs.Views.{text};
+ghost use Rattle.c_typed_expressions.specs.Functions.{by_functions};
 ghost use Rattle.c_typed_definition.specs.Signatures.{services, service_names, known, known_with};
 ghost use Rattle.c_typed_definition.specs.Texts.{type_globals, type_external, type_externals, type_text, empty_text};
 ghost use Rattle.c_typed_definition.specs.Texts.{is_main, main_of};
@@ -126,7 +127,7 @@ fn globals(
     ds: &[Declarator],
     environment: &mut Environment,
 ) -> Result<(), TypeFault>
-    ensures { OnlyTurns result (state environment.new) (type_globals functions.now.names functions.now.signatures.items spec
+    ensures { OnlyTurns result (state environment.new) (by_functions functions.now type_globals spec
         (declarators_of ds.now) (state environment.old)) }
 {
     for d in ds {
@@ -141,8 +142,7 @@ fn external(
     e: &External,
     builder: &mut Builder,
 ) -> Result<(), TypeFault>
-    ensures { OnlyTurns result (text builder.new) (type_external functions.now.names functions.now.signatures.items
-        (external_of e.now) (text builder.old)) }
+    ensures { OnlyTurns result (text builder.new) (by_functions functions.now type_external (external_of e.now) (text builder.old)) }
 {
     match &e.declared {
         Declared::Function(f) => function(alloc, functions, e.spec, f, builder),
@@ -157,8 +157,7 @@ fn externals(
     es: &[External],
     builder: &mut Builder,
 ) -> Result<(), TypeFault>
-    ensures { OnlyTurns result (text builder.new) (type_externals functions.now.names functions.now.signatures.items
-        (externals_of es.now) (text builder.old)) }
+    ensures { OnlyTurns result (text builder.new) (by_functions functions.now type_externals (externals_of es.now) (text builder.old)) }
 {
     for e in es {
         external(alloc, functions, e, builder)?;
