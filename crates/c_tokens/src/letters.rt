@@ -14,14 +14,14 @@ pub fn is_blank(byte: u8) -> bool
 pub fn is_letter(byte: u8) -> bool
     ensures { result ≡ is_letter byte }
 {
-    (b'A' <= byte && byte <= b'Z') || (b'a' <= byte && byte <= b'z') || byte == b'_'
+    byte.is_ascii_alphabetic() || byte == b'_'
 }
 
 /// Whether a number may begin with the byte.
 pub fn is_digit(byte: u8) -> bool
     ensures { result ≡ is_digit byte }
 {
-    b'0' <= byte && byte <= b'9'
+    byte.is_ascii_digit()
 }
 
 fn in_word(byte: u8) -> bool
