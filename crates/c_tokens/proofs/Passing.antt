@@ -1,9 +1,9 @@
 -- What is left of a text behind the pieces that were read.
-use Rattle.std.proofs.Common.{◌≡◌, ◌≤◌, ℕ, zero, suc, ◌+◌, List, [], ◌∷◌, ◌++◌, length, drop, Result, Ok, Err, refl, ◌∙◌, arith, append_assoc}
+use Rattle.std.proofs.Common.{◌≡◌, ◌≤◌, ℕ, zero, suc, pred, ◌+◌, List, [], ◌∷◌, ◌++◌, length, drop, Result, Ok, Err, refl, ◌∙◌, arith, append_assoc}
 use Rattle.c_tokens.specs.declared.pieces.Piece.{Piece}
 use Rattle.c_tokens.specs.declared.token.Spanned.{Spanned}
 use Rattle.c_tokens.specs.declared.token.TokenFault.{TokenFault}
-use Rattle.c_tokens.specs.Pieces.{piece_of, one_less}
+use Rattle.c_tokens.specs.Pieces.{piece_of}
 use Rattle.c_tokens.proofs.PieceLaws.{piece_says}
 use Rattle.c_tokens.specs.Reading.{read_from, read, in_front, spanned}
 
@@ -21,7 +21,7 @@ pub piece_then : (at : ℕ) (b : ℕ) (bs : List ℕ) (p : Piece) → piece_of a
     ≡ in_front (spanned p.token at (at + p.length)) (read_from 0 (at + p.length) (drop p.length (b ∷ bs)))
 piece_then at b bs p e one low = rw e (by p.length one low)
   where
-    by : (n : ℕ) → 1 ≤ n → n ≤ suc (length bs) → in_front (spanned p.token at (at + p.length)) (read_from (one_less n) (suc at) bs)
+    by : (n : ℕ) → 1 ≤ n → n ≤ suc (length bs) → in_front (spanned p.token at (at + p.length)) (read_from (pred n) (suc at) bs)
         ≡ in_front (spanned p.token at (at + p.length)) (read_from 0 (at + n) (drop n (b ∷ bs)))
     by zero one low = absurd (omega arith)
     by (suc k) one low =

@@ -1,5 +1,5 @@
 -- Strings are read exactly as they are written.
-use Rattle.std.proofs.Common.{◌≡◌, ◌≢◌, ◌≤◌, ℕ, zero, suc, ◌+◌, ◌-◌, Bool, true, false, cond, eqb, List, [], ◌∷◌, length, drop, Option, Some, None, Result, Ok, Err, refl, sym, ◌∙◌}
+use Rattle.std.proofs.Common.{◌≡◌, ◌≢◌, ◌≤◌, ℕ, zero, suc, pred, ◌+◌, ◌-◌, Bool, true, false, cond, eqb, List, [], ◌∷◌, length, drop, Option, Some, None, Result, Ok, Err, refl, sym, ◌∙◌}
 use Rattle.std.proofs.Common.{ap, arith, subst, length-drop}
 use Rattle.std.proofs.lemmas.Bool.{eqb-true, eqb-false}
 use Rattle.std.proofs.lemmas.List.{drop-drop}
@@ -8,7 +8,7 @@ use Rattle.c_tokens.specs.declared.token.TokenFault.TheVariants.{NoMemory, At}
 use Rattle.c_tokens.specs.declared.token.TokenKind.{TokenKind}
 use Rattle.c_tokens.specs.declared.token.TokenKind.TheVariants.{BadEscape, Unclosed}
 use Rattle.c_tokens.specs.Escapes.{element_of}
-use Rattle.c_tokens.specs.Pieces.{string_from, put_value, element_then, wrong, one_less}
+use Rattle.c_tokens.specs.Pieces.{string_from, put_value, element_then, wrong}
 use Rattle.c_tokens.specs.Grammar.{IsElement, Elements, none, more}
 use Rattle.c_tokens.specs.Wrong.{NoEscape, AtLineEnd}
 use Rattle.c_tokens.proofs.EscapeLaws.{element_is, element_none, ElementRead, element_reads}
@@ -65,7 +65,7 @@ string_says (suc n) o at (b ∷ bs) low = step (eqb b 34) (eqb b 10) refl refl (
         subst (λ (p : ℕ). StringBad o at (b ∷ bs) p BadEscape) place (slash (b ∷ bs) [] bs 0 (rw h.0 (none (92 ∷ bs))) h.1 (omega arith))
     element other line (Some x) e behind = taken x.1 refl
       where
-        taken : (m : ℕ) → x.1 ≡ m → StringSays o at (b ∷ bs) (put_value x.0 (string_from o (suc at) (one_less m) bs))
+        taken : (m : ℕ) → x.1 ≡ m → StringSays o at (b ∷ bs) (put_value x.0 (string_from o (suc at) (pred m) bs))
         taken zero f = let r = element_is 34 b bs x line other e in let some : 1 ≤ x.1 = r.some in absurd (omega arith)
         taken (suc k) f =
             let r = element_is 34 b bs x line other e in

@@ -1,5 +1,5 @@
 -- How the piece at the front of a text is read: a token or what parts tokens, and its length.
-use Rattle.std.specs.Prelude.{ℕ, zero, suc, ◌+◌, Bool, false, ◌==◌, ◌&&◌, nat_le, nat_lt, List, [], ◌∷◌, length, take}
+use Rattle.std.specs.Prelude.{ℕ, zero, suc, pred, ◌+◌, Bool, false, ◌==◌, ◌&&◌, nat_le, nat_lt, List, [], ◌∷◌, length, take}
 use Rattle.std.specs.Prelude.{drop, Option, Some, None, Result, Ok, Err, if◌then◌else◌}
 use Rattle.std.specs.Option.{option_map}
 use Rattle.gg_base.specs.Fronts.{run_len}
@@ -27,11 +27,6 @@ holds n (Err e) = Err e
 
 abbrev pub wrong : {A : Type 0} → ℕ → TokenKind → Result A TokenFault
 wrong place kind = Err (At place kind)
-
--- a number less one, and 0 for 0
-abbrev pub one_less : ℕ → ℕ
-one_less zero = zero
-one_less (suc n) = n
 
 -- words
 abbrev pub keyword_or_name : ℕ → Option Key → List ℕ → Result Token TokenFault
@@ -82,7 +77,7 @@ put_byte (Err e) = Err e
 
 abbrev pub element_then : ℕ → Option (ℕ × ℕ) → (ℕ → Result (List ℕ × ℕ) TokenFault) → Result (List ℕ × ℕ) TokenFault
 element_then at None rest = wrong at BadEscape
-element_then at (Some x) rest = put_value x.0 (rest (one_less x.1))
+element_then at (Some x) rest = put_value x.0 (rest (pred x.1))
 
 -- the string whose opening mark stands at `open`, from the offset `at` on, where the next k bytes belong to the element before
 abbrev pub string_from : (opened at k : ℕ) → List ℕ → Result (List ℕ × ℕ) TokenFault

@@ -1,5 +1,5 @@
 -- How a text is read, piece by piece.
-use Rattle.std.specs.Prelude.{◌≡◌, ℕ, zero, suc, ◌+◌, List, [], ◌∷◌, ◌++◌, Option, Some, None, Result, Ok, Err}
+use Rattle.std.specs.Prelude.{◌≡◌, ℕ, zero, suc, pred, ◌+◌, List, [], ◌∷◌, ◌++◌, Option, Some, None, Result, Ok, Err}
 use Rattle.std.specs.Global.{Vec}
 use Rattle.c_tokens.specs.declared.pieces.Piece.{Piece}
 use Rattle.c_tokens.specs.declared.token.Token.{Token}
@@ -7,7 +7,7 @@ use Rattle.c_tokens.specs.declared.token.Token.TheVariants.{End}
 use Rattle.c_tokens.specs.declared.token.Spanned.{Spanned}
 use Rattle.c_tokens.specs.declared.token.TokenFault.{TokenFault}
 use Rattle.c_tokens.specs.declared.token.TokenFault.TheVariants.{NoMemory, At}
-use Rattle.c_tokens.specs.Pieces.{one_less, piece_of}
+use Rattle.c_tokens.specs.Pieces.{piece_of}
 
 -- the answer is this one, or memory ran out
 abbrev pub Gives : {A : Type 0} → Result A TokenFault → Result A TokenFault → Type 0
@@ -24,7 +24,7 @@ in_front xs (Ok ys) = Ok (xs ++ ys)
 in_front xs (Err e) = Err e
 
 abbrev pub then_read : ℕ → Result Piece TokenFault → (ℕ → Result (List Spanned) TokenFault) → Result (List Spanned) TokenFault
-then_read at (Ok p) rest = in_front (spanned p.token at (at + p.length)) (rest (one_less p.length))
+then_read at (Ok p) rest = in_front (spanned p.token at (at + p.length)) (rest (pred p.length))
 then_read at (Err e) rest = Err e
 
 -- the tokens of the text from the offset `at` on, where the next k bytes belong to the piece before
