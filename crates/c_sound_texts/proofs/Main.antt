@@ -2,6 +2,7 @@
 use Rattle.std.proofs.Common.{◌≡◌, ℕ, suc, ◌+◌, ◌==◌, ◌&&◌, Bool, true, false, List, [], ◌∷◌, length, Option, Some, None, refl, arith}
 use Rattle.std.proofs.lemmas.Bool.{and_parts, eqb-true}
 use Rattle.std.proofs.lemmas.List.{nil_from_length}
+use Rattle.std.proofs.lemmas.Option.{same_Some, none-some}
 use Rattle.std.specs.Prelude.{codes, slice_get, if◌then◌else◌}
 use Rattle.std.specs.Str.{bytes_eq}
 use Rattle.c_types.specs.declared.types.CType.TheVariants as types
@@ -19,10 +20,10 @@ pub record MainAt (bodies : List ARoutine) (n : ℕ) : Type 0 where
 
 later_main : (b : ARoutine) (bodies : List ARoutine) (m : Option ℕ) (n : ℕ) → behind m ≡ Some n →
     ((k : ℕ) → m ≡ Some k → MainAt bodies k) → MainAt (b ∷ bodies) n
-later_main b bodies None n e rest = absurd (cc)
+later_main b bodies None n e rest = absurd (none-some n e)
 later_main b bodies (Some k) n e rest =
     let h = rest k refl in
-    let same : k + 1 ≡ n = cc in
+    let same : k + 1 ≡ n = same_Some (k + 1) n e in
     let number : n ≡ suc k = omega arith in
     rw number (record { routine = h.routine; here = h.here; main = h.main })
 

@@ -1,5 +1,5 @@
 -- Externals and declarators that are read one after another: what is left decides.
-use Rattle.std.proofs.Common.{◌≡◌, ℕ, ◌+◌, ◌<◌, ◌≤◌, List, [], ◌∷◌, length, drop, get_or, map, refl, ap, sym, ◌∙◌, Result, Ok, Err, Option, Some, None, true, false, Bool, cond, arith}
+use Rattle.std.proofs.Common.{◌≡◌, ℕ, ◌+◌, ◌<◌, ◌≤◌, List, [], ◌∷◌, length, drop, get_or, map, refl, ap, sym, ◌∙◌, Result, Ok, Option, Some, None, true, false, Bool, cond, arith}
 use Rattle.std.specs.List.{position_from}
 use Rattle.std.proofs.lemmas.List.{drop_more, drop_all}
 use Rattle.c_phrases.specs.declared.operator.Spec.{Spec}
@@ -10,16 +10,16 @@ use Rattle.c_phrases.specs.UnitShapes.{declarator_of, declarators_of, external_o
 use Rattle.c_types.specs.declared.fault.TypeFault.{TypeFault}
 use Rattle.c_types.specs.declared.fault.TypeFault.TheVariants.{NoMemory, At}
 use Rattle.c_types.specs.declared.fault.TypeKind.TheVariants.{NoMain}
-use Rattle.c_types.specs.Answers.{Fault, bad, Fails, ◌>>=◌}
+use Rattle.c_types.specs.Answers.{Fault, bad, Fails}
 use Rattle.c_typed_scope.specs.declared.entry.Entry.{Entry}
 use Rattle.c_typed_scope.specs.declared.entry.Signature.{Signature}
 use Rattle.c_program.specs.declared.program.Routine.{Routine}
-use Rattle.c_program.specs.Programs.{ARoutine, AProgram, routine}
+use Rattle.c_program.specs.Programs.{routine}
 use Rattle.c_typed_definition.specs.State.{State}
 use Rattle.c_typed_definition.specs.Declarations.{type_object}
 use Rattle.c_typed_definition.specs.Signatures.{Known, known, known_with, known_from}
 use Rattle.c_typed_definition.specs.Headings.{Text}
-use Rattle.c_typed_definition.specs.Texts.{empty_text, whole_by, type_text, type_globals, type_external}
+use Rattle.c_typed_definition.specs.Texts.{empty_text, type_text, type_globals, type_external}
 use Rattle.c_typed_definition.specs.Texts.{type_externals, is_main, behind, main_of}
 
 abbrev fine : {A : Type 0} → A → Result A Fault
@@ -71,7 +71,7 @@ from_none (Some m) = ap Some (omega arith)
 
 from_behind : (n : ℕ) (m : Option ℕ) → from_on (n + 1) m ≡ from_on n (behind m)
 from_behind n None = refl
-from_behind n (Some m) = ap Some (omega arith)
+from_behind n (Some m) = ap Some (let s : n + 1 + m ≡ n + (m + 1) = omega arith in s)
 
 abbrev pub begins_run : Routine → Bool
 begins_run r = is_main (routine r)

@@ -1,7 +1,7 @@
 -- The types of a whole text.
 -- This is how the code computes it; the rules of typing are the relations of c_typed_law.
 use Rattle.std.specs.Prelude.{ℕ, ◌+◌, ◌==◌, Bool, false, ◌&&◌, is_some, List, [], ◌∷◌}
-use Rattle.std.specs.Prelude.{length, codes, Option, Some, None, Result, Ok, if◌then◌else◌}
+use Rattle.std.specs.Prelude.{length, codes, Option, Some, None, option_map, Result, Ok, if◌then◌else◌}
 use Rattle.std.specs.Str.{bytes_eq}
 use Rattle.c_phrases.specs.declared.operator.Spec.{Spec}
 use Rattle.c_types.specs.declared.types.CType.TheVariants as types
@@ -81,8 +81,7 @@ abbrev pub is_main : ARoutine → Bool
 is_main b = bytes_eq b.name (codes "main") && (same_type b.result (types.Integer ints.Int) && (length b.parameters == 0))
 
 abbrev pub behind : Option ℕ → Option ℕ
-behind None = None
-behind (Some n) = Some (n + 1)
+behind o = option_map (λ n. n + 1) o
 
 -- the number of the function where a run begins
 abbrev pub main_of : List ARoutine → Option ℕ
