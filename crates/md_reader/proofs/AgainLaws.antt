@@ -2,6 +2,7 @@
 use Rattle.std.proofs.Common.{eq-eqb, nat_lt, ◌≡◌, ℕ, zero, suc, ◌+◌, ◌≤◌, ◌<◌, Bool, true, false, cond, eqb, List, [], ◌∷◌, ◌++◌, length, Option, Some, None, Result, Ok, Err}
 use Rattle.std.proofs.Common.{nat_le, refl, sym, ap, ◌∙◌, arith, append_assoc, length-append}
 use Rattle.std.specs.Prelude.{codes, map, slice_get}
+use Rattle.std.specs.Char.{is_ascii_lowercase}
 use Rattle.std.specs.Result.{IfOk, IfErr}
 use Rattle.std.specs.List.{flat_map, AllByRecursion}
 use Rattle.std.specs.Option.{option_map}
@@ -38,7 +39,7 @@ use Rattle.md_reader.specs.declared.reading.Stage.TheVariants as stage
 use Rattle.md_reader.specs.declared.symbols.TheConstants.{TOKENS}
 use Rattle.md_reader.specs.Patterns.{kids_of, sort_of_kind, sort_of_symbol, sorted_test, walk, count}
 use Rattle.md_reader.specs.Symbols.{token_among, token_of, class_from, class_of, symbol_of, symbols_of}
-use Rattle.md_reader.specs.Forms.{is_skipped, is_lower, is_name, kind_form, class_form, spill_form, saved_number}
+use Rattle.md_reader.specs.Forms.{is_skipped, is_name, kind_form, class_form, spill_form, saved_number}
 use Rattle.md_reader.specs.RuleForms.{rule_form, give_form, plain_give, has_register, gives_register, is_passed}
 use Rattle.md_reader.specs.RuleForms.{register_behind}
 use Rattle.md_reader.specs.State.{State, Content}
@@ -255,7 +256,7 @@ small : (w : List ℕ) → is_name w ≡ true → starts_capital w ≡ false
 unfolding starts_capital
 small [] n = refl
 small (b ∷ bs) n =
-    let p = and_parts (is_lower b) _ n in
+    let p = and_parts (is_ascii_lowercase b) _ n in
     let q = and_parts (nat_le 97 b) (nat_le b 122) p.0 in
     let h = leb-true 97 b q.0 in
     lt-leb (suc b) 97 (omega (arith, h))

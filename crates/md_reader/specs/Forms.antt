@@ -1,7 +1,7 @@
 -- The forms of the lines in front of the rules, over their words: the head, the classes and what is saved.
 use Rattle.std.specs.Prelude.{ℕ, ◌+◌, ◌^◌, Bool, true, false, ◌==◌, ◌||◌, ◌&&◌, nat_le, bit_and, bit_or, List, []}
 use Rattle.std.specs.Prelude.{◌∷◌, length, Option, Some, None, codes, if◌then◌else◌}
-use Rattle.std.specs.Char.{is_ascii_digit}
+use Rattle.std.specs.Char.{is_ascii_lowercase, is_ascii_digit}
 use Rattle.std.specs.Option.{option_map, option_and_then}
 use Rattle.std.specs.List.{list_all}
 use Rattle.md_reader_text.specs.Words.{same}
@@ -48,16 +48,13 @@ pool_form [] = None
 pool_form (a ∷ []) = None
 pool_form (a ∷ r ∷ rs) = if same a (codes "pool") then pool_from 0 (r ∷ rs) else None
 
-abbrev pub is_lower : ℕ → Bool
-is_lower b = nat_le 97 b && nat_le b 122
-
 -- 1 to 31 lower-case letters and digits, the first a letter
 abbrev pub in_name : ℕ → Bool
-in_name b = is_lower b || is_ascii_digit b
+in_name b = is_ascii_lowercase b || is_ascii_digit b
 
 abbrev pub is_name : List ℕ → Bool
 is_name [] = false
-is_name (b ∷ bs) = is_lower b && (nat_le (length bs) 30 && list_all in_name bs)
+is_name (b ∷ bs) = is_ascii_lowercase b && (nat_le (length bs) 30 && list_all in_name bs)
 
 abbrev pub size_of : List ℕ → Option Size
 size_of w =

@@ -4,7 +4,7 @@ ghost use Rattle.std.specs.Option.{option_map};
 ghost use Rattle.md_reader_text.specs.Lines.{lines};
 ghost use Rattle.md_reader_text.specs.Words.{words};
 ghost use Rattle.md_reader.specs.Forms.{is_skipped, are_both, register_of, with_register, pool_from, pool_form};
-ghost use Rattle.md_reader.specs.Forms.{is_lower, in_name, is_name, size_of, plain_kind, sized_kind, kind_form};
+ghost use Rattle.md_reader.specs.Forms.{in_name, is_name, size_of, plain_kind, sized_kind, kind_form};
 ghost use Rattle.md_reader.specs.Forms.{class_form, sized_form, spill_words, spill_form, size_number, saved_number};
 ghost use Rattle.md_reader.specs.RuleForms.{rule_form, symbol_number, same_form, range_form, restriction_form};
 ghost use Rattle.md_reader.specs.RuleForms.{if_form, do_form, give_form, plain_give, has_register, gives_register};
@@ -126,16 +126,10 @@ pub fn pool_form(line: &[u8]) -> Option<u16>
     pool_from(rest)
 }
 
-fn is_lower(byte: u8) -> bool
-    ensures { result ≡ is_lower byte }
-{
-    b'a' <= byte && byte <= b'z'
-}
-
 fn in_name(byte: u8) -> bool
     ensures { result ≡ in_name byte }
 {
-    is_lower(byte) || byte.is_ascii_digit()
+    byte.is_ascii_lowercase() || byte.is_ascii_digit()
 }
 
 fn are_in_name(bytes: &[u8]) -> bool
@@ -151,7 +145,9 @@ fn is_name(word: &[u8]) -> bool
 {
     match word {
         [] => false,
-        [first, others @ ..] => is_lower(*first) && others.len() <= 30 && are_in_name(others),
+        [first, others @ ..] => first.is_ascii_lowercase()
+            && others.len() <= 30
+            && are_in_name(others),
     }
 }
 
