@@ -1,22 +1,19 @@
 -- A course of the target's words is the machine's own, and a step that a course is, it does.
-use Rattle.std.proofs.Common.{◌≡◌, ℕ, List, [], ◌∷◌, length, map, option_to_list, refl, ap, subst}
+use Rattle.std.proofs.Common.{◌≡◌, ℕ, List, [], length, option_to_list, refl, ap}
 use Rattle.tree_core.specs.declared.program.TreeProgram.{TreeProgram}
 use Rattle.tree_core.specs.Names.{label_name, function_label}
-use Rattle.tree_meaning.specs.State.{State as Trees}
+use Rattle.tree_meaning.specs.State.{State as Trees, Extent}
 use Rattle.gg_base.specs.declared.run.Finish.TheVariants as finish
 use Rattle.tree_meaning.specs.Steps.{Step, Goes as GoesOn, Serves, GoesTo, Enters, GoesBack, Ends}
 use Rattle.sel_target.specs.Courses as target
-use Rattle.sel_target.specs.Meaning.{Extent}
 use Rattle.sel_target.specs.StatementLaws as steps
 use Rattle.sel_target.specs.StatementLaws.{IsStep}
 use Rattle.vax_core.specs.declared.code.Instr.{Instr}
 use Rattle.vax_machine.specs.declared.turn.Stop.TheVariants as stops
 use Rattle.vax_machine.specs.State.{State}
 use Rattle.vax_machine_lists.specs.Instructions.{Course, Ending, Comes, Goes, Calls, Returns, Stops}
-use Rattle.vax_states.specs.Stack as stack
-use Rattle.vax_states.specs.Agreeing.{Agrees}
 use Rattle.vax_target_meaning.specs.Running.{ending_of, course_of}
-use Rattle.vax_target_meaning.specs.Vax.{vax, extent_of}
+use Rattle.vax_target_meaning.specs.Vax.{vax}
 use Rattle.gg_compile_law.specs.Effects.{Stays, Does}
 
 -- ---- what a course is
@@ -90,15 +87,6 @@ course_is c w x e h k =
 pub traps_is : (c : Course) → course_of c ≡ target.traps → c ≡ record { written = []; ending = Stops stops.Trapped }
 traps_is c h = course_is c [] target.Traps (Stops stops.Trapped) h (ends_traps c.ending)
 
--- ---- extents
-
-abbrev pub back : stack.Extent → Extent
-back e = record { locals = e.locals; words = e.words }
-
-pub all_back : (es : List stack.Extent) → map extent_of (map back es) ≡ es
-all_back [] = refl
-all_back (e ∷ es) = ap (λ (x : List stack.Extent). e ∷ x) (all_back es)
-
 -- ---- a step
 
 -- a step that isn't a trap
@@ -113,14 +101,11 @@ IsNoTrap (Ends finish.Trapped) = ⊥
 IsNoTrap (Ends finish.Wild) = Unit {0}
 IsNoTrap (Ends finish.Deep) = Unit {0}
 
-module _ (q : TreeProgram) (e : stack.Extent) (es : List stack.Extent) (t : Trees) (m : State) where
-  stays : (s : Trees) (n : State) → steps.Stays vax q (back e) (map back es) s m n → Stays q.objects e es s m n
-  stays s n h = record {
-    frames = h.live;
-    agrees = subst (λ (x : List stack.Extent). Agrees q.objects e x s n) (all_back es) h.agrees;
-  }
+module _ (q : TreeProgram) (e : Extent) (es : List Extent) (t : Trees) (m : State) where
+  stays : (s : Trees) (n : State) → steps.Stays vax q e es s m n → Stays q.objects e es s m n
+  stays s n h = record { frames = h.live; agrees = h.agrees }
 
-  pub step_does : (c : Course) (s : Step) → IsNoTrap s → IsStep vax q (back e) (map back es) t m (course_of c) s → Does q.objects e es t m s c
+  pub step_does : (c : Course) (s : Step) → IsNoTrap s → IsStep vax q e es t m (course_of c) s → Does q.objects e es t m s c
   step_does c (GoesOn s) fair h = (h.0, course_is c [] (target.Comes h.0) (Comes h.0) h.1 (ends_comes c.ending h.0), stays s h.0 h.2)
   step_does c (Serves b s) fair h = (
     h.0,

@@ -1,5 +1,5 @@
 -- The code that is selected of a tree has the tree's effect.
-use Rattle.std.proofs.Common.{◌≡◌, ℕ, ◌+◌, ◌==◌, List, [], ◌∷◌, length, map, Option, Some, None, Bool, true, false, Ok, sym, ap, subst, arith}
+use Rattle.std.proofs.Common.{◌≡◌, ℕ, ◌+◌, ◌==◌, List, [], ◌∷◌, length, Option, Some, None, Bool, true, false, Ok, sym, ap, subst, arith}
 use Rattle.std.specs.Prelude.{nat_lt, cond, slice_get}
 use Rattle.std.specs.List.{AllByRecursion as All}
 use Rattle.gg_base.specs.Relations.{holds}
@@ -13,7 +13,7 @@ use Rattle.tree_core.specs.Trees.{IsTyped, grown}
 use Rattle.tree_core.specs.Valid.{IsValid}
 use Rattle.gg_base.specs.declared.run.Finish.TheVariants as finish
 use Rattle.tree_meaning.specs.declared.value.Meaning.TheVariants.{Of, Local, Argument, Memory}
-use Rattle.tree_meaning.specs.State.{State as Trees, sight}
+use Rattle.tree_meaning.specs.State.{State as Trees, sight, Extent}
 use Rattle.tree_meaning.specs.Deeds.{Deed, Puts, Branches, Pushes, Returns, Calls, Saves, Jumps, Traps, Strays, tree_deed}
 use Rattle.tree_meaning.specs.Steps.{Step, deed_step, put_in, strays, wrote, got, served, entered, called_as}
 use Rattle.tree_meaning.specs.Steps as steps
@@ -34,7 +34,6 @@ use Rattle.sel_parse_lines.proofs.Ending.{statements_have_code}
 use Rattle.vax_core.specs.declared.code.Instr.{Instr}
 use Rattle.vax_machine.specs.State.{State}
 use Rattle.vax_machine_lists.specs.Instructions.{exec}
-use Rattle.vax_states.specs.Stack as stack
 use Rattle.vax_states.specs.Agreeing.{Agrees}
 use Rattle.vax_target_meaning.specs.Fitting.{CanWrite}
 use Rattle.vax_target_meaning.specs.Running.{run}
@@ -45,7 +44,7 @@ use Rattle.gg_compile_law.specs.Effects.{Does, IsReady, HasEffect}
 use Rattle.gg_compile_effect.specs.Claims.{IsTreeOf, SelectedTreesHaveEffect}
 use Rattle.gg_compile_effect.proofs.Trees.{root_is}
 use Rattle.gg_compile_effect.proofs.Naming.{tree_names}
-use Rattle.gg_compile_effect.proofs.Courses.{back, all_back, traps_is, IsNoTrap, step_does}
+use Rattle.gg_compile_effect.proofs.Courses.{traps_is, IsNoTrap, step_does}
 
 -- a description whose rules are shown has effects
 pub all_taken : (classes : List Class) (registers : ℕ) (rules : List Rule) → All (IsShown vax.effect registers classes) rules
@@ -82,8 +81,8 @@ module _ (q : TreeProgram) (d : Content) (g : TreeFn) (w : List Leaf) (code : Li
   root_same : root (tree_of w) ≡ w
   root_same = root_is w typed
 
-  module _ (e : stack.Extent) (es : List stack.Extent) (t : Trees) (m : State) (agrees : Agrees q.objects e es t m) (ready : IsReady g.locals g.args most w e t m) where
-    begins : Begins vax q g.locals (back e) (map back es) t m
+  module _ (e : Extent) (es : List Extent) (t : Trees) (m : State) (agrees : Agrees q.objects e es t m) (ready : IsReady g.locals g.args most w e t m) where
+    begins : Begins vax q g.locals e es t m
     begins = record {
       program = valid;
       spelled = can;
@@ -91,30 +90,30 @@ module _ (q : TreeProgram) (d : Content) (g : TreeFn) (w : List Leaf) (code : Li
       own = (let same = ready.same_locals in omega (arith, same));
       within = agrees.running.locals;
       written = λ k n h. agrees.running.is_local k n h;
-      agrees = subst (λ (x : List stack.Extent). Agrees q.objects e x t m) (sym (all_back es)) agrees;
+      agrees = agrees;
       room = ready.room;
     }
 
     abbrev Effect : Deed → Type 0
-    Effect x = selection.HasEffect vax q (back e) (map back es) t m (run code m) x
+    Effect x = selection.HasEffect vax q e es t m (run code m) x
 
     effect : IsPossible t.area (deed q.objects (sight t) (tree_of w)) → Effect (deed q.objects (sight t) (tree_of w))
     effect possible =
-        selected_has_effect vax vax_is_lawful q d g.locals (back e) (map back es) t m (tree_of w) code most stores_go_to_places fit begins selected ready.words
+        selected_has_effect vax vax_is_lawful q d g.locals e es t m (tree_of w) code most stores_go_to_places fit begins selected ready.words
         (subst (λ (x : List Leaf). IsTyped x sort.Stmt) (sym root_same) typed)
-        (tree_names q d g (back e) (map back es) t (frame_sight vax (back e) t m) m ready.same_locals ready.arguments w typed tree.stands.1 tree.spelled ready.result ready.pushed)
+        (tree_names q d g e es t (frame_sight vax e t m) m ready.same_locals ready.arguments w typed tree.stands.1 tree.spelled ready.result ready.pushed)
         possible (λ h. subst Calm (sym root_same) tree.calm)
 
     -- a step that isn't a trap
-    goes : (s : Step) → IsNoTrap s → IsStep vax q (back e) (map back es) t m (run code m) s → Does q.objects e es t m s (exec code m)
+    goes : (s : Step) → IsNoTrap s → IsStep vax q e es t m (run code m) s → Does q.objects e es t m s (exec code m)
     goes s fair h = step_does q e es t m (exec code m) s fair h
 
-    put_does : (area : Option (List ℕ)) → (FitsArea area → IsStep vax q (back e) (map back es) t m (run code m) (put_in t area))
+    put_does : (area : Option (List ℕ)) → (FitsArea area → IsStep vax q e es t m (run code m) (put_in t area))
         → Does q.objects e es t m (put_in t area) (exec code m)
     put_does None h = tt
     put_does (Some area) h = goes (put_in t (Some area)) tt (h tt)
 
-    branch_does : (b : Bool) (label : ℕ) → IsStep vax q (back e) (map back es) t m (run code m) (cond b (steps.GoesTo label t) (steps.Goes t))
+    branch_does : (b : Bool) (label : ℕ) → IsStep vax q e es t m (run code m) (cond b (steps.GoesTo label t) (steps.Goes t))
         → Does q.objects e es t m (cond b (steps.GoesTo label t) (steps.Goes t)) (exec code m)
     branch_does true label h = goes (steps.GoesTo label t) tt h
     branch_does false label h = goes (steps.Goes t) tt h

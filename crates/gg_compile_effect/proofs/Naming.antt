@@ -18,10 +18,9 @@ use Rattle.tree_core.specs.Attributes.{is_of_kind, attribute_of, leaf_fits}
 use Rattle.tree_core.specs.Grammar.{sort_of}
 use Rattle.tree_core.specs.Trees.{IsTyped}
 use Rattle.tree_core.specs.Valid.{names, leaf_names}
-use Rattle.tree_meaning.specs.State.{State as Trees}
+use Rattle.tree_meaning.specs.State.{State as Trees, Extent}
 use Rattle.tree_meaning.specs.Values.{Sight}
 use Rattle.md_reader.specs.State.{Content}
-use Rattle.sel_target.specs.Meaning.{Extent}
 use Rattle.sel_target.specs.Spelled.{IsSpelled}
 use Rattle.sel_target.specs.Values.{address_of}
 use Rattle.sel_parse_moves.specs.Claims.{root}

@@ -29,10 +29,10 @@ use Rattle.tree_core.specs.declared.program.TreeFn.{TreeFn}
 use Rattle.tree_core.specs.declared.program.TreeProgram.{TreeProgram}
 use Rattle.tree_core.specs.Trees.{grown}
 use Rattle.tree_core.specs.Names.{label_name, function_label}
-use Rattle.tree_meaning.specs.State.{State as Trees}
+use Rattle.tree_meaning.specs.State.{State as Trees, Extent}
 use Rattle.gg_base.specs.declared.run.Finish.TheVariants as finish
 use Rattle.tree_meaning.specs.Steps.{Step, Enters, Ends, without_pushed, called_as, served, wrote, got as answered, with_pushed, with_local_set, tree_step}
-use Rattle.vax_states.specs.Stack.{Extent, word_of}
+use Rattle.vax_states.specs.Stack.{word_of}
 use Rattle.vax_machine_lists.specs.Sound.{AllBelow}
 use Rattle.vax_states.specs.Agreeing.{Agrees}
 use Rattle.vax_core.specs.Homes.{home}

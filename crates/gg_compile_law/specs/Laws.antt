@@ -6,10 +6,9 @@ use Rattle.vax_machine.specs.declared.turn.Stop.TheVariants.{Ended}
 use Rattle.vax_machine.specs.State.{State, reg}
 use Rattle.vax_machine.specs.Calls.{returned}
 use Rattle.tree_core.specs.declared.program.TreeProgram.{TreeProgram}
-use Rattle.tree_meaning.specs.State.{Activation}
+use Rattle.tree_meaning.specs.State.{Activation, Extent}
 use Rattle.tree_meaning.specs.State.{State as Trees}
 use Rattle.vax_machine_lists.specs.Runs.{Leads, Halts, Gets}
-use Rattle.vax_states.specs.Stack.{Extent}
 use Rattle.vax_states.specs.Agreeing.{Agrees}
 use Rattle.vax_frames_law.specs.Laws.{IsRoomy}
 use Rattle.gg_compile_law.specs.Programs.{Waits, Stands}

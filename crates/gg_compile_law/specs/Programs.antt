@@ -21,9 +21,8 @@ use Rattle.tree_core.specs.declared.program.Object.{Object}
 use Rattle.tree_core.specs.Area.{opening}
 use Rattle.tree_core.specs.Names.{label_name, function_label}
 use Rattle.tree_meaning.specs.Meaning.{main_of, tree_run}
-use Rattle.tree_meaning.specs.State.{Activation, behind}
+use Rattle.tree_meaning.specs.State.{Activation, behind, Extent}
 use Rattle.tree_meaning.specs.State.{State as Trees}
-use Rattle.vax_states.specs.Stack.{Extent}
 use Rattle.vax_machine_lists.specs.Sound.{AllBelow}
 use Rattle.vax_states.specs.Agreeing.{Agrees, HasResult}
 use Rattle.gg_compile_law.specs.Effects.{HasEffect}

@@ -11,7 +11,7 @@ use Rattle.tree_core.specs.declared.program.Object.{Object}
 use Rattle.tree_core.specs.declared.program.TreeProgram.{TreeProgram}
 use Rattle.tree_core.specs.Valid.{IsValid}
 use Rattle.tree_core.specs.Trees.{sort_fits}
-use Rattle.tree_meaning.specs.State.{State}
+use Rattle.tree_meaning.specs.State.{State, Extent}
 use Rattle.tree_meaning.specs.declared.value.Meaning.{Meaning as Place}
 use Rattle.tree_meaning.specs.Values.{Sight}
 use Rattle.md_reader_pieces.specs.declared.piece.Line.{Line}
@@ -36,7 +36,7 @@ use Rattle.sel_terms_trees.specs.Senses.{Sense, OfLeaf, OfNumber, OfPlace, IsPla
 use Rattle.sel_terms_trees.specs.Effects.{GivesBy, TrapsBy}
 use Rattle.sel_target.specs.declared.attr.Attr.{Attr}
 use Rattle.sel_target.specs.declared.attr.Attr.TheVariants as attr
-use Rattle.sel_target.specs.Meaning.{Meaning, Extent}
+use Rattle.sel_target.specs.Meaning.{Meaning}
 use Rattle.sel_target.specs.Values.{term_state}
 use Rattle.sel_target.specs.Courses.{traps}
 use Rattle.sel_target.specs.Laws.{IsLawful}

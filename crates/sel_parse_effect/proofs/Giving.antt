@@ -15,7 +15,7 @@ use Rattle.tree_core.specs.declared.token.Sort.TheVariants as sort
 use Rattle.tree_core.specs.declared.program.TreeProgram.{TreeProgram}
 use Rattle.tree_core.specs.Valid.{IsValid}
 use Rattle.tree_core.specs.Trees.{sort_fits}
-use Rattle.tree_meaning.specs.State.{State}
+use Rattle.tree_meaning.specs.State.{State, Extent}
 use Rattle.tree_meaning.specs.Values.{Sight}
 use Rattle.md_reader.specs.declared.types.Class.{Class}
 use Rattle.md_reader.specs.declared.types.Kind.{Kind}
@@ -35,7 +35,7 @@ use Rattle.sel_terms.specs.Reading.{effect_read, stack_from}
 use Rattle.sel_terms.specs.RuleFacts.{facts_of}
 use Rattle.sel_target.specs.declared.attr.Attr.{Attr}
 use Rattle.sel_target.specs.declared.attr.Attr.TheVariants as attr
-use Rattle.sel_target.specs.Meaning.{Meaning, Extent, RegAt}
+use Rattle.sel_target.specs.Meaning.{Meaning, RegAt}
 use Rattle.sel_target.specs.Values.{View, term_state, value}
 use Rattle.sel_target.specs.Laws.{IsLawful}
 use Rattle.sel_target.specs.Spelled.{AreSpelled}

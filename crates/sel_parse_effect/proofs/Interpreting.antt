@@ -12,7 +12,7 @@ use Rattle.tree_core.specs.declared.tree.Leaf.{Leaf}
 use Rattle.tree_core.specs.declared.program.TreeProgram.{TreeProgram}
 use Rattle.tree_core.specs.Attributes.{attribute_of, is_of_kind, leaf_fits}
 use Rattle.tree_core.specs.Valid.{IsValid}
-use Rattle.tree_meaning.specs.State.{State}
+use Rattle.tree_meaning.specs.State.{State, Extent}
 use Rattle.tree_meaning.specs.Deeds.{Deed}
 use Rattle.tree_meaning.specs.Steps.{deed_step}
 use Rattle.tree_meaning.specs.Values.{Sight}
@@ -36,7 +36,7 @@ use Rattle.sel_terms_trees.specs.Senses.{Sense, OfLeaf, piled, StandsFor}
 use Rattle.sel_terms_trees.specs.Effects.{GivesBy, DoesBy, TrapsBy}
 use Rattle.sel_target.specs.declared.attr.Attr.{Attr}
 use Rattle.sel_target.specs.declared.attr.Attr.TheVariants as attr
-use Rattle.sel_target.specs.Meaning.{Meaning, Extent}
+use Rattle.sel_target.specs.Meaning.{Meaning}
 use Rattle.sel_target.specs.Courses.{Course, Ending, Comes, comes, followed}
 use Rattle.sel_target.specs.Laws.{IsLawful}
 use Rattle.sel_target.specs.EffectTerms.{begins_with_save}

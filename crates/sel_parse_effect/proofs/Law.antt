@@ -21,7 +21,7 @@ use Rattle.tree_core.specs.Attributes.{attribute_of, is_of_kind, leaf_fits, end_
 use Rattle.tree_core.specs.Trees.{Forest, none, tree, leaves_onto, Typed, IsTyped, grown}
 use Rattle.tree_core.specs.Trees as grammar
 use Rattle.tree_core.proofs.Law.{grows_back}
-use Rattle.tree_meaning.specs.State.{State, sight}
+use Rattle.tree_meaning.specs.State.{State, sight, Extent}
 use Rattle.tree_meaning.specs.Deeds.{Deed, Puts, Branches, Pushes, Returns, Calls, Saves as SavesTo, Jumps, Traps, Strays}
 use Rattle.tree_meaning.specs.declared.value.Value.TheVariants as values
 use Rattle.tree_meaning.specs.Values.{Sight, there}
@@ -39,7 +39,7 @@ use Rattle.term_core.specs.Norm.{norm}
 use Rattle.term_core.specs.declared.facts.Fact.{Fact}
 use Rattle.sel_terms.specs.Effects.{ActShape, EffectShape, Value, Number, Address, PlaceHome, PlaceAt, StoreHome, StoreAt, Branch, Push, Call, Save, Return, Jump, norm_act, norm_effect}
 use Rattle.sel_terms.specs.RuleFacts.{saved_facts, size_of_saved}
-use Rattle.sel_target.specs.Meaning.{Meaning, Extent}
+use Rattle.sel_target.specs.Meaning.{Meaning}
 use Rattle.sel_target.specs.Values.{address_of}
 use Rattle.sel_target.specs.Laws.{IsLawful}
 use Rattle.sel_target.specs.SavingLaws.{Saves, Reloads}

@@ -5,7 +5,7 @@ use Rattle.std.specs.Prelude.{count_ones}
 use Rattle.tree_core.specs.declared.program.TreeProgram.{TreeProgram}
 use Rattle.tree_core.specs.declared.token.Sort.TheVariants as sort
 use Rattle.tree_core.specs.Valid.{IsValid}
-use Rattle.tree_meaning.specs.State.{State}
+use Rattle.tree_meaning.specs.State.{State, Extent}
 use Rattle.tree_meaning.specs.Values.{Sight}
 use Rattle.md_reader.specs.declared.types.Kind.{Kind}
 use Rattle.md_reader.specs.declared.types.Kind.TheVariants as kind
@@ -24,7 +24,7 @@ use Rattle.sel_terms_trees.specs.Senses.{Sense, OfNumber, piled, StandsFor}
 use Rattle.sel_terms_trees.specs.Effects.{GivesBy, TrapsBy}
 use Rattle.sel_target.specs.declared.attr.Attr.{Attr}
 use Rattle.sel_target.specs.declared.attr.Attr.TheVariants as attr
-use Rattle.sel_target.specs.Meaning.{Meaning, Extent, RegAt}
+use Rattle.sel_target.specs.Meaning.{Meaning, RegAt}
 use Rattle.sel_target.specs.Courses.{Course, comes, traps, followed}
 use Rattle.sel_target.specs.Laws.{IsLawful}
 use Rattle.sel_target.specs.Instances.{IsResult, lines_of}

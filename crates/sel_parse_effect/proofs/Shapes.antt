@@ -13,7 +13,7 @@ use Rattle.tree_core.specs.declared.tree.Att.TheVariants as att
 use Rattle.tree_core.specs.declared.program.TreeProgram.{TreeProgram}
 use Rattle.tree_core.specs.Attributes.{attribute_of, is_of_kind}
 use Rattle.tree_core.specs.Valid.{IsValid}
-use Rattle.tree_meaning.specs.State.{State}
+use Rattle.tree_meaning.specs.State.{State, Extent}
 use Rattle.tree_meaning.specs.declared.value.Meaning.{Meaning as Place}
 use Rattle.tree_meaning.specs.declared.value.Meaning.TheVariants as meaning
 use Rattle.tree_meaning.specs.Values.{Sight, read}
@@ -44,7 +44,7 @@ use Rattle.sel_terms_trees.specs.Senses.{Sense, OfNumber, OfPlace, IsPlace, unkn
 use Rattle.sel_terms_trees.specs.Effects.{Gives, GivesBy}
 use Rattle.sel_target.specs.declared.attr.Attr.{Attr}
 use Rattle.sel_target.specs.declared.attr.Attr.TheVariants as attr
-use Rattle.sel_target.specs.Meaning.{Meaning, Extent}
+use Rattle.sel_target.specs.Meaning.{Meaning}
 use Rattle.sel_target.specs.Values.{term_state, value, worth}
 use Rattle.sel_target.specs.Laws.{IsLawful}
 use Rattle.sel_target.specs.Instances.{hole}

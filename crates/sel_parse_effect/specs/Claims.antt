@@ -8,14 +8,14 @@ use Rattle.tree_core.specs.declared.program.TreeProgram.{TreeProgram}
 use Rattle.tree_core.specs.Trees.{IsTyped}
 use Rattle.tree_core.specs.Calm.{Calm}
 use Rattle.tree_core.specs.Valid as trees
-use Rattle.tree_meaning.specs.State.{State, sight}
+use Rattle.tree_meaning.specs.State.{State, sight, Extent}
 use Rattle.tree_meaning.specs.Deeds.{Deed, Traps}
 use Rattle.tree_meaning.specs.Steps.{deed_step}
 use Rattle.tree_meaning.specs.Values.{Sight}
 use Rattle.md_reader.specs.State.{Content}
 use Rattle.md_reader.specs.Valid as descriptions
 use Rattle.sel_target.specs.Courses.{Course, traps}
-use Rattle.sel_target.specs.Meaning.{Meaning, Extent}
+use Rattle.sel_target.specs.Meaning.{Meaning}
 use Rattle.sel_target.specs.StatementLaws.{IsStep}
 use Rattle.sel_parse.specs.Shown.{AreShown, AreLinesShown, saved_kinds}
 use Rattle.sel_parse_moves.specs.Claims.{root, deed}

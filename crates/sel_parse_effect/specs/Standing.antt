@@ -2,7 +2,7 @@
 use Rattle.std.specs.Prelude.{◌≡◌, ℕ, ◌≤◌, List, [], ◌∷◌, Some, None}
 use Rattle.tree_core.specs.declared.program.TreeProgram.{TreeProgram}
 use Rattle.tree_meaning.specs.Deeds.{Deed}
-use Rattle.tree_meaning.specs.State.{State}
+use Rattle.tree_meaning.specs.State.{State, Extent}
 use Rattle.tree_meaning.specs.Steps.{deed_step}
 use Rattle.tree_meaning.specs.Values.{Sight}
 use Rattle.md_reader.specs.declared.types.Sym.{Sym}
@@ -10,7 +10,7 @@ use Rattle.md_reader.specs.declared.types.Sym.TheVariants as grammar_symbol
 use Rattle.md_reader.specs.State.{Content}
 use Rattle.sel_terms_trees.specs.Senses.{Sense}
 use Rattle.sel_target.specs.Courses.{comes, traps}
-use Rattle.sel_target.specs.Meaning.{Meaning, Extent}
+use Rattle.sel_target.specs.Meaning.{Meaning}
 use Rattle.sel_target.specs.StatementLaws.{IsStep}
 use Rattle.sel_parse_selected.specs.Desk.{Stack}
 use Rattle.sel_parse_selected.specs.Selected.{Kept}

@@ -12,7 +12,7 @@ use Rattle.tree_core.specs.declared.tree.Leaf.{Leaf}
 use Rattle.tree_core.specs.declared.program.TreeProgram.{TreeProgram}
 use Rattle.tree_core.specs.Attributes.{leaf_fits, end_leaf}
 use Rattle.tree_core.specs.Trees.{leaves_onto}
-use Rattle.tree_meaning.specs.State.{State}
+use Rattle.tree_meaning.specs.State.{State, Extent}
 use Rattle.md_reader.specs.declared.types.Rule.{Rule}
 use Rattle.md_reader.specs.declared.types.Sym.TheVariants as grammar_symbol
 use Rattle.md_reader.specs.State.{Content}
@@ -24,7 +24,7 @@ use Rattle.sel_regs.specs.Need.{need}
 use Rattle.sel_terms.specs.Effects.{EffectShape}
 use Rattle.sel_terms_trees.specs.Senses.{OfLeaf}
 use Rattle.sel_target.specs.declared.attr.Attr.TheVariants as attr
-use Rattle.sel_target.specs.Meaning.{Meaning, Extent}
+use Rattle.sel_target.specs.Meaning.{Meaning}
 use Rattle.sel_target.specs.Laws.{IsLawful}
 use Rattle.sel_parse.specs.Shown.{IsShown}
 use Rattle.sel_parse_moves.specs.Claims.{root}

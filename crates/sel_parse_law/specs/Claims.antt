@@ -7,13 +7,13 @@ use Rattle.tree_core.specs.declared.program.TreeProgram.{TreeProgram}
 use Rattle.tree_core.specs.Trees.{IsTyped}
 use Rattle.tree_core.specs.Calm.{Calm}
 use Rattle.tree_core_forks.specs.Forks.{forks}
-use Rattle.tree_meaning.specs.State.{State, sight}
+use Rattle.tree_meaning.specs.State.{State, sight, Extent}
 use Rattle.tree_meaning.specs.Deeds.{Traps}
 use Rattle.md_reader.specs.State.{Content}
 use Rattle.lr_tables.specs.View.{TableView}
 use Rattle.lr_tables.specs.Promises.{IsNumbered}
 use Rattle.lr_checked.specs.Accepted.{NeverStops}
-use Rattle.sel_target.specs.Meaning.{Meaning, Extent}
+use Rattle.sel_target.specs.Meaning.{Meaning}
 use Rattle.sel_parse_moves.specs.Claims.{root, deed}
 use Rattle.sel_parse_moves.specs.Possible.{IsPossible}
 use Rattle.sel_parse_stands.specs.Stands.{Names}

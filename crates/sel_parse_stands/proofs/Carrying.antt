@@ -8,14 +8,14 @@ use Rattle.tree_core.specs.declared.token.Tok.{Tok}
 use Rattle.tree_core.specs.declared.tree.Att.{Att}
 use Rattle.tree_core.specs.declared.tree.Att.TheVariants as att
 use Rattle.tree_core.specs.declared.program.TreeProgram.{TreeProgram}
-use Rattle.tree_meaning.specs.State.{State}
+use Rattle.tree_meaning.specs.State.{State, Extent}
 use Rattle.tree_meaning.specs.declared.value.Meaning.{Meaning as Place}
 use Rattle.md_reader.specs.declared.types.Sym.{Sym}
 use Rattle.md_reader.specs.State.{Content}
 use Rattle.sel_terms.specs.RuleFacts.{size_of_symbol, size_of_some}
 use Rattle.sel_target.specs.declared.attr.Attr.{Attr}
 use Rattle.sel_target.specs.declared.attr.Attr.TheVariants as attr
-use Rattle.sel_target.specs.Meaning.{Meaning, Extent, Spot, touches}
+use Rattle.sel_target.specs.Meaning.{Meaning, Spot, touches}
 use Rattle.sel_target.specs.Values.{PlaceIs, local, argument, memory, read_of, worth, token_worth, token_operand, own_operand}
 use Rattle.sel_target.specs.Instances.{some_touches, attr_touches, IsWhole}
 use Rattle.sel_target.specs.Outcomes.{Keeps}

@@ -9,7 +9,7 @@ use Rattle.std.proofs.lemmas.Bool.{not-true, cases_eq}
 use Rattle.gg_base.proofs.Facts.{first_true, second_true, true_or_false, slice_set_other, slice_set_same}
 use Rattle.gg_base.specs.declared.size.Size.TheVariants.{Long}
 use Rattle.tree_core.specs.declared.program.TreeProgram.{TreeProgram}
-use Rattle.tree_meaning.specs.State.{State}
+use Rattle.tree_meaning.specs.State.{State, Extent}
 use Rattle.tree_meaning.specs.Values.{Sight}
 use Rattle.md_reader.specs.declared.types.Kind.{Kind}
 use Rattle.md_reader.specs.declared.types.Sym.{Sym}
@@ -20,7 +20,7 @@ use Rattle.sel_terms.specs.RuleFacts.{size_of_kind, size_of_symbol}
 use Rattle.sel_terms_trees.specs.Senses.{Sense, OfNumber}
 use Rattle.sel_target.specs.declared.attr.Attr.{Attr}
 use Rattle.sel_target.specs.declared.attr.Attr.TheVariants as attr
-use Rattle.sel_target.specs.Meaning.{Meaning, Extent, Spot, RegAt, WordAt, IsFree}
+use Rattle.sel_target.specs.Meaning.{Meaning, Spot, RegAt, WordAt, IsFree}
 use Rattle.sel_target.specs.Courses.{comes}
 use Rattle.sel_target.specs.Laws.{IsLawful}
 use Rattle.sel_target.specs.Outcomes.{Keeps}

@@ -8,7 +8,7 @@ use Rattle.gg_base.proofs.Words.{low_long}
 use Rattle.tree_core.specs.declared.program.TreeProgram.{TreeProgram}
 use Rattle.tree_core.specs.Valid.{IsValid}
 use Rattle.tree_core.specs.Area.{fetched}
-use Rattle.tree_meaning.specs.State.{State}
+use Rattle.tree_meaning.specs.State.{State, Extent}
 use Rattle.tree_meaning.specs.declared.value.Value.TheVariants as values
 use Rattle.tree_meaning.specs.Values.{Sight, read}
 use Rattle.md_reader.specs.declared.types.Kind.{Kind}
@@ -20,7 +20,7 @@ use Rattle.sel_terms.specs.Effects.{EffectShape}
 use Rattle.sel_terms.specs.RuleFacts.{size_of_some, size_at}
 use Rattle.sel_terms.proofs.Facts.{size_behind}
 use Rattle.sel_target.specs.declared.attr.Attr.{Attr}
-use Rattle.sel_target.specs.Meaning.{Meaning, Extent}
+use Rattle.sel_target.specs.Meaning.{Meaning}
 use Rattle.sel_target.specs.Values.{View, term_state, IsReadWhere, worth, own_operand}
 use Rattle.sel_target.specs.Laws.{IsLawful}
 use Rattle.sel_target.specs.Spelled.{AreSpelled}

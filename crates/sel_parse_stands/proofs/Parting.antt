@@ -5,11 +5,11 @@ use Rattle.std.proofs.lemmas.List.{reverse-reverse, length-reverse}
 use Rattle.std.proofs.lemmas.Grind.{reverse_onto}
 use Rattle.std.proofs.Math.Seq.{take-append_seam, drop-append_seam}
 use Rattle.tree_core.specs.declared.program.TreeProgram.{TreeProgram}
-use Rattle.tree_meaning.specs.State.{State}
+use Rattle.tree_meaning.specs.State.{State, Extent}
 use Rattle.tree_meaning.specs.Values.{Sight}
 use Rattle.md_reader.specs.declared.types.Sym.{Sym}
 use Rattle.md_reader.specs.State.{Content}
-use Rattle.sel_target.specs.Meaning.{Meaning, Extent}
+use Rattle.sel_target.specs.Meaning.{Meaning}
 use Rattle.sel_terms_trees.specs.Senses.{Sense, piled}
 use Rattle.sel_parse_selected.specs.Entries.{Entry}
 use Rattle.sel_parse_stands.specs.Stands.{Holds}

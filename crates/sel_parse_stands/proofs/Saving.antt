@@ -17,7 +17,7 @@ use Rattle.tree_core.specs.declared.tree.Leaf.{Leaf}
 use Rattle.tree_core.specs.declared.program.TreeProgram.{TreeProgram}
 use Rattle.tree_core.proofs.Windows.{some_of}
 use Rattle.tree_meaning.specs.declared.value.Meaning.TheVariants as meaning
-use Rattle.tree_meaning.specs.State.{State}
+use Rattle.tree_meaning.specs.State.{State, Extent}
 use Rattle.tree_meaning.specs.declared.value.Meaning.{Meaning as Place}
 use Rattle.tree_meaning.specs.Values.{Sight}
 use Rattle.md_reader_pieces.specs.declared.piece.Line.{Line}
@@ -35,7 +35,7 @@ use Rattle.sel_terms.specs.Effects.{Value}
 use Rattle.sel_terms.specs.RuleFacts.{saved_facts, size_of_saved, size_of_kind, size_of_symbol}
 use Rattle.sel_target.specs.declared.attr.Attr.{Attr}
 use Rattle.sel_target.specs.declared.attr.Attr.TheVariants as attr
-use Rattle.sel_target.specs.Meaning.{Meaning, Extent, Spot, RegAt, WordAt, touches}
+use Rattle.sel_target.specs.Meaning.{Meaning, Spot, RegAt, WordAt, touches}
 use Rattle.sel_target.specs.Values.{View, term_state, value, IsRead}
 use Rattle.sel_target.specs.Values.{worth, token_operand, own_operand, PlaceIs, local, argument, memory}
 use Rattle.sel_target.specs.Instances.{some_touches, attr_touches, IsWhole}

@@ -1,7 +1,7 @@
 -- What is true of an entry that goes to a slot, and of one that comes back.
 use Rattle.std.specs.Prelude.{◌≡◌, ℕ, ◌≤◌, ◌<◌, List, [], ◌∷◌, Option, Some, true}
 use Rattle.tree_core.specs.declared.program.TreeProgram.{TreeProgram}
-use Rattle.tree_meaning.specs.State.{State}
+use Rattle.tree_meaning.specs.State.{State, Extent}
 use Rattle.tree_meaning.specs.Values.{Sight}
 use Rattle.md_reader.specs.declared.types.Kind.{Kind}
 use Rattle.md_reader.specs.declared.types.Kind.TheVariants as kind
@@ -11,7 +11,7 @@ use Rattle.sel_terms_trees.specs.Senses.{Sense, OfNumber}
 use Rattle.sel_target.specs.declared.attr.Attr.{Attr}
 use Rattle.sel_target.specs.declared.attr.Attr.TheVariants as attr
 use Rattle.sel_target.specs.Courses.{comes}
-use Rattle.sel_target.specs.Meaning.{Meaning, Extent, Spot, RegAt, WordAt}
+use Rattle.sel_target.specs.Meaning.{Meaning, Spot, RegAt, WordAt}
 use Rattle.sel_target.specs.Outcomes.{Keeps}
 use Rattle.sel_target.specs.SavingLaws.{saving, reloading}
 use Rattle.sel_target.specs.Symbols.{saving_line, reload_line}

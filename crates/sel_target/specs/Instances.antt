@@ -10,6 +10,7 @@ use Rattle.tree_core.specs.declared.tree.Att.TheVariants as att
 use Rattle.tree_core.specs.declared.program.TreeProgram.{TreeProgram}
 use Rattle.tree_core.specs.Attributes.{leaf_fits}
 use Rattle.tree_core.specs.Valid.{IsValid}
+use Rattle.tree_meaning.specs.State.{Extent}
 use Rattle.md_reader_pieces.specs.declared.piece.Line.{Line}
 use Rattle.md_reader.specs.declared.types.Kind.{Kind}
 use Rattle.md_reader.specs.declared.types.Kind.TheVariants as kind
@@ -25,7 +26,7 @@ use Rattle.sel_terms.specs.Effects.{EffectShape}
 use Rattle.sel_terms.specs.RuleFacts.{size_at}
 use Rattle.sel_target.specs.declared.attr.Attr.{Attr}
 use Rattle.sel_target.specs.declared.attr.Attr.TheVariants as attr
-use Rattle.sel_target.specs.Meaning.{Meaning, Extent, Spot, RegAt, touches}
+use Rattle.sel_target.specs.Meaning.{Meaning, Spot, RegAt, touches}
 use Rattle.sel_target.specs.Values.{View, IsReadWhere, worth, own_operand, token_operand}
 use Rattle.sel_target.specs.EffectTerms.{terms_of, DividesByNone, begins_with_save}
 

@@ -3,7 +3,7 @@ use Rattle.std.specs.Prelude.{ℕ, ◌==◌, ◌≤◌, ◌<◌, List, Option, S
 use Rattle.std.specs.Int.{bit_at}
 use Rattle.gg_base.specs.declared.size.Size.{Size}
 use Rattle.tree_core.specs.declared.program.TreeProgram.{TreeProgram}
-use Rattle.tree_meaning.specs.State.{State}
+use Rattle.tree_meaning.specs.State.{State, Extent}
 use Rattle.md_reader_pieces.specs.declared.piece.Line.{Line}
 use Rattle.md_reader.specs.declared.types.Kind.{Kind}
 use Rattle.md_reader.specs.declared.types.Class.{Class}
@@ -12,11 +12,6 @@ use Rattle.sel_terms.specs.Effects.{EffectShape}
 use Rattle.sel_target.specs.declared.attr.Attr.{Attr}
 use Rattle.sel_target.specs.declared.fault.TemplateKind.{TemplateKind}
 use Rattle.sel_target.specs.Courses.{Course}
-
--- How many words a live call's frame has. The first of them are the function's locals; the others may be used freely.
-pub record Extent : Type 0 where
-  pub locals : ℕ
-  pub words : ℕ
 
 -- what selected code writes: a register, or a word of the frame
 pub data Spot : Type 0 where

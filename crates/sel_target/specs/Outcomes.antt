@@ -3,10 +3,10 @@ use Rattle.std.specs.Prelude.{◌≡◌, ℕ, List, [], ◌∷◌, Some, false}
 use Rattle.std.specs.List.{AllByRecursion}
 use Rattle.gg_base.specs.declared.size.Size.{Size}
 use Rattle.tree_core.specs.declared.program.TreeProgram.{TreeProgram}
-use Rattle.tree_meaning.specs.State.{State}
+use Rattle.tree_meaning.specs.State.{State, Extent}
 use Rattle.sel_target.specs.declared.attr.Attr.{Attr}
 use Rattle.sel_target.specs.Courses.{comes}
-use Rattle.sel_target.specs.Meaning.{Meaning, Extent, Spot, IsFree, touches}
+use Rattle.sel_target.specs.Meaning.{Meaning, Spot, IsFree, touches}
 use Rattle.sel_target.specs.Values.{worth}
 
 module _ {O I S F : Type 0} (of : Meaning O I S F) where

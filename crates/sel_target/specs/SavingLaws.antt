@@ -4,6 +4,7 @@ use Rattle.gg_base.specs.declared.size.Size.{Size}
 use Rattle.gg_base.specs.declared.size.Size.TheVariants.{Long}
 use Rattle.gg_base.specs.Sizes.{bytes_of, low}
 use Rattle.tree_core.specs.declared.program.TreeProgram.{TreeProgram}
+use Rattle.tree_meaning.specs.State.{Extent}
 use Rattle.md_reader_pieces.specs.declared.piece.Line.{Line}
 use Rattle.md_reader.specs.declared.types.Kind.{Kind}
 use Rattle.md_reader.specs.declared.types.Kind.TheVariants as kind
@@ -15,7 +16,7 @@ use Rattle.sel_terms.specs.RuleFacts.{saved_facts, size_of_saved}
 use Rattle.sel_terms_meaning.specs.Alike.{IsNarrowEffect}
 use Rattle.sel_target.specs.declared.attr.Attr.{Attr}
 use Rattle.sel_target.specs.declared.attr.Attr.TheVariants as attr
-use Rattle.sel_target.specs.Meaning.{Meaning, Extent, RegAt, WordAt, IsFree}
+use Rattle.sel_target.specs.Meaning.{Meaning, RegAt, WordAt, IsFree}
 use Rattle.sel_target.specs.Values.{View, value, IsRead, worth}
 use Rattle.sel_target.specs.Outcomes.{Sets, SetsName}
 

@@ -7,7 +7,7 @@ use Rattle.tree_core.specs.declared.tree.Att.TheVariants as att
 use Rattle.tree_core.specs.declared.program.TreeProgram.{TreeProgram}
 use Rattle.tree_core.specs.Valid.{args_of, takes}
 use Rattle.tree_core.specs.Names.{label_name, function_label}
-use Rattle.tree_meaning.specs.State.{State}
+use Rattle.tree_meaning.specs.State.{State, Extent}
 use Rattle.tree_meaning.specs.declared.value.Meaning.{Meaning as Place}
 use Rattle.tree_meaning.specs.declared.value.Meaning.TheVariants as meaning
 use Rattle.tree_meaning.specs.Deeds.{Deed, Puts, Branches, Pushes, Returns as Leaves, Calls as Enters, Saves, Jumps}
@@ -20,7 +20,7 @@ use Rattle.sel_terms.specs.Effects.{ActShape, EffectShape, StoreHome, StoreAt, B
 use Rattle.sel_target.specs.declared.attr.Attr.{Attr}
 use Rattle.sel_target.specs.declared.attr.Attr.TheVariants as attr
 use Rattle.sel_target.specs.Courses.{Course, Comes, Goes, Calls, Returns, ends, comes}
-use Rattle.sel_target.specs.Meaning.{Meaning, Extent}
+use Rattle.sel_target.specs.Meaning.{Meaning}
 use Rattle.sel_target.specs.Values.{View, value, own_operand, PlaceIs}
 use Rattle.sel_target.specs.EffectTerms.{IsSignedBy}
 use Rattle.sel_target.specs.Instances.{hole, lines_of, Ready}

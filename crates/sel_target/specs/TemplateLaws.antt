@@ -4,6 +4,7 @@ use Rattle.std.specs.List.{AllByRecursion}
 use Rattle.gg_base.specs.declared.size.Size.{Size}
 use Rattle.gg_base.specs.declared.size.Size.TheVariants.{Long}
 use Rattle.tree_core.specs.declared.program.TreeProgram.{TreeProgram}
+use Rattle.tree_meaning.specs.State.{Extent}
 use Rattle.md_reader_pieces.specs.declared.piece.Line.{Line}
 use Rattle.md_reader_pieces.specs.declared.piece.Piece.TheVariants as piece
 use Rattle.md_reader.specs.declared.types.Kind.TheVariants as kind
@@ -18,7 +19,7 @@ use Rattle.sel_terms_meaning.specs.Alike.{IsNarrowEffect}
 use Rattle.sel_target.specs.declared.attr.Attr.{Attr}
 use Rattle.sel_target.specs.declared.attr.Attr.TheVariants as attr
 use Rattle.sel_target.specs.Courses.{comes, traps, followed}
-use Rattle.sel_target.specs.Meaning.{Meaning, Extent, RegAt}
+use Rattle.sel_target.specs.Meaning.{Meaning, RegAt}
 use Rattle.sel_target.specs.Values.{View, value, worth, own_operand}
 use Rattle.sel_target.specs.Spelled.{AreSpelled}
 use Rattle.sel_target.specs.Instances.{hole, Fit, IsResult, lines_of, Instance, Ready}

@@ -12,7 +12,7 @@ use Rattle.tree_core.specs.declared.tree.Att.{Att}
 use Rattle.tree_core.specs.declared.tree.Att.TheVariants as att
 use Rattle.tree_core.specs.declared.program.Object.{Object}
 use Rattle.tree_core.specs.declared.program.TreeProgram.{TreeProgram}
-use Rattle.tree_meaning.specs.State.{State}
+use Rattle.tree_meaning.specs.State.{State, Extent}
 use Rattle.tree_meaning.specs.declared.value.Meaning.TheVariants as meaning
 use Rattle.tree_meaning.specs.declared.value.Meaning.{Meaning as Place}
 use Rattle.term_core.specs.Shape.{Shape}
@@ -20,7 +20,7 @@ use Rattle.term_core.specs.Value as term
 use Rattle.term_core_accesses.specs.Accesses.{Safe}
 use Rattle.sel_target.specs.declared.attr.Attr.{Attr}
 use Rattle.sel_target.specs.declared.attr.Attr.TheVariants as attr
-use Rattle.sel_target.specs.Meaning.{Meaning, Extent}
+use Rattle.sel_target.specs.Meaning.{Meaning}
 
 -- the numbers of a rule's symbols, as far as they have one, and a tree state
 pub record View : Type 0 where

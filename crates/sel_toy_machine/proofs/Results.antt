@@ -10,6 +10,7 @@ use Rattle.gg_base.specs.Arithmetic.{add32, div32}
 use Rattle.gg_base.proofs.Words.{some_quotient}
 use Rattle.gg_base.proofs.Facts.{head_same, nil_cons}
 use Rattle.tree_core.specs.declared.program.TreeProgram.{TreeProgram}
+use Rattle.tree_meaning.specs.State.{Extent}
 use Rattle.md_reader_pieces.specs.declared.piece.Line.{Line}
 use Rattle.md_reader.specs.declared.types.Kind.{Kind}
 use Rattle.md_reader.specs.declared.types.Kind.TheVariants as kind
@@ -27,7 +28,7 @@ use Rattle.sel_terms_meaning.specs.Alike.{IsNarrowEffect}
 use Rattle.sel_target.specs.declared.attr.Attr.{Attr}
 use Rattle.sel_target.specs.declared.attr.Attr.TheVariants as attr
 use Rattle.sel_target.specs.Courses.{comes, traps, followed}
-use Rattle.sel_target.specs.Meaning.{Extent, RegAt}
+use Rattle.sel_target.specs.Meaning.{RegAt}
 use Rattle.sel_target.specs.Values.{View, term_state, value}
 use Rattle.sel_target.specs.EffectTerms.{DividesByNone}
 use Rattle.sel_target.specs.Instances.{IsResult, lines_of, Instance, Ready}

@@ -14,6 +14,7 @@ use Rattle.tree_core.specs.declared.tree.Att.TheVariants as att
 use Rattle.tree_core.specs.declared.program.TreeProgram.{TreeProgram}
 use Rattle.tree_core.specs.Area.{fetched}
 use Rattle.tree_core.specs.Attributes.{attribute_of, is_of_kind}
+use Rattle.tree_meaning.specs.State.{Extent}
 use Rattle.md_reader_pieces.specs.declared.piece.Line.{Line}
 use Rattle.md_reader.specs.declared.types.Kind.{Kind}
 use Rattle.md_reader.specs.declared.types.Kind.TheVariants as kind
@@ -31,7 +32,6 @@ use Rattle.sel_terms.specs.RuleFacts.{size_of_some, size_at}
 use Rattle.sel_terms.proofs.Facts.{same_Value, size_behind}
 use Rattle.sel_target.specs.declared.attr.Attr.{Attr}
 use Rattle.sel_target.specs.declared.attr.Attr.TheVariants as attr
-use Rattle.sel_target.specs.Meaning.{Extent}
 use Rattle.sel_target.specs.Values.{View, value, worth, own_operand}
 use Rattle.sel_target.specs.Instances.{hole, KindFits, SymFits, Fit, Instance}
 use Rattle.sel_target.specs.TemplateLaws.{GivesShapes}

@@ -17,7 +17,7 @@ use Rattle.tree_core.specs.declared.program.TreeProgram.{TreeProgram}
 use Rattle.tree_core.specs.Area.{is_inside, stored}
 use Rattle.tree_core.specs.Valid.{args_of, args_or, service_args, takes}
 use Rattle.tree_core.specs.Names.{label_name, function_label}
-use Rattle.tree_meaning.specs.State.{State}
+use Rattle.tree_meaning.specs.State.{State, Extent}
 use Rattle.gg_base.specs.declared.run.Finish.TheVariants as finish
 use Rattle.tree_meaning.specs.declared.value.Meaning.{Meaning as Place}
 use Rattle.tree_meaning.specs.declared.value.Meaning.TheVariants as meaning
@@ -35,7 +35,6 @@ use Rattle.term_core.specs.Shape.{Shape, Symbol, Memory, Binary}
 use Rattle.sel_terms.specs.Effects.{ActShape, EffectShape, Value, Number, Address, PlaceHome, PlaceAt, StoreHome, StoreAt, Branch, Push, Call, Save, Return, Jump}
 use Rattle.sel_target.specs.declared.attr.Attr.{Attr}
 use Rattle.sel_target.specs.Courses.{Course, Goes, Calls, Breaks, ends, comes, followed}
-use Rattle.sel_target.specs.Meaning.{Extent}
 use Rattle.sel_target.specs.Values.{View, value, PlaceIs, local as is_local, argument as is_argument, memory as is_memory}
 use Rattle.sel_target.specs.EffectTerms.{begins_with_save}
 use Rattle.sel_target.specs.Instances.{hole, lines_of, Ready}

@@ -7,7 +7,7 @@ use Rattle.tree_core.specs.declared.program.TreeItem.TheVariants as tree_item
 use Rattle.tree_core.specs.declared.program.TreeFn.{TreeFn}
 use Rattle.tree_core.specs.declared.program.TreeProgram.{TreeProgram}
 use Rattle.tree_core.specs.Attributes.{end_leaf}
-use Rattle.tree_meaning.specs.State.{begun}
+use Rattle.tree_meaning.specs.State.{begun, Extent}
 use Rattle.md_reader_pieces.specs.declared.piece.Piece.TheVariants as piece
 use Rattle.md_reader.specs.declared.types.Kind.TheVariants as kind
 use Rattle.md_reader.specs.declared.types.Class.{Class}
@@ -16,7 +16,7 @@ use Rattle.md_reader.specs.declared.types.Give.TheVariants as give
 use Rattle.md_reader.specs.declared.types.Rule.{Rule}
 use Rattle.sel_target.specs.declared.attr.Attr.{Attr}
 use Rattle.sel_target.specs.declared.attr.Attr.TheVariants as attr
-use Rattle.sel_target.specs.Meaning.{Extent, RegAt}
+use Rattle.sel_target.specs.Meaning.{RegAt}
 use Rattle.sel_target.specs.Values.{View}
 use Rattle.sel_target.specs.Instances.{lines_of, Ready}
 use Rattle.sel_target.specs.Outcomes.{Sets}

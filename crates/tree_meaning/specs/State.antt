@@ -18,6 +18,11 @@ pub record Activation : Type 0 where
   pub pushed : List ℕ
   pub result : ℕ
 
+-- How many words a live call's frame has. The first of them are the function's locals; the others may be used freely.
+pub record Extent : Type 0 where
+  pub locals : ℕ
+  pub words : ℕ
+
 -- the innermost call, those that wait for it, the last caller first, the data area, and the input that is left
 pub record State : Type 0 where
   pub running : Activation

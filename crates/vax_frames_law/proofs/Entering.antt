@@ -25,10 +25,10 @@ use Rattle.vax_machine.specs.Area.{label_address}
 use Rattle.vax_machine.specs.Calls.{pushed, reserved, all_reserved, entry_mask, entered, framed, called}
 use Rattle.tree_core.specs.declared.program.Object.{Object}
 use Rattle.tree_core.specs.declared.program.TreeFn.{TreeFn}
-use Rattle.tree_meaning.specs.State.{Activation, begun}
+use Rattle.tree_meaning.specs.State.{Activation, begun, Extent}
 use Rattle.tree_meaning.specs.State.{State as Trees}
 use Rattle.vax_machine_live.proofs.OwnerLaws.{front_get}
-use Rattle.vax_states.specs.Stack.{long_at, Extent, argument_of, Holds, Hold, caller, SameFrom}
+use Rattle.vax_states.specs.Stack.{long_at, argument_of, Holds, Hold, caller, SameFrom}
 use Rattle.vax_machine_lists.specs.Sound.{IsSound}
 use Rattle.vax_states.specs.Agreeing.{AreLabelled, Agrees, HasRoom}
 use Rattle.vax_frames_law.specs.Calling.{IsMask}

@@ -13,8 +13,7 @@ use Rattle.vax_machine.specs.Memory.{register_set}
 use Rattle.vax_machine.specs.Operands.{evaluated, located, taken, stored}
 use Rattle.vax_machine.specs.Functions.{valued}
 use Rattle.tree_core.specs.declared.program.Object.{Object}
-use Rattle.tree_meaning.specs.State.{State as Trees}
-use Rattle.vax_states.specs.Stack.{Extent}
+use Rattle.tree_meaning.specs.State.{State as Trees, Extent}
 use Rattle.vax_machine_lists.specs.Sound.{IsSound}
 use Rattle.vax_states.specs.Agreeing.{Agrees}
 use Rattle.vax_machine_lists.specs.Instructions.{Course, ends, comes, Returns, course_of, followed, performed, exec}

@@ -13,9 +13,9 @@ use Rattle.vax_machine.specs.Labels.{next_item, label_place}
 use Rattle.tree_core.specs.declared.program.Object.{Object}
 use Rattle.tree_core.specs.declared.program.TreeFn.{TreeFn}
 use Rattle.tree_core.specs.Names.{function_label}
-use Rattle.tree_meaning.specs.State.{Activation, begun}
+use Rattle.tree_meaning.specs.State.{Activation, begun, Extent}
 use Rattle.tree_meaning.specs.State.{State as Trees}
-use Rattle.vax_states.specs.Stack.{long_at, Extent, Hold}
+use Rattle.vax_states.specs.Stack.{long_at, Hold}
 use Rattle.vax_machine_lists.specs.Sound.{AllBelow, IsSound}
 use Rattle.vax_states.specs.Agreeing.{AreLabelled, Agrees}
 use Rattle.vax_machine_lists.specs.Instructions.{Course, exec, comes}

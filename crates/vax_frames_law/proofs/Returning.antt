@@ -18,9 +18,9 @@ use Rattle.vax_machine.specs.State.{State, reg, frame, ◌>>=◌}
 use Rattle.vax_machine.specs.Memory.{touched, read}
 use Rattle.vax_machine.specs.Calls.{restored, back_to, left, returned_from, returned, Acts}
 use Rattle.tree_core.specs.declared.program.Object.{Object}
-use Rattle.tree_meaning.specs.State.{Activation}
+use Rattle.tree_meaning.specs.State.{Activation, Extent}
 use Rattle.tree_meaning.specs.State.{State as Trees}
-use Rattle.vax_states.specs.Stack.{Extent, Holds}
+use Rattle.vax_states.specs.Stack.{Holds}
 use Rattle.vax_machine_lists.specs.Sound.{AllBelow, IsSound}
 use Rattle.vax_states.specs.Agreeing.{Agrees}
 use Rattle.vax_frames_law.specs.Laws.{ReturnsAgree, LastReturnEnds}

@@ -10,9 +10,8 @@ use Rattle.vax_machine.specs.Calls.{called, returned}
 use Rattle.tree_core.specs.declared.program.Object.{Object}
 use Rattle.tree_core.specs.declared.program.TreeFn.{TreeFn}
 use Rattle.tree_core.specs.Names.{function_label}
-use Rattle.tree_meaning.specs.State.{Activation}
+use Rattle.tree_meaning.specs.State.{Activation, Extent}
 use Rattle.tree_meaning.specs.State.{State as Trees}
-use Rattle.vax_states.specs.Stack.{Extent}
 use Rattle.vax_machine_lists.specs.Sound.{AllBelow}
 use Rattle.vax_states.specs.Agreeing.{Agrees, HasRoom}
 use Rattle.vax_machine_lists.specs.Runs.{Leads}

@@ -12,8 +12,8 @@ use Rattle.vax_core.specs.declared.register.Reg.{Reg}
 use Rattle.vax_core.specs.Registers.{reg_number}
 use Rattle.vax_machine_live.specs.declared.frame.Frame.{Frame}
 use Rattle.vax_machine.specs.State.{State, reg}
-use Rattle.tree_meaning.specs.State.{Activation, with_local}
-use Rattle.vax_states.specs.Stack.{long_at, Extent, word_of, argument_of, Holds, SameFrom}
+use Rattle.tree_meaning.specs.State.{Activation, with_local, Extent}
+use Rattle.vax_states.specs.Stack.{long_at, word_of, argument_of, Holds, SameFrom}
 use Rattle.vax_machine_lists.specs.Sound.{IsSound}
 use Rattle.vax_machine_lists.proofs.Longwords.{length-with, length-with_any, with_below, below_set, below_get}
 use Rattle.vax_states.proofs.Pieces.{stored_other, stored_there, stored_below, low_fp, fp_high, word_low, word_high, words_apart, local_word, argument_high, holds_kept}

@@ -6,8 +6,8 @@ use Rattle.vax_machine_live.specs.declared.frame.Frame.{Frame}
 use Rattle.vax_machine.specs.declared.operands.Location.TheVariants as locations
 use Rattle.vax_machine.specs.State.{reg}
 use Rattle.vax_machine.specs.Operands.{located}
-use Rattle.tree_meaning.specs.State.{Activation}
-use Rattle.vax_states.specs.Stack.{long_at, Extent, word_of, argument_of, Hold, nobody, caller}
+use Rattle.tree_meaning.specs.State.{Activation, Extent}
+use Rattle.vax_states.specs.Stack.{long_at, word_of, argument_of, Hold, nobody, caller}
 use Rattle.vax_states.specs.Sentences.{FramesStand, Live, AreStacked, frames_of, CallsStandApart, HomesAreNamed, ArgumentsAreNamed, LocalsAreRead, ArgumentsAreRead, AreasAreRead}
 use Rattle.vax_states.specs.Sentences.{FreeWordsAreFree, LocalsAreWritten, ArgumentsAreWritten, AreasAreWritten, LongwordsArePushed, RegistersAreFree}
 use Rattle.vax_states.proofs.Keeping.{reg_small}

@@ -8,8 +8,8 @@ use Rattle.gg_base.specs.LittleEndian.{with_number}
 use Rattle.gg_base.proofs.Facts.{nil_cons, head_same, tail_same}
 use Rattle.vax_machine_live.specs.declared.frame.Frame.{Frame}
 use Rattle.vax_machine_live.specs.Control.{overlaps, in_control}
-use Rattle.tree_meaning.specs.State.{Activation}
-use Rattle.vax_states.specs.Stack.{long_at, Extent, word_of, argument_of, Holds, Hold, nobody, caller, SameFrom}
+use Rattle.tree_meaning.specs.State.{Activation, Extent}
+use Rattle.vax_states.specs.Stack.{long_at, word_of, argument_of, Holds, Hold, nobody, caller, SameFrom}
 use Rattle.vax_machine_lists.proofs.Longwords.{number-with, number-above, number-below}
 use mathlib.Core.Bool.{or-false}
 

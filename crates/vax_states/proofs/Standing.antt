@@ -19,11 +19,11 @@ use Rattle.vax_machine.specs.Calls.{pushed}
 use Rattle.vax_machine.specs.Area.{label_address}
 use Rattle.tree_core.specs.declared.program.Object.{Object}
 use Rattle.tree_core.specs.Area as trees
-use Rattle.tree_meaning.specs.State.{Activation}
+use Rattle.tree_meaning.specs.State.{Activation, Extent}
 use Rattle.tree_meaning.specs.State.{State as Trees}
 use Rattle.tree_meaning.specs.Steps.{with_local_set, with_pushed}
 use Rattle.vax_states.specs.Sentences.{with_argument}
-use Rattle.vax_states.specs.Stack.{long_at, Extent, word_of, argument_of, Holds, Hold, SameFrom}
+use Rattle.vax_states.specs.Stack.{long_at, word_of, argument_of, Holds, Hold, SameFrom}
 use Rattle.vax_machine_lists.specs.Sound.{IsSound}
 use Rattle.vax_states.specs.Agreeing.{Agrees, HasRoom}
 use Rattle.vax_states.proofs.Pieces.{stored_below, low_fp, fp_high, word_low, word_high, local_word, argument_high, hold_kept, hold_end, holds_kept, words_free, arguments_free}

@@ -5,9 +5,9 @@ use Rattle.vax_machine_live.specs.declared.frame.Frame.{Frame}
 use Rattle.vax_machine.specs.State.{State, reg}
 use Rattle.vax_machine.specs.Area.{label_address}
 use Rattle.tree_core.specs.declared.program.Object.{Object}
-use Rattle.tree_meaning.specs.State.{State as Trees}
+use Rattle.tree_meaning.specs.State.{State as Trees, Extent}
 use Rattle.vax_machine_lists.specs.Sound.{IsSound}
-use Rattle.vax_states.specs.Stack.{Extent, Holds, Hold}
+use Rattle.vax_states.specs.Stack.{Holds, Hold}
 
 -- each object's label stands at the object's address
 abbrev pub AreLabelled : List Object → State → Type 0

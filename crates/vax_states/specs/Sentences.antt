@@ -15,10 +15,10 @@ use Rattle.vax_machine.specs.Operands.{located}
 use Rattle.vax_machine.specs.Calls.{pushed}
 use Rattle.tree_core.specs.declared.program.Object.{Object}
 use Rattle.tree_core.specs.Area.{fetched, stored}
-use Rattle.tree_meaning.specs.State.{Activation}
+use Rattle.tree_meaning.specs.State.{Activation, Extent}
 use Rattle.tree_meaning.specs.State.{State as Trees}
 use Rattle.tree_meaning.specs.Steps.{with_local_set, with_pushed}
-use Rattle.vax_states.specs.Stack.{long_at, Extent, word_of, argument_of, Holds}
+use Rattle.vax_states.specs.Stack.{long_at, word_of, argument_of, Holds}
 use Rattle.vax_states.specs.Agreeing.{Agrees, HasRoom}
 
 -- what is said in each state that stands for one of trees

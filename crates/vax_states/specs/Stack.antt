@@ -6,16 +6,11 @@ use Rattle.std.specs.Prelude.{◌≡◌, ℕ, ◌+◌, ◌-◌, ◌*◌, ◌%◌
 use Rattle.gg_base.specs.declared.size.Size.TheVariants.{Long}
 use Rattle.gg_base.specs.LittleEndian.{number_in}
 use Rattle.vax_machine_live.specs.declared.frame.Frame.{Frame}
-use Rattle.tree_meaning.specs.State.{Activation}
+use Rattle.tree_meaning.specs.State.{Activation, Extent}
 
 -- the longword at an address of the stack
 abbrev pub long_at : List ℕ → ℕ → ℕ
 long_at stack address = number_in Long stack (address - 2139095040)
-
--- How many words a call's frame has. The first of them are the function's locals; the others may be used freely.
-pub record Extent : Type 0 where
-  pub locals : ℕ
-  pub words : ℕ
 
 -- the address of word k of a frame, local k's home
 abbrev pub word_of : ℕ → ℕ → ℕ

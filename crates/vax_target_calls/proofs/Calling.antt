@@ -14,7 +14,7 @@ use Rattle.tree_core.specs.declared.program.TreeFn.{TreeFn}
 use Rattle.tree_core.specs.declared.program.TreeProgram.{TreeProgram}
 use Rattle.tree_core.specs.Valid.{named, service_args, args_or, takes}
 use Rattle.tree_core.specs.Names.{function_label}
-use Rattle.tree_meaning.specs.State.{State as Trees}
+use Rattle.tree_meaning.specs.State.{State as Trees, Extent}
 use Rattle.gg_base.specs.declared.run.Finish.TheVariants as finish
 use Rattle.tree_meaning.specs.Deeds.{Deed, Puts, Branches, Pushes, Returns as Leaves, Calls as Enters, Saves, Jumps, Traps, Strays}
 use Rattle.tree_meaning.specs.Steps as steps
@@ -24,7 +24,6 @@ use Rattle.md_reader.specs.declared.types.Rule.{Rule}
 use Rattle.sel_terms.specs.Effects.{EffectShape, Call}
 use Rattle.sel_target.specs.declared.attr.Attr.{Attr}
 use Rattle.sel_target.specs.declared.attr.Attr.TheVariants as attr
-use Rattle.sel_target.specs.Meaning.{Extent}
 use Rattle.sel_target.specs.Values.{View}
 use Rattle.sel_target.specs.Instances.{Ready}
 use Rattle.sel_target.specs.StatementLaws.{att_of, DoesAct}

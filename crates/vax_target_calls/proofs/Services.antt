@@ -2,7 +2,7 @@
 use Rattle.std.proofs.Common.{◌≡◌, ℕ, Bool, false, cond, List, [], ◌∷◌, Option, Some, option_to_list, Ok, refl, ap, ◌∙◌}
 use Rattle.std.specs.Str.{bytes_eq}
 use Rattle.tree_core.specs.declared.program.Object.{Object}
-use Rattle.tree_meaning.specs.State.{State as Trees}
+use Rattle.tree_meaning.specs.State.{State as Trees, Extent}
 use Rattle.vax_core.specs.declared.op.Op.TheVariants as ops
 use Rattle.vax_core.specs.declared.operand.Base.TheVariants as bases
 use Rattle.vax_core.specs.declared.code.Instr.{Instr}
@@ -13,7 +13,6 @@ use Rattle.vax_machine.specs.Labels.{getchar_name}
 use Rattle.vax_machine.specs.Calls.{Acts, putchar, getchar, got}
 use Rattle.vax_machine_lists.specs.Sound.{AllBelow}
 use Rattle.vax_machine_lists.specs.Instructions.{Comes, Calls, ends, comes, course_of, performed}
-use Rattle.vax_states.specs.Stack.{Extent}
 use Rattle.vax_states.specs.Agreeing.{Agrees}
 use Rattle.vax_states.proofs.Standing.{rebuilt}
 use Rattle.vax_templates.specs.Filled.{alone, addr_number}

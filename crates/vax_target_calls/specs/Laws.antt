@@ -1,13 +1,13 @@
 -- The laws of this crate: what the lines of a statement that calls do, and those of any statement.
 use Rattle.std.specs.Prelude.{◌≡◌, List}
 use Rattle.tree_core.specs.declared.program.TreeProgram.{TreeProgram}
+use Rattle.tree_meaning.specs.State.{Extent}
 use Rattle.tree_meaning.specs.Deeds.{Deed}
 use Rattle.tree_meaning.specs.Steps.{deed_step}
 use Rattle.md_reader.specs.declared.types.Class.{Class}
 use Rattle.md_reader.specs.declared.types.Rule.{Rule}
 use Rattle.sel_terms.specs.Effects.{EffectShape, Call}
 use Rattle.sel_target.specs.declared.attr.Attr.{Attr}
-use Rattle.sel_target.specs.Meaning.{Extent}
 use Rattle.sel_target.specs.Values.{View}
 use Rattle.sel_target.specs.Instances.{lines_of, Ready}
 use Rattle.sel_target.specs.StatementLaws.{IsStep, DoesAct, DoesStatements}

@@ -1,9 +1,9 @@
 -- What the VAX means, as a target.
-use Rattle.std.specs.Prelude.{ℕ, List, map}
+use Rattle.std.specs.Prelude.{List}
 use Rattle.tree_core.specs.declared.token.Tok.TheVariants as tok
 use Rattle.tree_core.specs.declared.program.TreeProgram.{TreeProgram}
-use Rattle.tree_meaning.specs.State.{State as Trees}
-use Rattle.sel_target.specs.Meaning.{Meaning, Extent}
+use Rattle.tree_meaning.specs.State.{State as Trees, Extent}
+use Rattle.sel_target.specs.Meaning.{Meaning}
 use Rattle.vax_core.specs.declared.register.Reg.TheVariants.{R0}
 use Rattle.vax_core.specs.declared.operand.Base.TheVariants as bases
 use Rattle.vax_core.specs.declared.operand.Operand.{Operand}
@@ -13,7 +13,6 @@ use Rattle.vax_core.specs.Registers.{operand_bits}
 use Rattle.vax_core.specs.Same.{same_operand}
 use Rattle.vax_machine_live.specs.declared.frame.Frame.{Frame}
 use Rattle.vax_machine.specs.State.{State, reg}
-use Rattle.vax_states.specs.Stack as stack
 use Rattle.vax_states.specs.Agreeing.{Agrees, HasRoom}
 use Rattle.vax_templates.specs.Filled.{alone, numbered, word_operand, slot_operand, filled_operand}
 use Rattle.vax_templates.specs.FilledLines.{filled_line}
@@ -23,11 +22,8 @@ use Rattle.vax_target_meaning.specs.Reading.{reads, names}
 use Rattle.vax_target_meaning.specs.Fitting.{fits, is_instr, CanWrite}
 use Rattle.vax_target_meaning.specs.Running.{run}
 
-abbrev pub extent_of : Extent → stack.Extent
-extent_of f = record { locals = f.locals; words = f.words }
-
 abbrev pub stands : TreeProgram → Extent → List Extent → Trees → State → Type 0
-stands q f fs t m = Agrees q.objects (extent_of f) (map extent_of fs) t m
+stands q f fs t m = Agrees q.objects f fs t m
 
 abbrev pub vax : Meaning Operand Instr State (List Frame)
 vax = record {

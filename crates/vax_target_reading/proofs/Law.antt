@@ -1,5 +1,5 @@
 -- The law, field by field.
-use Rattle.std.proofs.Common.{◌≡◌, ℕ, ◌^◌, ◌*◌, ◌<◌, Option, Some, map, refl, sym, subst}
+use Rattle.std.proofs.Common.{◌≡◌, ℕ, ◌^◌, ◌*◌, ◌<◌, Option, Some, refl, sym, subst}
 use Rattle.std.specs.Prelude.{IsSome}
 use Rattle.std.specs.List.{AllByRecursion}
 use Rattle.std.proofs.lemmas.Bool.{false_from_ne_true}
@@ -8,7 +8,6 @@ use Rattle.vax_machine_lists.proofs.Longwords.{all_bytes}
 use Rattle.gg_base.specs.Sizes.{bytes_of}
 use Rattle.gg_base.proofs.Facts.{slice_some}
 use Rattle.vax_target_meaning.specs.Reading.{is_own_place, names, reads}
-use Rattle.vax_target_meaning.specs.Vax.{extent_of}
 use Rattle.vax_target_reading.specs.Laws.{OperandsRead}
 use Rattle.vax_target_reading.proofs.Small.{below, names_below, reads_below}
 use Rattle.vax_target_reading.proofs.Places.{by_names, of_names, own_spells_none, word_is_read, local_is_read, argument_is_read, argument_is_named, word_is_named, area_is_read, area_is_read_back}
@@ -22,15 +21,15 @@ operands_read = record {
   names_small = λ q f fs t o size x m h e. below (2 ^ 32) (names o size m) x (names_below m h.sound o size) e;
   area_bytes = λ q f fs t m h. subst (λ bytes. AllByRecursion (λ b. b < 256) bytes) h.area (all_bytes m.area h.sound.area_bytes);
   memory_read = λ q f fs t o size a x m h fit named is.
-      by_names o.base o.index size a x m named (area_is_read q.objects (extent_of f) (map extent_of fs) t m h (is_own_place o) a x size is);
+      by_names o.base o.index size a x m named (area_is_read q.objects f fs t m h (is_own_place o) a x size is);
   place_read = λ q f fs t o size a x m h fit spelled named is.
-      area_is_read_back q.objects (extent_of f) (map extent_of fs) t m h (is_own_place o) a x size
+      area_is_read_back q.objects f fs t m h (is_own_place o) a x size
       (false_from_ne_true (is_own_place o) (λ own. spelled (own_spells_none o.base o.index own))) (of_names o.base o.index size a x m named is);
-  local_read = λ q f fs t k x m h low is. local_is_read q.objects (extent_of f) (map extent_of fs) t m h k x low is;
-  local_there = λ q f fs t k m h lt low. some _ _ (word_is_read q.objects (extent_of f) (map extent_of fs) t m h k low lt);
-  local_named = λ q f fs t k m h lt low. word_is_named q.objects (extent_of f) (map extent_of fs) t m h k low;
-  argument_read = λ q f fs t k x m h is. argument_is_read q.objects (extent_of f) (map extent_of fs) t m h k x (slice_get_within t.running.arguments k x is) is;
+  local_read = λ q f fs t k x m h low is. local_is_read q.objects f fs t m h k x low is;
+  local_there = λ q f fs t k m h lt low. some _ _ (word_is_read q.objects f fs t m h k low lt);
+  local_named = λ q f fs t k m h lt low. word_is_named q.objects f fs t m h k low;
+  argument_read = λ q f fs t k x m h is. argument_is_read q.objects f fs t m h k x (slice_get_within t.running.arguments k x is) is;
   argument_there = λ q f fs t k m h lt.
-      let n = slice_some t.running.arguments k lt in some _ n.0 (argument_is_read q.objects (extent_of f) (map extent_of fs) t m h k n.0 lt n.1);
-  argument_named = λ q f fs t k m h lt. argument_is_named q.objects (extent_of f) (map extent_of fs) t m h k lt;
+      let n = slice_some t.running.arguments k lt in some _ n.0 (argument_is_read q.objects f fs t m h k n.0 lt n.1);
+  argument_named = λ q f fs t k m h lt. argument_is_named q.objects f fs t m h k lt;
 }

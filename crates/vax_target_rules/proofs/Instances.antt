@@ -17,6 +17,7 @@ use Rattle.tree_core.specs.declared.tree.Att.TheVariants as att
 use Rattle.tree_core.specs.declared.program.Object.{Object}
 use Rattle.tree_core.specs.declared.program.TreeProgram.{TreeProgram}
 use Rattle.tree_core.specs.Attributes.{attribute_of, is_of_kind, leaf_fits}
+use Rattle.tree_meaning.specs.State.{Extent}
 use Rattle.md_reader.specs.declared.types.Kind.{Kind}
 use Rattle.md_reader.specs.declared.types.Kind.TheVariants as kind
 use Rattle.md_reader.specs.declared.types.Class.{Class}
@@ -32,7 +33,6 @@ use Rattle.sel_terms.specs.RuleFacts.{size_of_kind, size_of_symbol, size_of_some
 use Rattle.sel_terms.proofs.Facts.{size_behind}
 use Rattle.sel_target.specs.declared.attr.Attr.{Attr}
 use Rattle.sel_target.specs.declared.attr.Attr.TheVariants as attr
-use Rattle.sel_target.specs.Meaning.{Extent}
 use Rattle.sel_target.specs.Values.{View, address_of, own_operand, token_operand, token_worth}
 use Rattle.sel_target.specs.Values as target
 use Rattle.sel_target.specs.EffectTerms.{begins_with_save}

@@ -2,13 +2,14 @@
 use Rattle.std.specs.Prelude.{◌≡◌, ℕ, List}
 use Rattle.gg_base.specs.declared.size.Size.TheVariants.{Long}
 use Rattle.tree_core.specs.declared.program.TreeProgram.{TreeProgram}
+use Rattle.tree_meaning.specs.State.{Extent}
 use Rattle.md_reader.specs.declared.types.Class.{Class}
 use Rattle.md_reader.specs.declared.types.Rule.{Rule}
 use Rattle.term_core.specs.Shape.{Shape}
 use Rattle.sel_terms.specs.Effects.{EffectShape, Value}
 use Rattle.sel_target.specs.declared.attr.Attr.{Attr}
 use Rattle.sel_target.specs.declared.attr.Attr.TheVariants as attr
-use Rattle.sel_target.specs.Meaning.{Extent, RegAt}
+use Rattle.sel_target.specs.Meaning.{RegAt}
 use Rattle.sel_target.specs.Values.{View, value}
 use Rattle.sel_target.specs.Instances.{lines_of, Ready}
 use Rattle.sel_target.specs.Outcomes.{Sets}

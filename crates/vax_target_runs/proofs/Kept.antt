@@ -9,8 +9,8 @@ use Rattle.gg_base.specs.declared.size.Size.TheVariants.{Long}
 use Rattle.gg_base.specs.Sizes.{bytes_of, low}
 use Rattle.gg_base.specs.Arithmetic.{add32, mul32}
 use Rattle.tree_core.specs.declared.program.TreeProgram.{TreeProgram}
-use Rattle.tree_meaning.specs.State.{State as Trees}
-use Rattle.sel_target.specs.Meaning.{Extent, Spot, RegAt}
+use Rattle.tree_meaning.specs.State.{State as Trees, Extent}
+use Rattle.sel_target.specs.Meaning.{Spot, RegAt}
 use Rattle.sel_target.specs.Outcomes.{Untouched, Keeps}
 use Rattle.vax_core.specs.declared.register.Reg.{Reg}
 use Rattle.vax_core.specs.declared.register.Reg.TheVariants.{Fp, Ap, Sp}

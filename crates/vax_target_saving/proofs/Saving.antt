@@ -1,17 +1,18 @@
 -- The law of lines that save.
-use Rattle.std.proofs.Common.{◌≡◌, ℕ, ◌+◌, ◌*◌, ◌<◌, Option, Some, None, List, map, refl, ap, ◌∙◌, option_map}
+use Rattle.std.proofs.Common.{◌≡◌, ℕ, ◌+◌, ◌*◌, ◌<◌, Option, Some, None, List, refl, ap, ◌∙◌, option_map}
 use Rattle.std.specs.Prelude.{is_some}
 use Rattle.gg_base.specs.declared.size.Size.{Size}
 use Rattle.gg_base.specs.declared.size.Size.TheVariants.{Long}
 use Rattle.gg_base.specs.Arithmetic.{add32, neg32}
 use Rattle.gg_base.specs.Sizes.{low}
 use Rattle.tree_core.specs.declared.program.TreeProgram.{TreeProgram}
+use Rattle.tree_meaning.specs.State.{Extent}
 use Rattle.md_reader.specs.declared.types.Kind.TheVariants as kind
 use Rattle.term_core.specs.Shape.{Shape}
 use Rattle.term_core.proofs.Values.{small}
 use Rattle.sel_target.specs.declared.attr.Attr.{Attr}
 use Rattle.sel_target.specs.declared.attr.Attr.TheVariants as attr
-use Rattle.sel_target.specs.Meaning.{Extent, WordAt}
+use Rattle.sel_target.specs.Meaning.{WordAt}
 use Rattle.sel_target.specs.Values.{View, value, term_state}
 use Rattle.sel_target.specs.Outcomes.{Sets, SetsName}
 use Rattle.sel_target.specs.SavingLaws.{IsSet, IsSlot, saving}
@@ -23,7 +24,7 @@ use Rattle.vax_machine.specs.State.{State, reg}
 use Rattle.vax_machine.specs.Memory.{read}
 use Rattle.vax_states.specs.Stack.{word_of}
 use Rattle.vax_target_meaning.specs.Reading.{number_of, number_at, named, moved, names}
-use Rattle.vax_target_meaning.specs.Vax.{vax, extent_of}
+use Rattle.vax_target_meaning.specs.Vax.{vax}
 use Rattle.vax_target_spelling.proofs.Own.{home_word}
 use Rattle.vax_target_saving.specs.Laws.{with_word, LinesSave}
 use Rattle.vax_target_saving.proofs.Words.{IsFrameWord, frame_word, read_there}
@@ -45,7 +46,7 @@ deferred_names m w size lt e =
 
 module _ (q : TreeProgram) (f : Extent) (fs : List Extent) (v : View) (n : ℕ) (t : Shape) (m : State) (set : IsSet vax q f fs v n t m) (w : ℕ) (slot : IsSlot vax f w) where
   frame : IsFrameWord m w
-  frame = frame_word q.objects (extent_of f) (map extent_of fs) v.state m set.agrees w slot.free.1
+  frame = frame_word q.objects f fs v.state m set.agrees w slot.free.1
 
   sets : (size : Size) (l : Line) (a : Attr Operand) → Stored q l a w size (value v t) m →
       Sets vax (saving vax q l a w) (WordAt w) q size (attr.Value (vax.slot w)) (low size (value v t)) m

@@ -1,5 +1,5 @@
 -- The law of stored numbers.
-use Rattle.std.proofs.Common.{◌≡◌, ℕ, ◌+◌, ◌*◌, ◌<◌, Option, map, refl, ap, ◌∙◌, arith}
+use Rattle.std.proofs.Common.{◌≡◌, ℕ, ◌+◌, ◌*◌, ◌<◌, Option, refl, ap, ◌∙◌, arith}
 use Rattle.std.specs.Prelude.{is_some}
 use Rattle.gg_base.specs.declared.size.Size.{Size}
 use Rattle.gg_base.specs.Arithmetic.{add32, neg32}
@@ -9,7 +9,6 @@ use Rattle.vax_machine.specs.State.{State, reg}
 use Rattle.vax_machine.specs.Memory.{read}
 use Rattle.vax_states.specs.Stack.{word_of}
 use Rattle.vax_target_meaning.specs.Reading.{number_of, number_at, reads}
-use Rattle.vax_target_meaning.specs.Vax.{extent_of}
 use Rattle.vax_target_spelling.proofs.Own.{home_word}
 use Rattle.vax_target_saving.specs.Laws.{with_word, FreeWordsStore}
 use Rattle.vax_target_saving.proofs.Words.{IsFrameWord, frame_word, is_written, read_there, names_kept, reads_kept, agrees_kept, room_kept}
@@ -26,14 +25,14 @@ slot_reads m w size lt e =
 
 pub free_words_store : FreeWordsStore
 free_words_store q f fs t m w size x k h free small =
-    let g = frame_word q.objects (extent_of f) (map extent_of fs) t m h w free.1 in
+    let g = frame_word q.objects f fs t m h w free.1 in
     record {
       stores = is_written m w g size x;
       reads = λ lt. slot_reads (with_word m w size x k) w size lt (slot_address m w g) ∙ ap number_of (read_there m w g size x k small);
       keeps = record {
         reads = λ o y n apart e. reads_kept m w g size x k o y apart.0 ∙ e;
         names = λ o y n apart e. names_kept m w g size x k o y apart.0 ∙ e;
-        agrees = λ q' f' fs' t' free' h'. agrees_kept q'.objects (extent_of f') (map extent_of fs') t' m h' w size x k free'.0.0 free'.0.1;
+        agrees = λ q' f' fs' t' free' h'. agrees_kept q'.objects f' fs' t' m h' w size x k free'.0.0 free'.0.1;
         room = λ r. room_kept m w size x k r;
         live = refl;
       };

@@ -12,7 +12,7 @@ use Rattle.gg_base.specs.Sizes.{bytes_of, low}
 use Rattle.gg_base.specs.LittleEndian.{with_number}
 use Rattle.tree_core.specs.declared.program.Object.{Object}
 use Rattle.tree_core.specs.Area.{fetched}
-use Rattle.tree_meaning.specs.State.{State as Trees}
+use Rattle.tree_meaning.specs.State.{State as Trees, Extent}
 use Rattle.sel_target.specs.Meaning.{is_word}
 use Rattle.vax_core.specs.declared.register.Reg.{Reg}
 use Rattle.vax_core.specs.declared.register.Reg.TheVariants.{Ap, Fp, Sp}
@@ -31,7 +31,7 @@ use Rattle.vax_machine.specs.Area.{resolved_of}
 use Rattle.vax_machine.specs.Memory.{touched, number_at, with_number_at, read, written}
 use Rattle.vax_machine_lists.specs.Sound.{AllBelow}
 use Rattle.vax_machine_lists.proofs.Soundness.{conditions_sound}
-use Rattle.vax_states.specs.Stack.{Extent, word_of}
+use Rattle.vax_states.specs.Stack.{word_of}
 use Rattle.vax_states.specs.Agreeing.{Agrees, HasRoom}
 use Rattle.vax_states.proofs.Pieces.{word_low, word_high, words_free}
 use Rattle.vax_states.proofs.Standing.{high_top, fp_high_is, word_written}

@@ -5,12 +5,12 @@ use Rattle.gg_base.specs.declared.size.Size.TheVariants.{Long}
 use Rattle.gg_base.specs.Sizes.{bytes_of, low}
 use Rattle.gg_base.specs.LittleEndian.{with_number}
 use Rattle.tree_core.specs.declared.program.TreeProgram.{TreeProgram}
-use Rattle.tree_meaning.specs.State.{State as Trees}
+use Rattle.tree_meaning.specs.State.{State as Trees, Extent}
 use Rattle.md_reader_pieces.specs.declared.piece.Line.{Line}
 use Rattle.md_reader.specs.declared.types.Kind.TheVariants as kind
 use Rattle.sel_target.specs.declared.attr.Attr.{Attr}
 use Rattle.sel_target.specs.declared.attr.Attr.TheVariants as attr
-use Rattle.sel_target.specs.Meaning.{Extent, RegAt, WordAt, IsFree}
+use Rattle.sel_target.specs.Meaning.{RegAt, WordAt, IsFree}
 use Rattle.sel_target.specs.Values.{View, value, worth}
 use Rattle.sel_target.specs.Outcomes.{Keeps, Sets, SetsName}
 use Rattle.sel_target.specs.SavingLaws.{Saves, Reloads, IsValue, IsSet, IsSlot, saving, reloading, SavesAndReloads}

@@ -12,6 +12,7 @@ use Rattle.tree_core.specs.declared.tree.Att.{Att}
 use Rattle.tree_core.specs.declared.tree.Att.TheVariants as att
 use Rattle.tree_core.specs.declared.tree.Leaf.{Leaf}
 use Rattle.tree_core.specs.Names.{label_name}
+use Rattle.tree_meaning.specs.State.{Extent}
 use Rattle.tree_meaning.specs.Steps as steps
 use Rattle.tree_meaning.specs.Steps.{Step, deed_step}
 use Rattle.tree_meaning.specs.Deeds.{Branches, Jumps}
@@ -26,7 +27,6 @@ use Rattle.term_core.specs.Shape.{Shape}
 use Rattle.sel_terms.specs.Effects.{EffectShape}
 use Rattle.sel_target.specs.declared.attr.Attr.{Attr}
 use Rattle.sel_target.specs.declared.attr.Attr.TheVariants as attr
-use Rattle.sel_target.specs.Meaning.{Extent}
 use Rattle.sel_target.specs.Values.{View, value}
 use Rattle.sel_target.specs.EffectTerms.{IsSignedBy}
 use Rattle.sel_target.specs.Instances.{hole, Ready}

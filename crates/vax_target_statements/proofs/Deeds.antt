@@ -4,7 +4,7 @@ use Rattle.gg_base.specs.declared.size.Size.{Size}
 use Rattle.gg_base.specs.declared.size.Size.TheVariants.{Long}
 use Rattle.tree_core.specs.declared.program.TreeProgram.{TreeProgram}
 use Rattle.tree_core.specs.Area.{stored}
-use Rattle.tree_meaning.specs.State.{State as Trees}
+use Rattle.tree_meaning.specs.State.{State as Trees, Extent}
 use Rattle.tree_meaning.specs.Steps as steps
 use Rattle.tree_meaning.specs.Steps.{Step, deed_step, put_in, with_argument_set}
 use Rattle.tree_meaning.specs.Deeds.{Puts as PutsDeed, Pushes, Returns as Leaves}
@@ -16,7 +16,6 @@ use Rattle.term_core.specs.Shape.{Shape}
 use Rattle.term_core.proofs.Values.{small}
 use Rattle.sel_terms.specs.Effects.{ActShape, EffectShape}
 use Rattle.sel_target.specs.declared.attr.Attr.{Attr}
-use Rattle.sel_target.specs.Meaning.{Extent}
 use Rattle.sel_target.specs.Values.{View, term_state, value}
 use Rattle.sel_target.specs.Instances.{hole, Ready}
 use Rattle.sel_target.specs.StatementLaws.{IsStep}

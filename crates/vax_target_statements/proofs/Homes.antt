@@ -11,6 +11,7 @@ use Rattle.gg_base.specs.LittleEndian.{with_number}
 use Rattle.tree_core.specs.declared.program.TreeProgram.{TreeProgram}
 use Rattle.tree_core.specs.declared.token.Tok.TheVariants as tok
 use Rattle.tree_core.specs.Area.{stored}
+use Rattle.tree_meaning.specs.State.{Extent}
 use Rattle.tree_meaning.specs.Steps as steps
 use Rattle.tree_meaning.specs.Steps.{Step, deed_step}
 use Rattle.tree_meaning.specs.Deeds.{Puts as PutsDeed}
@@ -25,7 +26,7 @@ use Rattle.term_core.proofs.Values.{small}
 use Rattle.sel_terms.specs.Effects.{EffectShape}
 use Rattle.sel_target.specs.declared.attr.Attr.{Attr}
 use Rattle.sel_target.specs.declared.attr.Attr.TheVariants as attr
-use Rattle.sel_target.specs.Meaning.{Extent, Spot, RegAt, touches}
+use Rattle.sel_target.specs.Meaning.{Spot, RegAt, touches}
 use Rattle.sel_target.specs.Values.{View, term_state, value, own_operand, PlaceIs, local as is_local, argument as is_argument, memory as is_memory}
 use Rattle.sel_target.specs.Instances.{hole, some_touches, attr_touches, IsResult, Ready}
 use Rattle.sel_target.specs.StatementLaws.{HomeIs}

@@ -12,6 +12,7 @@ use Rattle.tree_core.specs.declared.token.Tok.{Tok}
 use Rattle.tree_core.specs.declared.token.Tok.TheVariants as tok
 use Rattle.tree_core.specs.declared.tree.Att.TheVariants as att
 use Rattle.tree_core.specs.declared.tree.Leaf.{Leaf}
+use Rattle.tree_meaning.specs.State.{Extent}
 use Rattle.tree_meaning.specs.Steps as steps
 use Rattle.tree_meaning.specs.Steps.{Step, deed_step}
 use Rattle.tree_meaning.specs.Deeds.{Saves}
@@ -24,7 +25,6 @@ use Rattle.term_core.specs.Shape.{LastResult}
 use Rattle.sel_terms.specs.Effects.{ActShape, EffectShape, Save}
 use Rattle.sel_target.specs.declared.attr.Attr.{Attr}
 use Rattle.sel_target.specs.declared.attr.Attr.TheVariants as attr
-use Rattle.sel_target.specs.Meaning.{Extent}
 use Rattle.sel_target.specs.Values.{View, term_state}
 use Rattle.term_core.proofs.Values.{small}
 use Rattle.sel_target.specs.EffectTerms.{begins_with_save}
