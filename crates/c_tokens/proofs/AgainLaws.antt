@@ -7,7 +7,7 @@ use Rattle.std.proofs.lemmas.Bool.{eqb-true, eq-eqb, ne_eqb, le-leb, lt-leb}
 use Rattle.std.proofs.lemmas.Bool.Decides.{nat_tests}
 use Rattle.std.proofs.lemmas.List.{drop-drop, append-nil}
 use Rattle.std.proofs.Math.Seq.{drop-append_seam, take-append_seam, drop-append-add}
-use Rattle.gg_base.specs.Fronts.{run_len}
+use Rattle.gg_base.specs.Fronts.{run_len, in_line}
 use Rattle.c_tokens.specs.declared.pieces.Piece.{Piece}
 use Rattle.c_tokens.specs.declared.marks.Mark.{Mark}
 use Rattle.c_tokens.specs.declared.marks.Mark.TheVariants as marks
@@ -16,7 +16,7 @@ use Rattle.c_tokens.specs.declared.token.Token.TheVariants as token
 use Rattle.c_tokens.specs.declared.token.TokenFault.TheVariants.{At}
 use Rattle.c_tokens.specs.declared.token.TokenKind.{TokenKind}
 use Rattle.c_tokens.specs.declared.token.TokenKind.TheVariants.{BadByte, BadNumber, LongName, BadChar, Unclosed}
-use Rattle.c_tokens.specs.Letters.{is_blank, is_letter, is_digit, in_word, in_line}
+use Rattle.c_tokens.specs.Letters.{is_blank, is_letter, is_digit, in_word}
 use Rattle.c_tokens.specs.Marks.{mark_text, mark_of}
 use Rattle.c_tokens.specs.Numbers.{number_of}
 use Rattle.c_tokens.specs.Pieces.{wrong, word_piece, number_piece, sign_copied, character_end, string_from, string_token, comment_len, mark_piece, slash_piece, piece_of}

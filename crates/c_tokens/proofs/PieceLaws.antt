@@ -6,7 +6,7 @@ use Rattle.std.specs.Option.{option_map}
 use Rattle.std.proofs.lemmas.Bool.{eqb-true, eqb-false, eq-eqb, leb-true, leb-false}
 use Rattle.std.proofs.lemmas.Option.{none-some}
 use Rattle.std.proofs.lemmas.List.{drop-drop}
-use Rattle.gg_base.specs.Fronts.{run_len}
+use Rattle.gg_base.specs.Fronts.{run_len, in_line}
 use Rattle.c_tokens.specs.declared.pieces.Piece.{Piece}
 use Rattle.c_tokens.specs.declared.marks.Mark.{Mark}
 use Rattle.c_tokens.specs.declared.words.Key.{Key}
@@ -15,7 +15,7 @@ use Rattle.c_tokens.specs.declared.token.TokenFault.{TokenFault}
 use Rattle.c_tokens.specs.declared.token.TokenFault.TheVariants.{NoMemory, At}
 use Rattle.c_tokens.specs.declared.token.TokenKind.{TokenKind}
 use Rattle.c_tokens.specs.declared.token.TokenKind.TheVariants.{BadByte, BadNumber, LongName, BadChar, Unclosed}
-use Rattle.c_tokens.specs.Letters.{is_blank, is_letter, is_digit, in_word, in_line}
+use Rattle.c_tokens.specs.Letters.{is_blank, is_letter, is_digit, in_word}
 use Rattle.c_tokens.specs.Words.{key_of}
 use Rattle.c_tokens.specs.Marks.{mark_text, mark_of}
 use Rattle.c_tokens.specs.Numbers.{number_of}

@@ -1,12 +1,13 @@
 -- The grammar of tokens over whole texts: which piece stands at the front of a text, and which tokens a text has.
 use Rattle.std.specs.Prelude.{◌≡◌, ◌≢◌, ◌⊎◌, ◌<◌, ◌≤◌, ℕ, ◌+◌, ◌*◌, Bool, true, false, List, [], ◌∷◌, ◌++◌, length, Option, Some, None}
 use Rattle.std.specs.List.{AllByRecursion}
+use Rattle.gg_base.specs.Fronts.{in_line}
 use Rattle.c_tokens.specs.declared.marks.Mark.{Mark}
 use Rattle.c_tokens.specs.declared.words.Key.{Key}
 use Rattle.c_tokens.specs.declared.token.Token.{Token}
 use Rattle.c_tokens.specs.declared.token.Token.TheVariants as token
 use Rattle.c_tokens.specs.declared.token.Spanned.{Spanned}
-use Rattle.c_tokens.specs.Letters.{is_blank, is_letter, is_digit, in_word, in_line, digit_value, is_digit_of}
+use Rattle.c_tokens.specs.Letters.{is_blank, is_letter, is_digit, in_word, digit_value, is_digit_of}
 use Rattle.c_tokens.specs.Words.{key_text}
 use Rattle.c_tokens.specs.Marks.{mark_text}
 use Rattle.c_tokens.specs.Escapes.{named_escape}

@@ -1,5 +1,5 @@
 -- Classes of bytes.
-use Rattle.std.specs.Prelude.{ℕ, ◌-◌, Bool, true, false, ◌==◌, ◌||◌, ◌&&◌, nat_le, nat_lt, if◌then◌else◌}
+use Rattle.std.specs.Prelude.{ℕ, ◌-◌, Bool, ◌==◌, ◌||◌, ◌&&◌, nat_le, nat_lt, if◌then◌else◌}
 
 abbrev pub is_between : ℕ → ℕ → ℕ → Bool
 is_between low high b = nat_le low b && nat_le b high
@@ -25,7 +25,3 @@ digit_value b = if is_digit b then b - 48 else if is_between 65 70 b then b - 55
 
 abbrev pub is_digit_of : (base : ℕ) → ℕ → Bool
 is_digit_of base b = nat_lt (digit_value b) base
-
--- any byte but LF
-abbrev pub in_line : ℕ → Bool
-in_line b = if b == 10 then false else true

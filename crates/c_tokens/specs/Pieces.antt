@@ -2,7 +2,7 @@
 use Rattle.std.specs.Prelude.{ℕ, zero, suc, pred, ◌+◌, Bool, false, ◌==◌, ◌&&◌, nat_le, nat_lt, List, [], ◌∷◌, length, take}
 use Rattle.std.specs.Prelude.{drop, Option, Some, None, Result, Ok, Err, if◌then◌else◌}
 use Rattle.std.specs.Option.{option_map}
-use Rattle.gg_base.specs.Fronts.{run_len}
+use Rattle.gg_base.specs.Fronts.{run_len, in_line}
 use Rattle.c_tokens.specs.declared.pieces.Piece.{Piece}
 use Rattle.c_tokens.specs.declared.marks.Mark.{Mark}
 use Rattle.c_tokens.specs.declared.words.Key.{Key}
@@ -12,7 +12,7 @@ use Rattle.c_tokens.specs.declared.token.TokenFault.{TokenFault}
 use Rattle.c_tokens.specs.declared.token.TokenFault.TheVariants.{At}
 use Rattle.c_tokens.specs.declared.token.TokenKind.{TokenKind}
 use Rattle.c_tokens.specs.declared.token.TokenKind.TheVariants.{BadByte, BadNumber, LongName, BadEscape, BadChar, Unclosed}
-use Rattle.c_tokens.specs.Letters.{is_blank, is_letter, is_digit, in_word, in_line}
+use Rattle.c_tokens.specs.Letters.{is_blank, is_letter, is_digit, in_word}
 use Rattle.c_tokens.specs.Words.{key_of}
 use Rattle.c_tokens.specs.Marks.{mark_of, mark_text}
 use Rattle.c_tokens.specs.Numbers.{number_of}

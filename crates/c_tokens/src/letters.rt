@@ -1,7 +1,7 @@
 // Classes of bytes, and how long a run of one class is.
 ghost use Rattle.std.specs.Prelude.{◌≡◌, ◌≤◌, length};
 ghost use Rattle.gg_base.specs.Fronts.{run_len};
-ghost use Rattle.c_tokens.specs.Letters.{is_blank, is_letter, is_digit, in_word, digit_value, is_digit_of, in_line};
+ghost use Rattle.c_tokens.specs.Letters.{is_blank, is_letter, is_digit, in_word, digit_value, is_digit_of};
 
 /// Whether the byte parts tokens: a space, TAB, LF, CR or FF.
 pub fn is_blank(byte: u8) -> bool
@@ -50,16 +50,6 @@ pub fn word_len(text: &[u8]) -> usize
 {
     text.iter()
         .position(|byte| !in_word(*byte))
-        .unwrap_or(text.len())
-}
-
-/// How many bytes stand in front of the line's end.
-pub fn line_len(text: &[u8]) -> usize
-    ensures len { result ≡ run_len in_line text.now }
-    ensures bound { result ≤ length text.now }
-{
-    text.iter()
-        .position(|byte| *byte == b'\n')
         .unwrap_or(text.len())
 }
 

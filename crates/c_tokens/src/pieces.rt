@@ -5,11 +5,12 @@ ghost use Rattle.c_tokens.specs.Pieces.{comment_len, string_from, string_token, 
 ghost use Rattle.c_tokens.specs.Reading.{Gives};
 
 use crate::escapes::element_of;
-use crate::letters::{is_blank, is_digit, is_letter, line_len, word_len};
+use crate::letters::{is_blank, is_digit, is_letter, word_len};
 use crate::marks::mark_of;
 use crate::numbers::number_of;
 use crate::token::{Token, TokenFault, TokenKind};
 use crate::words::key_of;
+use gg_base::fronts::line_len;
 use gg_base::limits::SOURCE_NAME_LIMIT;
 use gg_base::{Bytes, Name};
 use std::alloc::Global;

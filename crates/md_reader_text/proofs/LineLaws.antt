@@ -1,19 +1,20 @@
 -- The first line is cut off exactly as it stands.
 use Rattle.std.proofs.Common.{Bor, ◌≡◌, ℕ, Bool, true, false, eqb, List, [], ◌∷◌, take, drop, Option, Some, None, refl, sym, ap, ◌∙◌}
 use Rattle.std.specs.Option.{option_map}
+use Rattle.gg_base.specs.Fronts.{run_len, in_line}
 use Rattle.md_reader_text.specs.Lists.{put_front, list_of}
-use Rattle.md_reader_text.specs.Lines.{lines, line_len, behind_first, cut_line}
+use Rattle.md_reader_text.specs.Lines.{lines, cut_line}
 
 -- the first line of a text that is not empty is what stands in front of the first line feed
-lines_front : (b : ℕ) (bs : List ℕ) → lines (b ∷ bs) ≡ take (line_len (b ∷ bs)) (b ∷ bs) ∷ lines (behind_first (drop (line_len (b ∷ bs)) (b ∷ bs)))
+lines_front : (b : ℕ) (bs : List ℕ) → lines (b ∷ bs) ≡ take (run_len in_line (b ∷ bs)) (b ∷ bs) ∷ lines (drop 1 (drop (run_len in_line (b ∷ bs)) (b ∷ bs)))
 lines_front b bs = at (eqb b 10) b bs refl (inner bs)
   where
-    at : (t : Bool) (b : ℕ) (bs : List ℕ) → eqb b 10 ≡ t → ((x : ℕ) → put_front x (lines bs) ≡ (x ∷ take (line_len bs) bs) ∷ lines (behind_first (drop (line_len bs) bs))) → lines (b ∷ bs)
-        ≡ take (line_len (b ∷ bs)) (b ∷ bs) ∷ lines (behind_first (drop (line_len (b ∷ bs)) (b ∷ bs)))
+    at : (t : Bool) (b : ℕ) (bs : List ℕ) → eqb b 10 ≡ t → ((x : ℕ) → put_front x (lines bs) ≡ (x ∷ take (run_len in_line bs) bs) ∷ lines (drop 1 (drop (run_len in_line bs) bs))) → lines (b ∷ bs)
+        ≡ take (run_len in_line (b ∷ bs)) (b ∷ bs) ∷ lines (drop 1 (drop (run_len in_line (b ∷ bs)) (b ∷ bs)))
     at true b bs e h = rw e refl
     at false b bs e h = rw e (h b)
 
-    inner : (bs : List ℕ) (x : ℕ) → put_front x (lines bs) ≡ (x ∷ take (line_len bs) bs) ∷ lines (behind_first (drop (line_len bs) bs))
+    inner : (bs : List ℕ) (x : ℕ) → put_front x (lines bs) ≡ (x ∷ take (run_len in_line bs) bs) ∷ lines (drop 1 (drop (run_len in_line bs) bs))
     inner [] x = refl
     inner (b ∷ bs) x = rw (at (eqb b 10) b bs refl (inner bs)) refl
 

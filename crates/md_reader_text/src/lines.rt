@@ -1,17 +1,10 @@
 // The lines of a text.
-ghost use Rattle.std.specs.Prelude.{◌≡◌, ◌≤◌, ◌<◌, length, IfSome};
+ghost use Rattle.std.specs.Prelude.{◌≡◌, ◌<◌, length, IfSome};
 ghost use Rattle.std.specs.Option.{option_map};
 ghost use Rattle.md_reader_text.specs.Lists.{list_of};
-ghost use Rattle.md_reader_text.specs.Lines.{lines, line_len, cut_line};
+ghost use Rattle.md_reader_text.specs.Lines.{lines, cut_line};
 
-fn line_len(text: &[u8]) -> usize
-    ensures len { result ≡ line_len text.now }
-    ensures bound { result ≤ length text.now }
-{
-    text.iter()
-        .position(|byte| *byte == b'\n')
-        .unwrap_or(text.len())
-}
+use gg_base::fronts::line_len;
 
 fn cut_line(text: &[u8]) -> Option<(&[u8], &[u8])>
     ensures shorter { IfSome result (λ x. length x.1.now < length text.now) }

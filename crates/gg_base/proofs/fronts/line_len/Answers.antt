@@ -3,9 +3,9 @@ use Rattle.std.specs.Prelude.{unwrap_or}
 use Rattle.std.proofs.lemmas.Iterator.{YieldsList-from_slice}
 use Rattle.std.proofs.lemmas.Iterator.Search.{position_from_yields_List}
 use borrow.Author.Tests.{tests}
-use Rattle.c_tokens.specs.Letters.{in_line}
+use Rattle.gg_base.specs.Fronts.{in_line}
 use Rattle.gg_base.proofs.FrontLaws.{run_found}
-use Rattle.c_tokens.proofs.letters.line_len.Goals as goal
+use Rattle.gg_base.proofs.fronts.line_len.Goals as goal
 
 pub returns-clause-len : goal.returns-clause-len
 returns-clause-len c =
