@@ -64,10 +64,7 @@ impl Pruned {
     fn number(&self, old: u32) -> u32
         ensures { result ≡ slice_index_or self.now.numbers old 0 }
     {
-        match self.numbers.get(old as usize) {
-            Some(number) => *number,
-            None => 0,
-        }
+        self.numbers.get(old as usize).copied().unwrap_or(0)
     }
 
     fn renumbered(&self, alloc: Global, kids: &[u32]) -> Result<Vec<u32>, NoMemory>
