@@ -3,6 +3,7 @@ ghost use Rattle.std.specs.Prelude.{◌≡◌, ◌++◌, ◌+◌, [], ◌∷◌,
 ghost use Rattle.lr_check_sets.specs.Table.{automaton_of};
 ghost use Rattle.lr_check_found.specs.Adding.{list_number};
 ghost use Rattle.lr_check_found.specs.Sound.{IsFound};
+ghost use Rattle.lr_check_nodes.specs.Growing.{AreWhole};
 ghost use Rattle.lr_check_drawn.specs.Drawing.{kids_in, choices_behind, one_kid, two_kids, kids_again, held, IsNext};
 ghost use Rattle.lr_check_drawn.specs.Drawing.{AreDrawn, IsAsked};
 ghost use Rattle.lr_check_found.specs.declared.places.Place.{Place};
@@ -173,6 +174,7 @@ impl Drawing {
 
     /// The nodes, by the numbers of the settlings, for more to be added.
     pub fn into_growing(self) -> Growing
+        requires { AreWhole self.nodes }
         ensures { result ≡ self.nodes }
     {
         let Drawing { nodes, .. } = self;

@@ -6,7 +6,7 @@ ghost use Rattle.lr_check_found.specs.declared.places.Place.{Place};
 ghost use Rattle.lr_check_found.specs.declared.places.Origin.{Origin};
 ghost use Rattle.lr_check_found.specs.Found.{IsPlaceAt};
 ghost use Rattle.lr_check_samples.specs.Fixed.{IsOrigin};
-ghost use Rattle.lr_check_nodes.specs.Growing.{AreWhole, HasLast};
+ghost use Rattle.lr_check_nodes.specs.Growing.{HasLast};
 ghost use Rattle.lr_check_drawn.specs.Rising.{AreBegun, HaveNodes, StandsAt, FitsFirst, HasFirst, AfterParent, HasRisen};
 
 use gg_base::{NoMemory, number_of};
@@ -59,8 +59,7 @@ struct Standing {
 }
 
 fn add_over(growing: &mut Growing, alloc: Global, token: Tok, kid: u32) -> Result<u32, NoMemory>
-    requires whole { AreWhole growing.old }
-    requires fit { KidsFit growing.old (kid ∷ []) (kids token) }
+    requires { KidsFit growing.old (kid ∷ []) (kids token) }
     ensures { IfOk result (λ n. HasLast growing.old growing.new token (kid ∷ []) [] n) }
 {
     growing.add(alloc, token, &[kid], &[])
@@ -73,8 +72,7 @@ fn add_over_both(
     first: u32,
     second: u32,
 ) -> Result<u32, NoMemory>
-    requires whole { AreWhole growing.old }
-    requires fit { KidsFit growing.old (first ∷ second ∷ []) (kids token) }
+    requires { KidsFit growing.old (first ∷ second ∷ []) (kids token) }
     ensures { IfOk result (λ n. HasLast growing.old growing.new token (first ∷ second ∷ []) [] n) }
 {
     growing.add(alloc, token, &[first, second], &[])
@@ -88,8 +86,7 @@ fn add_over_first(
     behind: Tok,
     kid: u32,
 ) -> Result<u32, NoMemory>
-    requires whole { AreWhole growing.old }
-    requires fit { FitsFirst growing.old token behind kid }
+    requires { FitsFirst growing.old token behind kid }
     ensures { IfOk result (λ n. HasFirst growing.old growing.new token behind kid n) }
 {
     if has_two(token) {
@@ -107,7 +104,6 @@ fn add_parent(
     found: &Found,
     kid: Standing,
 ) -> Result<Option<Standing>, NoMemory>
-    requires whole { AreWhole growing.old }
     requires begun { AreBegun found.now }
     requires settled { HaveNodes found.now growing.old }
     requires stands { StandsAt found.now growing.old kid.place kid.node }
@@ -138,12 +134,12 @@ pub(crate) fn rise(
     place: usize,
     top: u32,
 ) -> Result<(), NoMemory>
-    requires whole { AreWhole growing.old }
     requires begun { AreBegun found.now }
     requires settled { HaveNodes found.now growing.old }
     requires stands { StandsAt found.now growing.old place top }
     ensures { IfOk result (λ _. HasRisen found.now growing.old growing.new place top) }
 {
+    growing.is_whole();
     let mut standing = Standing { place, node: top };
     'above: loop {
         let next = add_parent(growing, alloc, found, standing)?;

@@ -8,7 +8,6 @@ ghost use Rattle.lr_check_found.specs.Found.{IsSettlingAt, SettlesAt};
 ghost use Rattle.lr_check_found.specs.Sound.{IsFound};
 ghost use Rattle.lr_check_flaws.specs.Flaws.{IsGapAt, IsDeadAt, IsCircleAt, IsFlaw};
 ghost use Rattle.lr_check.specs.Questions.{answers_of};
-ghost use Rattle.lr_check_nodes.specs.Growing.{AreWhole};
 ghost use Rattle.lr_check_drawn.specs.Drawing.{kids_in};
 ghost use Rattle.lr_check_drawn.specs.Rising.{AreBegun, HaveNodes};
 ghost use Rattle.lr_check_drawn.specs.Sampled.{AreSettled, HasPlaceOf, HasAbove, HasRound, IsBlockingSample, IsLoopingSample, IsSampleOf};
@@ -82,12 +81,12 @@ fn add_above(
     settling: usize,
     answers: &[bool],
 ) -> Result<(), NoMemory>
-    requires whole { AreWhole growing.old }
     requires begun { AreBegun found.now }
     requires settled { HaveNodes found.now growing.old }
     requires there { HasPlaceOf found.now settling }
     ensures { IfOk result (λ _. HasAbove found.now growing.old growing.new settling answers.now) }
 {
+    growing.is_whole();
     let place = place_of(found, settling);
     let kids = kids_of(growing, alloc, settling)?;
     let top = growing.add(alloc, token_of(found, place), &kids, answers)?;

@@ -101,12 +101,6 @@ pub tree_of_last : {a b : List Node} {k : Tok} {ks : List ℕ} {own : List Bool}
 tree_of_last {b = b} {k = k} {ks = ks} {own = own} {n = n} x fits h = record { grows = h.grows; whole = h.whole; fits = last_fits b n k ks own x h.node fits }
 
 module _ {E : Type 0} where
-  -- what a node that is pushed is
-  pub last_if : (r : Result ℕ E) (nodes new : List Node) (k : Tok) (ks : List ℕ) (own : List Bool) → AreWhole nodes → KidsFit nodes ks (kids k) →
-      IfOk r (λ n. new ≡ nodes ++ record { tok = k; kids = ks; answers = own } ∷ []) → IfOk r (λ n. n ≡ length nodes) → IfOk r (λ n. HasLast nodes new k ks own n)
-  last_if (Ok n) nodes new k ks own w fit e at = last_more nodes new k ks own n w fit e at
-  last_if (Err x) nodes new k ks own w fit e at = tt
-
   pub tree_if : (r : Result ℕ E) (a b c : List Node) (k : Tok) (ks : List ℕ) (own : List Bool) (x : Sort) → Grows a b → sort_fits (sort_of k) x ≡ true →
       IfOk r (λ n. HasLast b c k ks own n) → IfOk r (λ n. HasTreeOf a c x n)
   tree_if (Ok n) a b c k ks own x g fits h = tree_of_last x fits (last_over g h)

@@ -1,5 +1,5 @@
 // A sample's nodes, as they are made.
-ghost use Rattle.std.specs.Prelude.{◌≡◌, ◌++◌, [], ◌∷◌, IfOk, length};
+ghost use Rattle.std.specs.Prelude.{◌≡◌, [], IfOk};
 ghost use Rattle.tree_core.specs.Grammar.{kids};
 ghost use Rattle.lr_check.specs.Statement.{KidsFit};
 ghost use Rattle.lr_check_nodes.specs.Growing.{AreWhole, HasLast, HasTreeOf, HaveKids, HasTreeFrom, smallest};
@@ -19,10 +19,13 @@ pub struct Growing {
 impl Model for Growing {
     ghost use Rattle.std.specs.Prelude.{List};
     ghost use Rattle.lr_check.specs.Tree.{Node};
+    ghost use Rattle.lr_check_nodes.specs.Growing.{AreWhole};
 
     ghost Value = { List Node };
 
     ghost view = { λ g. g.nodes.items };
+
+    ghost invariant = { λ g. AreWhole g.nodes.items };
 }
 
 // The token of a smallest tree for the sort: it has no kid, or one that is long.
@@ -43,6 +46,7 @@ fn smallest(sort: Sort) -> Tok
 impl Growing {
     /// These nodes so far.
     pub fn from_nodes(nodes: Vec<SampleNode>) -> Self
+        requires { AreWhole nodes.items }
         ensures { result ≡ nodes.items }
     {
         Growing { nodes }
@@ -55,23 +59,11 @@ impl Growing {
         &self.nodes
     }
 
-    fn push(
-        &mut self,
-        alloc: Global,
-        token: Tok,
-        numbers: &[u32],
-        answers: &[bool],
-    ) -> Result<u32, NoMemory>
-        ensures pushed { IfOk result (λ n. self.new ≡ self.old ++ record { tok = token; kids = numbers.now; answers = answers.now } ∷ []) }
-        ensures number { IfOk result (λ n. n ≡ length self.old) }
+    /// Each node's kids stand before it and fit its token. The call does nothing: its clause is the fact.
+    pub fn is_whole(&self)
+        ensures { AreWhole self.now }
     {
-        let number = number_of(self.nodes.len())?;
-        let mut kids = Vec::new(alloc);
-        kids.extend_from_slice(numbers)?;
-        let mut own = Vec::new(alloc);
-        own.extend_from_slice(answers)?;
-        self.nodes.push(SampleNode::new(token, kids, own))?;
-        Ok(number)
+        let _nodes = &self.nodes;
     }
 
     /// Adds a node with these kids, and answers its number.
@@ -82,16 +74,20 @@ impl Growing {
         numbers: &[u32],
         answers: &[bool],
     ) -> Result<u32, NoMemory>
-        requires whole { AreWhole self.old }
-        requires fit { KidsFit self.old numbers.now (kids token) }
+        requires { KidsFit self.old numbers.now (kids token) }
         ensures { IfOk result (λ n. HasLast self.old self.new token numbers.now answers.now n) }
     {
-        self.push(alloc, token, numbers, answers)
+        let number = number_of(self.nodes.len())?;
+        let mut kids = Vec::new(alloc);
+        kids.extend_from_slice(numbers)?;
+        let mut own = Vec::new(alloc);
+        own.extend_from_slice(answers)?;
+        self.nodes.push(SampleNode::new(token, kids, own))?;
+        Ok(number)
     }
 
     // Adds a smallest tree for the sort.
     fn add_smallest(&mut self, alloc: Global, sort: Sort) -> Result<u32, NoMemory>
-        requires whole { AreWhole self.old }
         ensures { IfOk result (λ n. HasTreeOf self.old self.new sort n) }
     {
         let token = smallest(sort);
@@ -104,9 +100,9 @@ impl Growing {
 
     // Adds smallest trees for the kids of the token.
     fn add_kids(&mut self, alloc: Global, token: Tok) -> Result<Vec<u32>, NoMemory>
-        requires whole { AreWhole self.old }
         ensures { IfOk result (λ v. HaveKids self.old self.new (kids token) v.items) }
     {
+        self.is_whole();
         let mut numbers = Vec::new(alloc);
         for sort in token.kids() {
             let kid = self.add_smallest(alloc, *sort)?;
@@ -117,7 +113,6 @@ impl Growing {
 
     /// Adds a smallest tree that begins with the token, and answers its root's number.
     pub fn add_from(&mut self, alloc: Global, token: Tok) -> Result<u32, NoMemory>
-        requires whole { AreWhole self.old }
         ensures { IfOk result (λ n. HasTreeFrom self.old self.new token n) }
     {
         let numbers = self.add_kids(alloc, token)?;

@@ -1,12 +1,12 @@
 use Rattle.lr_check_drawn.proofs.Rises.{root_after, first_fits, first_after, second_fits, second_after}
 use Rattle.lr_check_drawn.proofs.rising.add_parent.Goals as goal
 
-pub add_over_first-requires-clause-fit : goal.add_over_first-requires-clause-fit
-add_over_first-requires-clause-fit c = first_fits c.args.found.now c.args.kid.place c.origin_of.result c.origin_of.ensures c.requires.begun c.args.growing.now c.args.kid.node c.in-First.place
+pub add_over_first-requires : goal.add_over_first-requires
+add_over_first-requires c = first_fits c.args.found.now c.args.kid.place c.origin_of.result c.origin_of.ensures c.requires.begun c.args.growing.now c.args.kid.node c.in-First.place
     c.token_of-token.result c.behind_of-behind.result c.requires.stands c.in-First.is c.token_of-token.ensures c.behind_of-behind.ensures
 
-pub add_over_both-requires-clause-fit : goal.add_over_both-requires-clause-fit
-add_over_both-requires-clause-fit c = second_fits c.args.found.now c.args.kid.place c.origin_of.result c.origin_of.ensures c.requires.begun c.args.growing.now c.args.kid.node
+pub add_over_both-requires : goal.add_over_both-requires
+add_over_both-requires c = second_fits c.args.found.now c.args.kid.place c.origin_of.result c.origin_of.ensures c.requires.begun c.args.growing.now c.args.kid.node
     c.in-Second.place c.in-Second.settling
     c.in_ok-first-in-Second.first c.token_of-token-in-Second.result c.requires.settled c.requires.stands c.in-Second.is c.token_of-token-in-Second.ensures c.in_ok-first-in-Second.ensures.number
 

@@ -4,7 +4,7 @@ use Rattle.lr_check_drawn.proofs.Rises.{rising_none, rising_more, rising_settled
 use Rattle.lr_check_drawn.proofs.rising.rise.Goals as goal
 
 pub above-init : goal.above-init
-above-init c = rising_none c.args.found.now c.args.growing.now c.args.place c.args.top c.requires.whole c.requires.stands
+above-init c = rising_none c.args.found.now c.args.growing.now c.args.place c.args.top c.is_whole.ensures c.requires.stands
 
 pub add_parent-requires-clause-settled : goal.add_parent-requires-clause-settled
 add_parent-requires-clause-settled c =

@@ -3,9 +3,9 @@ use Rattle.lr_check_drawn.proofs.Begun.{have_nodes_grow}
 use Rattle.lr_check_drawn.proofs.Samples.{above_fits, above_stands, above_if}
 use Rattle.lr_check_drawn.proofs.sampling.add_above.Goals as goal
 
-pub add-requires-clause-fit : goal.add-requires-clause-fit
-add-requires-clause-fit c = above_fits c.args.found.now c.args.growing.now c.args.settling c.requires.there c.place_of-place.result c.token_of.result c.deref.result.now
-    c.requires.whole c.requires.settled c.place_of-place.ensures c.token_of.ensures (c.deref.ensures.value ∙ c.in_ok-kids.ensures)
+pub add-requires : goal.add-requires
+add-requires c = above_fits c.args.found.now c.args.growing.now c.args.settling c.requires.there c.place_of-place.result c.token_of.result c.deref.result.now
+    c.is_whole.ensures c.requires.settled c.place_of-place.ensures c.token_of.ensures (c.deref.ensures.value ∙ c.in_ok-kids.ensures)
 
 pub rise-requires-clause-settled : goal.rise-requires-clause-settled
 rise-requires-clause-settled c = have_nodes_grow c.in_ok-top.ensures.grows c.requires.settled
