@@ -5,3 +5,4 @@ pub mod ValidLaws
 pub mod ToldLaws
 pub mod FirstLaws
 pub mod AgainLaws
+pub mod RowLaws

@@ -1,7 +1,7 @@
 -- What may stand in a rule: the holes of its lines, and what is given.
 use Rattle.std.specs.Prelude.{ℕ, Bool, true, false, ◌==◌, ◌||◌, ◌&&◌, List, [], ◌∷◌, Option, Some, None, codes}
 use Rattle.std.specs.Prelude.{if◌then◌else◌}
-use Rattle.std.specs.List.{list_any, list_all}
+use Rattle.std.specs.List.{list_any}
 use Rattle.md_reader_text.specs.Words.{same}
 use Rattle.md_reader_pieces.specs.declared.piece.Piece.{Piece}
 use Rattle.md_reader_pieces.specs.declared.piece.Piece.TheVariants as piece
@@ -47,7 +47,8 @@ piece_fits register right piece.Callee = any_symbol is_call right
 piece_fits register right piece.Count = any_symbol is_call right
 
 abbrev pub pieces_fit : Bool → List Sym → List Piece → Bool
-pieces_fit register right ps = list_all (piece_fits register right) ps
+pieces_fit register right [] = true
+pieces_fit register right (p ∷ ps) = piece_fits register right p && pieces_fit register right ps
 
 -- what stands behind the `j` of `j%i`
 abbrev pub behind_j : List Piece → Option (List Piece)
