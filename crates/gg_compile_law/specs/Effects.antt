@@ -26,7 +26,8 @@ module _ (objects : List Object) (e : Extent) (es : List Extent) (t : Trees) (m 
   -- return are left to be done: in the state before them the tree program's state is the same, but for the last call's result.
   abbrev pub Does : Step → Course → Type 0
   Does (GoesOn s) c = (n : State) × (c ≡ record { written = []; ending = Comes n }) × Stays objects e es s m n
-  Does (Serves b s) c = (n : State) × (c ≡ record { written = option_to_list b; ending = Comes n }) × Stays objects e es s m n × HasResult s n
+  Does (Serves b s) c =
+      (n : State) × (c ≡ record { written = option_to_list b; ending = Comes n }) × Stays objects e es s m n × HasResult s n
   Does (GoesTo label s) c = (n : State) × (c ≡ record { written = []; ending = Goes (label_name label) n }) × Stays objects e es s m n
   Does (Enters g args s) c =
       (n : State) × (c ≡ record { written = []; ending = CallsOut (function_label g.name) (length args) n [] }) × Stays objects e es t m n

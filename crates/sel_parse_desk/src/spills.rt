@@ -1,5 +1,6 @@
 // A register that is due.
-ghost use Rattle.std.specs.Prelude.{◌≡◌, ◌==◌, ◌∷◌, ◌++◌, [], ◌<◌, ◌≤◌, true, Some, length, OnOk, IfOk, IfErr, IfSome, option_to_list, slice_get};
+ghost use Rattle.std.specs.Prelude.{◌≡◌, ◌==◌, ◌∷◌, ◌++◌, [], ◌<◌, ◌≤◌, true, Some, length, OnOk, IfOk, IfErr, IfSome};
+ghost use Rattle.std.specs.Prelude.{option_to_list, slice_get};
 ghost use Rattle.std.specs.List.{list_any};
 ghost use Rattle.sel_target.specs.SavingLaws.{saving};
 ghost use Rattle.sel_target.specs.Symbols.{saving_place, saving_line};
@@ -161,7 +162,8 @@ fn save<T: Templates>(
     requires within { at < length entries.now }
     ensures code { OnOk result (code.new.items ≡ code.old.items ++ saving T.meaning setting.now.program.now
         (saving_line setting.now.description.now (kind_in (slice_get entries.now at))) (attr_in (slice_get entries.now at)) word) }
-    ensures late { OnOk result (late.new.items ≡ late.old.items ++ option_to_list (word_of T.meaning (attr_in (slice_get entries.now at)))) }
+    ensures late { OnOk result (late.new.items
+        ≡ late.old.items ++ option_to_list (word_of T.meaning (attr_in (slice_get entries.now at)))) }
     ensures moved { IfOk result (λ a. a ≡ in_slot T.meaning (attr_in (slice_get entries.now at)) word) }
     ensures low { IfOk result (λ a. is_low a ≡ true) }
 {

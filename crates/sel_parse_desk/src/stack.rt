@@ -7,8 +7,8 @@ ghost use Rattle.sel_parse_desk.specs.Entries.{attrs, kind_in};
 ghost use Rattle.sel_parse_desk.specs.Desk.{register_held, word_held};
 ghost use Rattle.sel_parse_desk.specs.Spills.{holds_some};
 ghost use Rattle.sel_parse_desk.specs.Joined.{is_low};
-ghost use Rattle.sel_parse_desk.specs.Tallied.{HaveRoom, HaveRisen, AreAtLeast, HaveFallen, registers_of, words_of, registers_among, words_among};
-ghost use Rattle.sel_parse_desk.specs.Tallied.{IsTallied};
+ghost use Rattle.sel_parse_desk.specs.Tallied.{HaveRoom, HaveRisen, AreAtLeast, HaveFallen, IsTallied};
+ghost use Rattle.sel_parse_desk.specs.Tallied.{registers_of, words_of, registers_among, words_among};
 
 use crate::entries::Entries;
 use crate::holding::{holds_some, in_register, word_of};

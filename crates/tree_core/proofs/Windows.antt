@@ -182,7 +182,8 @@ added_is base h (m ∷ ms) n cov e = by (added_is base (added base h m) ms n cov
     by : (added base h m n ≡ true) ⊎ (0 < times n ms) → (h n ≡ true) ⊎ (0 < times n (m ∷ ms))
     by (inr lt) = inr (more (eqb m n) lt)
     by (inl q) = ⊎_elim (λ p. inl p) (λ p. let one : times n (m ∷ ms) ≡ 1 + times n ms =
-        ap (λ (b : Bool). cond b 1 0 + times n ms) (eq-eqb m n (sym (eqb-true n m (second_true (covers base m) (eqb n m) p)))) in inr (omega (arith, one))) (or_cases (h n) (covers base m && eqb n m) q)
+        ap (λ (b : Bool). cond b 1 0 + times n ms) (eq-eqb m n (sym (eqb-true n m (second_true (covers base m) (eqb n m) p)))) in
+        inr (omega (arith, one))) (or_cases (h n) (covers base m && eqb n m) q)
 
 added_stays : (base : ℕ) (h : ℕ → Bool) (ns : List ℕ) (n : ℕ) → h n ≡ true → added_all base h ns n ≡ true
 added_stays base h [] n e = e

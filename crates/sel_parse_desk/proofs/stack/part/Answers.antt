@@ -25,5 +25,7 @@ returns-clause-tallied g c =
     c.in_ok-taken.ensures.before c.in_ok-taken.ensures.behind (let m = c.min-stack.ensures in omega (arith, m)) (let m = c.min-stack.ensures in omega (arith, m))
     (let s = c.saturating_sub-base.ensures in let l = c.len-long.ensures in omega (arith, s, l))
     c.requires.tallied c.lower_all.ensures.twelve c.lower_all.ensures.all_words
-    (subst (λ (hs : List (Attr g.row.T-Operand.Denot)). HaveFallen 12 c.args.stack.now.registers.items c.lower_all.new.registers.items (registers_among g.T.Templates.meaning hs)) c.attrs.ensures.attrs c.lower_all.ensures.registers)
-    (subst (λ (hs : List (Attr g.row.T-Operand.Denot)). HaveFallen 1024 c.args.stack.now.words.items c.lower_all.new.words.items (words_among g.T.Templates.meaning hs)) c.attrs.ensures.attrs c.lower_all.ensures.words)
+    (subst (λ (hs : List (Attr g.row.T-Operand.Denot)). HaveFallen 12 c.args.stack.now.registers.items c.lower_all.new.registers.items (registers_among g.T.Templates.meaning hs))
+    c.attrs.ensures.attrs c.lower_all.ensures.registers)
+    (subst (λ (hs : List (Attr g.row.T-Operand.Denot)). HaveFallen 1024 c.args.stack.now.words.items c.lower_all.new.words.items (words_among g.T.Templates.meaning hs))
+    c.attrs.ensures.attrs c.lower_all.ensures.words)
