@@ -2,6 +2,6 @@ pub mod Views
 pub mod Changes
 pub mod Sizes
 pub mod Declarations
-pub mod Ways
+pub mod Lowerings
 pub mod Roots
 pub mod Bytes

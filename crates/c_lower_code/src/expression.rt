@@ -9,7 +9,7 @@ ghost use Rattle.c_lower_scheme.specs.Assignments as assignments;
 ghost use Rattle.c_lower_scheme.specs.Expressions as expressions;
 ghost use Rattle.c_lower_code.specs.Views.{low, two, found, ready, passing, done, destination};
 ghost use Rattle.c_lower_code.specs.Changes.{applied};
-ghost use Rattle.c_lower_code.specs.Ways.{way_of, seek_of};
+ghost use Rattle.c_lower_code.specs.Lowerings.{way_of, seek_of};
 
 use crate::change::{
     Change, fill_drop, fill_low, local_of, step_before, step_ready, store_drop, store_low,
