@@ -11,7 +11,7 @@ pub mod Storing
 pub mod Assigning
 pub mod Calling
 pub mod Conditions
-pub mod Ways
+pub mod Expressions
 pub mod Scopes
 pub mod Waiting
 pub mod Statements

@@ -45,7 +45,7 @@ use Rattle.c_lower_follows.proofs.Agreeing.{value, Agree, set_same, set_other, r
 use Rattle.c_lower_follows.proofs.Doing.{DoesWay}
 use Rattle.c_lower_follows.proofs.Calling.{CodeOf, Calls}
 use Rattle.c_lower_follows.proofs.Placing.{fitted_maps, whole_value}
-use Rattle.c_lower_follows.proofs.Ways.{way_does}
+use Rattle.c_lower_follows.proofs.Expressions.{way_does}
 use Rattle.c_lower_follows.proofs.Scopes.{without, fits_without, behind_more, more_within, behind_within, agree_less}
 use Rattle.c_lower_follows.proofs.Waiting.{Sets, SetsLocal, sets_or_not, Partly, wholly, none_waits, past_keep, past_clear, past_left, past_begin, begin_fits}
 use Rattle.c_lower_follows.proofs.Waiting.{past_declare, into_block, past_other, other_fits, past_set, set_fits, for_live, for_set, for_fits}
