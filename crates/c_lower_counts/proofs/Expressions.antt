@@ -18,8 +18,8 @@ use Rattle.c_lower_scheme.specs.Values.{advance, advance_by, retreat, apart}
 use Rattle.c_lower_scheme.specs.Calls.{callee_number, others}
 use Rattle.c_lower_scheme.specs.Assignments.{assigned, assign_low, assign_drop, local_of, updated, update_by, step_low, step_ready}
 use Rattle.c_lower_scheme.specs.Expressions.{unary, seek, way, pass}
-use Rattle.c_lower_counts.proofs.Ways.{Takes, valued_takes, effective_takes, mapped_takes, not_takes, chain_takes, choose_takes, comma_takes, store_labels, converting_takes, called_labels}
-use Rattle.c_lower_counts.proofs.Ways.{binary_takes, relation_takes}
+use Rattle.c_lower_counts.proofs.Lowerings.{Takes, valued_takes, effective_takes, mapped_takes, not_takes, chain_takes, choose_takes, comma_takes, store_labels, converting_takes, called_labels}
+use Rattle.c_lower_counts.proofs.Lowerings.{binary_takes, relation_takes}
 
 module _ (size count : ℕ) where
   unary_takes : (n most : ℕ) (op : UnaryOperator) (e : Lowering) → Takes n e → n + 1 ≤ most → Takes most (unary size count op e)

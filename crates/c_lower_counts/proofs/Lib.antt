@@ -1,5 +1,5 @@
 -- Endings of names: _by goes by the cases of a part that it is given. See docs/READING.md.
-pub mod Ways
+pub mod Lowerings
 pub mod Expressions
 pub mod Labels
 pub mod Operators
