@@ -23,7 +23,7 @@ use Rattle.c_lower_valid.specs.Claim.{LoweredIsValid}
 use Rattle.c_lower_valid.proofs.Named.{Scene, AllName}
 use Rattle.c_lower_valid.proofs.Rows.{scene, item_stands}
 use Rattle.c_lower_valid.proofs.Fine.{Fine, fine_behind}
-use Rattle.c_lower_valid.proofs.Acts.{fine_acts}
+use Rattle.c_lower_valid.proofs.StatementItems.{fine_acts}
 use Rattle.c_lower_valid.proofs.Marks.{nowhere, marked_plain}
 use Rattle.c_lower_valid.proofs.Loops.{marked_row}
 use Rattle.c_lower_valid.proofs.Spelled.{targets_stand, labels_before}

@@ -3,9 +3,9 @@ pub mod Named
 pub mod Rows
 pub mod Orders
 pub mod Fine
-pub mod Ways
+pub mod Lowerings
 pub mod Phrases
-pub mod Acts
+pub mod StatementItems
 pub mod Marks
 pub mod Labels
 pub mod Loops

@@ -19,8 +19,8 @@ use Rattle.c_lower_scheme.specs.Expressions
 use Rattle.c_lower_valid.proofs.Named.{Scene}
 use Rattle.c_lower_valid.proofs.Fine.{Ok, fine_nil, OkWhere, FineFound, FinePassing, ok_advance, ok_advance_by, ok_retreat, ok_apart, fine_over, fine_read, fine_address}
 use Rattle.c_lower_valid.proofs.Fine.{fine_store_drop, fine_pass, fine_called_drop, fine_called_low, fine_called_deliver, fine_test, ok_fitted}
-use Rattle.c_lower_valid.proofs.Ways.{FineWay, fine_due, fine_valued, fine_effective, fine_conditional, fine_converting, fine_binary, fine_relation, fine_chain, fine_chain_drop}
-use Rattle.c_lower_valid.proofs.Ways.{fine_choose, fine_comma, fine_unary, fine_update_by, fine_step_ready, fine_step, fine_assign_low, fine_assign_drop}
+use Rattle.c_lower_valid.proofs.Lowerings.{FineWay, fine_due, fine_valued, fine_effective, fine_conditional, fine_converting, fine_binary, fine_relation, fine_chain, fine_chain_drop}
+use Rattle.c_lower_valid.proofs.Lowerings.{fine_choose, fine_comma, fine_unary, fine_update_by, fine_step_ready, fine_step, fine_assign_low, fine_assign_drop}
 
 passes_all : (size count : ℕ) (es : SomeExpressions) (to : List CType) (t l : ℕ)
     → length (Expressions.pass size count es to t l).trees ≡ arguments es

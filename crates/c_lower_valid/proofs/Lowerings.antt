@@ -1,4 +1,4 @@
--- Expressions, in each of the three ways in which they are lowered: their items name what is there, with calls in order.
+-- Expressions, in each of the four ways in which they are lowered: their items name what is there, with calls in order.
 use Rattle.std.proofs.Common.{◌≡◌, ℕ, suc, ◌≤◌, ◌<◌, [], ◌∷◌, arith, subst}
 use Rattle.std.specs.Prelude.{Bool, true, false, not, Option, Some, None}
 use Rattle.gg_base.specs.declared.relation.Rel.{Rel}
