@@ -44,7 +44,7 @@ use Rattle.vax_target_meaning.specs.Running.{course_of}
 use Rattle.vax_target_meaning.specs.Vax.{vax, stands}
 use Rattle.vax_target_lines.specs.Lines.{DoesDeed}
 use Rattle.vax_target_runs.specs.Runs.{EndsIn}
-use Rattle.vax_target_statements.proofs.Acts.{c, did, IsDeed, statement_ends, agrees_there, room_there, live_there, codes_agree}
+use Rattle.vax_target_statements.proofs.LastLines.{c, did, IsDeed, statement_ends, agrees_there, room_there, live_there, codes_agree}
 use Rattle.vax_target_statements.proofs.Deeds.{Steps}
 use Rattle.vax_target_statements.proofs.Controls.{token_is}
 use Rattle.vax_target_calls.specs.Laws.{CallsDo}

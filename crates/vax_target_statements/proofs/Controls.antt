@@ -44,7 +44,7 @@ use Rattle.vax_target_operands.specs.Scenes.{Scene, worth, filling_at}
 use Rattle.vax_target_operands.specs.Conditions.{test_of}
 use Rattle.vax_target_lines.specs.Lines.{IsMet}
 use Rattle.vax_target_runs.specs.Runs.{EndsIn}
-use Rattle.vax_target_statements.proofs.Acts.{c, did, agrees_there, live_there}
+use Rattle.vax_target_statements.proofs.LastLines.{c, did, agrees_there, live_there}
 use Rattle.vax_target_statements.proofs.Deeds.{filled_hole, Steps}
 use Rattle.vax_target_statements.proofs.Firsts.{rest_of, branch_first, branch_hole}
 

@@ -39,7 +39,7 @@ use Rattle.vax_target_operands.specs.Scenes.{Scene, worth, filling_at}
 use Rattle.vax_target_lines.specs.Lines.{putting, Puts}
 use Rattle.vax_target_runs.specs.Runs.{EndsIn}
 use Rattle.vax_target_rules.proofs.Instances.{filling_is}
-use Rattle.vax_target_statements.proofs.Acts.{c, did, agrees_there, room_there, live_there, codes_agree}
+use Rattle.vax_target_statements.proofs.LastLines.{c, did, agrees_there, room_there, live_there, codes_agree}
 
 -- what fills a hole that is there
 pub filled_hole : (s : Scene) (i : ℕ) (h : Attr Operand) → hole s.holes i ≡ Some h → filling_at s i ≡ h

@@ -56,7 +56,7 @@ use Rattle.vax_target_runs.proofs.Kept.{base_untouched, index_untouched, names_s
 use Rattle.vax_target_rules.proofs.Founds.{IsFound}
 use Rattle.vax_target_rules.proofs.Instances.{register_result}
 use Rattle.vax_target_rules.proofs.Results.{found_so, low, avoids_at, avoided}
-use Rattle.vax_target_statements.proofs.Acts.{c, did, IsDeed, left_plain, agrees_there, live_there}
+use Rattle.vax_target_statements.proofs.LastLines.{c, did, IsDeed, left_plain, agrees_there, live_there}
 use Rattle.vax_target_statements.proofs.Deeds.{filled_hole, Steps, goes, area_goes}
 
 -- what a symbol's own place spells, its hole touches

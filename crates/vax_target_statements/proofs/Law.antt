@@ -19,7 +19,7 @@ use Rattle.vax_target_meaning.specs.Vax.{vax}
 use Rattle.vax_target_lines.specs.Lines.{DoesDeed}
 use Rattle.vax_target_runs.specs.Runs.{IsReturn, EndsIn}
 use Rattle.vax_target_statements.specs.Laws.{IsOrdinary, StatementsDo}
-use Rattle.vax_target_statements.proofs.Acts.{c, did, IsDeed, statement_ends}
+use Rattle.vax_target_statements.proofs.LastLines.{c, did, IsDeed, statement_ends}
 use Rattle.vax_target_statements.proofs.Deeds.{Steps, at_goes, pushes, leaves}
 use Rattle.vax_target_statements.proofs.Homes.{home_goes}
 use Rattle.vax_target_statements.proofs.Controls.{jumps, branches}

@@ -1,4 +1,4 @@
-pub mod Acts
+pub mod LastLines
 pub mod Deeds
 pub mod Homes
 pub mod Firsts

@@ -63,7 +63,7 @@ use Rattle.vax_target_operands.proofs.Machine.{names_stand}
 use Rattle.vax_target_operands.proofs.Holes.{stands_same}
 use Rattle.vax_target_lines.specs.Lines.{putting, Puts}
 use Rattle.vax_target_runs.specs.Runs.{EndsIn}
-use Rattle.vax_target_statements.proofs.Acts.{c, did, last_given, agrees_there, live_there}
+use Rattle.vax_target_statements.proofs.LastLines.{c, did, last_given, agrees_there, live_there}
 use Rattle.vax_target_statements.proofs.Deeds.{filled_hole, Steps, goes}
 use Rattle.vax_target_statements.proofs.Firsts.{rest_of, is_root, root_first, symbol_of}
 use Rattle.vax_target_statements.proofs.Saving.{LastIs, lines_save}
