@@ -1,5 +1,5 @@
 pub mod Faulty
-pub mod Ways
+pub mod Paths
 pub mod Calming
 pub mod Fine
 pub mod Settled

@@ -4,7 +4,7 @@ use Rattle.lr_check_sets.specs.Table.{automaton_of}
 use Rattle.lr_check_decided.specs.declared.turning.Turn.{Turn}
 use Rattle.lr_check_decided.specs.Turn.{IsTurn}
 use Rattle.lr_check_decided.proofs.Calming.{if_ok_both}
-use Rattle.lr_check_decided.proofs.Ways.{Way, no_way, way_on, turns, way_ends}
+use Rattle.lr_check_decided.proofs.Paths.{Way, no_way, way_on, turns, way_ends}
 use Rattle.lr_check_decided.proofs.turning.turn_from.Goals as goal
 
 pub loop-round-init : goal.loop-round-init

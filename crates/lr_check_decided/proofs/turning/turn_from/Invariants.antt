@@ -1,7 +1,7 @@
 use Rattle.std.proofs.Common.{◌≡◌, ◌<◌, false, length}
 use Rattle.std.specs.Prelude.{slice_index_or}
 use Rattle.lr_check_sets.specs.Table.{automaton_of}
-use Rattle.lr_check_decided.proofs.Ways.{Way}
+use Rattle.lr_check_decided.proofs.Paths.{Way}
 use Rattle.lr_check_decided.proofs.turning.turn_from.Given as goal
 
 abbrev pub invariant-loop-round : goal.invariant-loop-round
