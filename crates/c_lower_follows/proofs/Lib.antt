@@ -1,4 +1,6 @@
--- Endings of names: _by goes by the cases of a part that it is given; _step what one item of the code does. See docs/READING.md.
+-- Endings of names: _by goes by the cases of a part that it is given; _step what one item of the code does; _of what a tree, a function
+-- or a forest has; _is what a step, a value or an operator comes to; _at what holds or is done at an item, a number, a level or a state.
+-- See docs/READING.md.
 pub mod Longwords
 pub mod Values
 pub mod Leads
