@@ -1,4 +1,5 @@
--- Endings of names: _by goes by a part that it is given; _so is made once it is decided what has to be saved. See docs/READING.md.
+-- Endings of names: _by goes by a part that it is given; _so is made once it is decided what has to be saved; _of a part of what it is
+-- given, or what is emitted for it. See docs/READING.md.
 pub mod Trees
 pub mod Spelling
 pub mod Parts
