@@ -1,4 +1,5 @@
--- Endings of names: _by goes by the cases of a part that it is given. See docs/READING.md.
+-- Endings of names: _by goes by the cases of a part that it is given; _of that a test or a `for` is so, or how often a number is there;
+-- _step that `++` and `--` are so. See docs/READING.md.
 pub mod Named
 pub mod Rows
 pub mod Orders
