@@ -1,3 +1,4 @@
+-- Endings of names: _is what a task, or a part of a loop, means, as an equation. See docs/READING.md.
 pub mod Law
 pub mod Ends
 pub mod Steps
