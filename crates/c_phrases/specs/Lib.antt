@@ -1,3 +1,5 @@
+-- Endings of names: _of the class of a token, the operator of a mark, the level of an operator, or the plain data beside a phrase. See
+-- docs/READING.md.
 pub mod Classes
 pub mod Operators
 pub mod Phrases
