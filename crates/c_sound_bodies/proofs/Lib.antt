@@ -1,4 +1,5 @@
--- Endings of names: _by goes by the cases of a part that it is given. See docs/READING.md.
+-- Endings of names: _by goes by the cases of a part that it is given; _is that what is made, often named by an equation, is as it has to
+-- be. See docs/READING.md.
 pub mod Terms
 pub mod Rules
 pub mod Names
