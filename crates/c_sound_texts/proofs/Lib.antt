@@ -1,4 +1,5 @@
--- Endings of names: _by goes by the cases of a part that it is given. See docs/READING.md.
+-- Endings of names: _by goes by the cases of a part that it is given; _of what functions, objects or a text have; _is what this makes or
+-- holds; _at what stands at a number, or is laid out at a place. See docs/READING.md.
 pub mod Held
 pub mod Areas
 pub mod Linked
