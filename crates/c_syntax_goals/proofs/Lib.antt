@@ -1,4 +1,6 @@
--- Endings of names: _by goes by the class of a token; _step speaks of one step of the parse, or of an operator that steps. See docs/READING.md.
+-- Endings of names: _by goes by the class of a token; _step speaks of one step of the parse, or of an operator that steps; _of what a
+-- class, an answer, a list of phrases or a bracket has; _is what a token or a phrase is; _at what holds at a token or a level; _from a
+-- law from that of another kind of phrase. See docs/READING.md.
 pub mod Tokens
 pub mod PhraseLaws
 pub mod Steps

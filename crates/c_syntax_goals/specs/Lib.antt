@@ -1,4 +1,4 @@
--- Endings of names: _step what a goal does at a token. See docs/READING.md.
+-- Endings of names: _step what a goal does at a token; _in what a token holds. See docs/READING.md.
 pub mod Goals
 pub mod Contents
 pub mod Types
