@@ -1,3 +1,4 @@
+-- Endings of names: _is that what was read is so written. See docs/READING.md.
 pub mod Strings
 pub mod Passing
 pub mod RunLaws

@@ -1,3 +1,5 @@
+-- Endings of names: _of what a text writes, begins with or ends at, or a digit of a base; _from goes on from a number or an offset. See
+-- docs/READING.md.
 pub mod Letters
 pub mod Words
 pub mod Marks
