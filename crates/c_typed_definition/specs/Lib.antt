@@ -1,4 +1,5 @@
--- Endings of names: _by goes by the cases of a part that it is given. See docs/READING.md.
+-- Endings of names: _by goes by the cases of a part that it is given; _of what a phrase or an object has, or what is made of it. See
+-- docs/READING.md.
 pub mod Initialisers
 pub mod Forms
 pub mod State
