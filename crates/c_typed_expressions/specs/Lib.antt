@@ -1,4 +1,4 @@
--- Endings of names: _by goes by the cases of a part that it is given. See docs/READING.md.
+-- Endings of names: _by goes by the cases of a part that it is given; _in the part that stands in a phrase. See docs/READING.md.
 pub mod Phrases
 pub mod Calls
 pub mod Expressions
