@@ -1,3 +1,4 @@
+-- Endings of names: _of what a size, a memory, a turn or a finish has. See docs/READING.md.
 pub mod Sizes
 pub mod LittleEndian
 pub mod Relations
