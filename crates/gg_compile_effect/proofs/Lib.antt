@@ -1,3 +1,4 @@
+-- Endings of names: _is what a course or a root is. See docs/READING.md.
 pub mod Trees
 pub mod Naming
 pub mod Courses
