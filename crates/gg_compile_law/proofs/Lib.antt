@@ -1,4 +1,5 @@
--- Endings of names: _by goes by the cases of a part that it is given. See docs/READING.md.
+-- Endings of names: _by goes by the cases of a part that it is given; _is what a part of a run or of the text is; _at what stands or
+-- holds at a place; _in what holds of a label or a call among items or leaves. See docs/READING.md.
 pub mod Rooms
 pub mod Facts
 pub mod Forwards

@@ -1,4 +1,5 @@
--- Endings of names: _by goes by the cases of a part that it is given. See docs/READING.md.
+-- Endings of names: _by goes by the cases of a part that it is given; _of what belongs to an item, a root, an object or an alignment. See
+-- docs/READING.md.
 pub mod Roles
 pub mod Effects
 pub mod Programs
