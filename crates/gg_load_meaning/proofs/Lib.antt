@@ -1,4 +1,4 @@
--- Endings of names: _by goes by the number of an element, whatever gave that. See docs/READING.md.
+-- Endings of names: _by goes by the number of an element, whatever gave that; _is what this comes to. See docs/READING.md.
 pub mod Outcomes
 pub mod Table
 pub mod Calls
