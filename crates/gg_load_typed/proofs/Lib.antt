@@ -1,3 +1,4 @@
+-- Endings of names: _at behind so many functions, or at a number. See docs/READING.md.
 pub mod Names
 pub mod Computing
 pub mod Functions
