@@ -1,3 +1,4 @@
+-- Endings of names: _is what this comes to, as an equation; _at what stands or holds at a number or a state. See docs/READING.md.
 pub mod Orders
 pub mod Numbered
 pub mod Falling
