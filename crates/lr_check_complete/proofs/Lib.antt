@@ -1,3 +1,5 @@
+-- Endings of names: _is what a part of what was found is; _at what holds at a place or a number; _in that what follows of this is in what
+-- was found. See docs/READING.md.
 pub mod Turns
 pub mod Kids_found
 pub mod Gaining
