@@ -1,3 +1,4 @@
+-- Endings of names: _of what a settling, or how it was made, has, or what is made of these parts. See docs/READING.md.
 pub mod Choices
 pub mod Lists
 pub mod Found
