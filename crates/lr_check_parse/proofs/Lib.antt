@@ -1,4 +1,4 @@
--- Endings of names: _so a fact that its neighbours cite. See docs/READING.md.
+-- Endings of names: _so a fact that its neighbours cite; _is what this comes to, as an equation. See docs/READING.md.
 pub mod Choosing
 pub mod Labels
 pub mod OneWay

@@ -1,3 +1,5 @@
+-- Endings of names: _of what a right side or a stack has; _at what stands at a number or a depth, or goes by what may stand there. See
+-- docs/READING.md.
 pub mod Moves
 pub mod Attributes
 pub mod Lists
