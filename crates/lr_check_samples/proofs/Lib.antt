@@ -1,4 +1,5 @@
--- Endings of names: _so a fact that its neighbours cite, or that a stack which is alike does the same. See docs/READING.md.
+-- Endings of names: _so a fact that its neighbours cite, or that a stack which is alike does the same; _of a fact of this name, made of
+-- another; _as the same of what equals it. See docs/READING.md.
 pub mod Alike
 pub mod Splitting
 pub mod Asking
