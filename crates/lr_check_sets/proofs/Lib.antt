@@ -1,4 +1,6 @@
--- Endings of names: _step that one step of the parse keeps it. See docs/READING.md.
+-- Endings of names: _step that one step of the parse keeps it; _of a fact or a list made of what it is given; _at at a depth or a number;
+-- _from a tree that begins with a token, or where a rule was opened; _in inside a list, or that it is in sets which are closed. See
+-- docs/READING.md.
 pub mod Walks
 pub mod Beginnings
 pub mod Tables

@@ -1,3 +1,4 @@
+-- Endings of names: _of what a production, the rules or a table have. See docs/READING.md.
 pub mod Trees
 pub mod Automaton
 pub mod Sums
