@@ -1,3 +1,4 @@
+-- Endings of names: _of a fact made of how the replay ends, or the rows of so many item sets. See docs/READING.md.
 pub mod Trees
 pub mod Counting
 pub mod Law
