@@ -1,3 +1,5 @@
+-- Endings of names: _of what a rule, an item set or the classes have; _at what there is at a rule, a stack or a state; _from counted on
+-- from a number, or of an edge the class that it comes from. See docs/READING.md.
 pub mod Symbols
 pub mod Items
 pub mod Follow
