@@ -1,4 +1,5 @@
--- Endings of names: _step what a form of the line does to what is known of it. See docs/READING.md.
+-- Endings of names: _step what a form of the line does to what is known of it; _of what a word names, or what a symbol or a state has;
+-- _at what stands at a number, or comes at a stage; _from goes on from a number. See docs/READING.md.
 pub mod Patterns
 pub mod Symbols
 pub mod Forms
