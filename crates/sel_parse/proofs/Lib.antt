@@ -1,4 +1,5 @@
--- Endings of names: _so a fact that its neighbours cite. See docs/READING.md.
+-- Endings of names: _so a fact that its neighbours cite; _of a fact made of what a test or a choice says, or the number of an ending. See
+-- docs/READING.md.
 pub mod EachShown
 pub mod Telling
 pub mod States

@@ -1,3 +1,4 @@
+-- Endings of names: _of what a parse, a stack or a fault comes to. See docs/READING.md.
 pub mod Shown
 pub mod Answers
 pub mod Steps
