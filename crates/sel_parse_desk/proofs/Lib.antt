@@ -1,3 +1,4 @@
+-- Endings of names: _in what is asked of an entry is what the parse's questions answer. See docs/READING.md.
 pub mod JoinedLemmas
 pub mod Counting
 pub mod Reversing
