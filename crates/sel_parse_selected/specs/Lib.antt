@@ -1,4 +1,5 @@
--- Endings of names: _by goes by the cases of a part that it is given. See docs/READING.md.
+-- Endings of names: _by goes by the cases of a part that it is given; _of what a stack or an outcome has, or the later of two places; _at
+-- what stands or is done at a place or a number. See docs/READING.md.
 pub mod Entries
 pub mod Desk
 pub mod Spills
