@@ -1,4 +1,5 @@
--- Endings of names: _by goes by the cases of a part that it is given. See docs/READING.md.
+-- Endings of names: _by goes by the cases of a part that it is given; _is what a list or a frame word is; _at what holds at a symbol or a
+-- right side. See docs/READING.md.
 pub mod Symbols
 pub mod Loaded
 pub mod Carrying
