@@ -1,3 +1,4 @@
+-- Endings of names: _of what an attribute, an effect, a rule, an operand or an object has. See docs/READING.md.
 pub mod Calls
 pub mod Courses
 pub mod EffectTerms
