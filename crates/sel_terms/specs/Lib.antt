@@ -1,3 +1,4 @@
+-- Endings of names: _of the plain data beside a value, or what a symbol, a part or a rule has. See docs/READING.md.
 pub mod Effects
 pub mod Parts
 pub mod Wanted
