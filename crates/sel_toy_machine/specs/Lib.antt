@@ -1,4 +1,5 @@
--- Endings of names: _by goes by the cases of a part that it is given. See docs/READING.md.
+-- Endings of names: _by goes by the cases of a part that it is given; _of what an attribute, an operand, pieces or a register have, or a
+-- place of this size; _at what stands at a number. See docs/READING.md.
 pub mod Filling
 pub mod Forms
 pub mod Machine
