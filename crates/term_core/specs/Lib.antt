@@ -1,3 +1,4 @@
+-- Endings of names: _of the shape, the nodes or the size of a term; _at what stands at a number or an address. See docs/READING.md.
 pub mod Operators
 pub mod Shape
 pub mod Form
