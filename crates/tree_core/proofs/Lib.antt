@@ -1,3 +1,5 @@
+-- Endings of names: _step that one element more keeps it; _of what the answer of a test or a count says, or what stands behind an item;
+-- _is what this is, or what a test that is true says. See docs/READING.md.
 pub mod Showing
 pub mod Planting
 pub mod Walking

@@ -1,3 +1,4 @@
+-- Endings of names: _of what a token, an attribute, an item, a name, a tree or the functions have. See docs/READING.md.
 pub mod Grammar
 pub mod Attributes
 pub mod Names
