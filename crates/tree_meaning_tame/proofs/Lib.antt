@@ -1,3 +1,4 @@
+-- Endings of names: _at what holds at a sort, a leaf or a number. See docs/READING.md.
 pub mod Strict
 pub mod Calm
 pub mod Sights
