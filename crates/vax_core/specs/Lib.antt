@@ -1,3 +1,4 @@
+-- Endings of names: _of what a mnemonic, a base, or a name with a number is. See docs/READING.md.
 pub mod Registers
 pub mod Ops
 pub mod Text
