@@ -1,3 +1,4 @@
+-- Endings of names: _is what a place, a part of a frame or a list of frames is. See docs/READING.md.
 pub mod Calling
 pub mod Laws
 pub mod Guarding
