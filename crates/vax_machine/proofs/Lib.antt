@@ -1,4 +1,5 @@
--- Endings of names: _by goes by the cases of a part that it is given. See docs/READING.md.
+-- Endings of names: _by goes by the cases of a part that it is given; _is what an address, a place, a register, a table or a state is;
+-- _from counted on from a place, or from now on. See docs/READING.md.
 pub mod Law
 pub mod Stepping
 pub mod Registers

@@ -1,3 +1,6 @@
+-- Endings of names: _of what an instruction, a text, a location, a state or a stop has or comes to; _at at an item, an address or a size,
+-- or in a region; _from laid out from an address on, or a return from a frame; _in the name in an operand or an instruction, or the place
+-- of a name in a text. See docs/READING.md.
 pub mod State
 pub mod Memory
 pub mod Area
