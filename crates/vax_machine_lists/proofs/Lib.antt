@@ -1,4 +1,4 @@
--- Endings of names: _by goes by the cases of a part that it is given. See docs/READING.md.
+-- Endings of names: _by goes by the cases of a part that it is given; _at what holds at a place. See docs/READING.md.
 pub mod Placed
 pub mod Steps
 pub mod Joining
