@@ -1,3 +1,4 @@
+-- Endings of names: _at what holds where a byte comes next. See docs/READING.md.
 pub mod Choices
 pub mod FrontLaws
 pub mod NameLaws
