@@ -1,3 +1,4 @@
+-- Endings of names: _is what the innermost frame is, and where it stands. See docs/READING.md.
 pub mod Pieces
 pub mod Touching
 pub mod Keeping
