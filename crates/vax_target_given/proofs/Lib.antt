@@ -1,3 +1,3 @@
--- Endings of names: _so a fact that its neighbours cite. See docs/READING.md.
+-- Endings of names: _so a fact that its neighbours cite; _of what a hole or a form gives. See docs/READING.md.
 pub mod Idle
 pub mod Law
