@@ -1,4 +1,5 @@
--- Endings of names: _by goes by the cases of a part that it is given. See docs/READING.md.
+-- Endings of names: _by goes by the cases of a part that it is given; _is what this is, or is worth; _so a fact that its neighbours cite.
+-- See docs/READING.md.
 pub mod Binds
 pub mod Machine
 pub mod Codes
