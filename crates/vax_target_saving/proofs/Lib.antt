@@ -1,3 +1,4 @@
+-- Endings of names: _is what this comes to, as an equation. See docs/READING.md.
 pub mod Bytes
 pub mod Words
 pub mod Storing
