@@ -1,4 +1,4 @@
--- Endings of names: _so a fact that its neighbours cite. See docs/READING.md.
+-- Endings of names: _so a fact that its neighbours cite; _is what this is, or is worth. See docs/READING.md.
 pub mod Naming
 pub mod Valued
 pub mod Law
