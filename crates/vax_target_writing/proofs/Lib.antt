@@ -1,3 +1,4 @@
+-- Endings of names: _is what a symbol's operand is, or where an instruction's result goes. See docs/READING.md.
 pub mod Each
 pub mod Longs
 pub mod Table
