@@ -1,3 +1,5 @@
+-- Endings of names: _of what an object, a base, a hole, a line or a rule has, or the last of two; _in what an attribute holds or spells.
+-- See docs/READING.md.
 pub mod Marks
 pub mod Forms
 pub mod Instructions
