@@ -7,6 +7,7 @@ use Rattle.tree_core.specs.declared.tree.Leaf.{Leaf}
 use Rattle.tree_core.specs.Grammar.{kids}
 use Rattle.tree_core.specs.Trees.{Forest, none, tree, firsts, grown}
 use Rattle.tree_meaning.specs.declared.machine.Machine.{Machine}
+use Rattle.tree_meaning.specs.declared.progress.Progress.{Progress}
 use Rattle.tree_meaning.specs.State.{State, sight}
 use Rattle.tree_meaning.specs.Deeds.{Deed, deed_of, tree_deed}
 use Rattle.tree_meaning.specs.Steps.{deed_step, tree_step}
@@ -22,10 +23,10 @@ meanings-firsts objects s (suc k) (tree l below behind) =
     ap (λ (ms : List Meaning). leaf_means objects s l (slice_get (meanings objects s below) 0) (slice_get (meanings objects s below) 1) ∷ ms) (meanings-firsts objects s k behind)
 
 -- a root does what the tree of its leaves does
-pub root_steps : (p : TreeProgram) (s : State) (w ks : List Leaf) (root : Leaf) (ms : List Meaning) (sorts : List Sort) (a b : Option Meaning) (byte : Option ℕ) (new : Machine)
+pub root_steps : (p : TreeProgram) (s : State) (w ks : List Leaf) (root : Leaf) (ms : List Meaning) (sorts : List Sort) (a b : Option Meaning) (done : Progress) (new : Machine)
     → w ≡ root ∷ ks → ms ≡ meanings p.objects (sight s) (grown ks) → sorts ≡ kids root.tok → a ≡ kid_at ms (length sorts) 0 → b ≡ kid_at ms (length sorts) 1
-    → StepsBy p (deed_step p s (deed_of (sight s) root.tok root.att a b)) byte new → StepsBy p (tree_step p s (grown w)) byte new
-root_steps p s w ks root ms sorts a b byte new e m k f g h =
+    → StepsBy p (deed_step p s (deed_of (sight s) root.tok root.att a b)) done new → StepsBy p (tree_step p s (grown w)) done new
+root_steps p s w ks root ms sorts a b done new e m k f g h =
     let at : (i : ℕ) → slice_get (meanings p.objects (sight s) (firsts (length (kids root.tok)) (grown ks))) i ≡ kid_at ms (length sorts) i =
     λ i.
     ap (λ (xs : List Meaning). slice_get xs i) (meanings-firsts p.objects (sight s) (length (kids root.tok)) (grown ks))
@@ -35,4 +36,4 @@ root_steps p s w ks root ms sorts a b byte new e m k f g h =
     ap (λ (v : List Leaf). tree_deed p.objects (sight s) (grown v)) e
     ∙ ap (λ (x : Option Meaning). deed_of (sight s) root.tok root.att x (slice_get (meanings p.objects (sight s) (firsts (length (kids root.tok)) (grown ks))) 1)) (at 0 ∙ sym f)
     ∙ ap (deed_of (sight s) root.tok root.att a) (at 1 ∙ sym g) in
-    subst (λ (d : Deed). StepsBy p (deed_step p s d) byte new) (sym deed) h
+    subst (λ (d : Deed). StepsBy p (deed_step p s d) done new) (sym deed) h

@@ -1,9 +1,9 @@
 -- The answers of a run of trees, one after another.
-use Rattle.std.specs.Prelude.{◌≡◌, ℕ, zero, suc, ◌≤◌, List, [], ◌∷◌, Option, Some, None, Bool}
-use Rattle.gg_base.specs.declared.run.End.TheVariants as ends
+use Rattle.std.specs.Prelude.{◌≡◌, ℕ, zero, suc, ◌≤◌, List, [], ◌∷◌, Option, Some, None, Bool, false}
+use Rattle.gg_base.specs.declared.run.End.{End}
 use Rattle.gg_base.specs.declared.run.SourceTurn.{SourceTurn}
 use Rattle.gg_base.specs.declared.run.SourceTurn.TheVariants as turns
-use Rattle.gg_base.specs.Runs.{Outcome, Remaining, AdvancesBy}
+use Rattle.gg_base.specs.Runs.{Remaining, AdvancesBy}
 use Rattle.gg_base.specs.Turns.{Turns, counted_from, turn_of}
 use Rattle.tree_core.specs.declared.program.TreeProgram.{TreeProgram}
 use Rattle.tree_core.specs.Trees.{grown}
@@ -52,20 +52,20 @@ tree_answers program input n = answers program n (first_at program input)
 
 -- ---- what is still to come of it
 
--- at none where it was answered that the number is used up
-abbrev pub answers_at : TreeProgram → Option Next → ℕ → List SourceTurn
-answers_at program None left = turns.Spent ∷ []
-answers_at program (Some x) left = answers program left x
-
-abbrev pub to_come : TreeProgram → Option Next → ℕ → Outcome
-to_come program None left = ended ends.Spent
-to_come program (Some x) left = run program left x
-
-abbrev pub turns_at : TreeProgram → Option Next → ℕ → ℕ → Bool → Turns
-turns_at program at left taken failed =
+-- of a run that goes on from there
+abbrev pub turns_at : TreeProgram → Next → ℕ → ℕ → Turns
+turns_at program x left taken =
     record {
-      answers = answers_at program at left;
-      remaining = record { outcome = counted_from taken (to_come program at left); taken = taken; failed = failed };
+      answers = answers program left x;
+      remaining = record { outcome = counted_from taken (run program left x); taken = taken; failed = false };
+    }
+
+-- of one that stands still: its answer is given again and again
+abbrev pub still : SourceTurn → End → ℕ → Bool → Turns
+still t e taken failed =
+    record {
+      answers = t ∷ [];
+      remaining = record { outcome = counted_from taken (ended e); taken = taken; failed = failed };
     }
 
 -- the run goes on behind the answer

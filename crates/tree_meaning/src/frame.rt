@@ -35,18 +35,6 @@ impl<'a> Frame<'a> {
         }
     }
 
-    /// No call: no items, and nothing else.
-    pub(crate) fn none(alloc: Global) -> Frame<'a> {
-        Frame {
-            code: &[],
-            rest: &[],
-            locals: Vec::new(alloc),
-            arguments: Vec::new(alloc),
-            pushed: Vec::new(alloc),
-            result: 0,
-        }
-    }
-
     /// Writes a local.
     pub(crate) fn set_local(&mut self, number: u32, value: u32) -> Result<(), AllocError>
         ensures { OnOk result (activation self.new ≡ record (activation self.old)

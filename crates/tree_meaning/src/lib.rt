@@ -5,6 +5,7 @@ mod acts;
 mod frame;
 pub mod laws;
 mod machine;
+mod progress;
 mod reading;
 mod run;
 mod value;

@@ -5,10 +5,12 @@ ghost use Rattle.gg_base.specs.Runs.{OneEnd};
 ghost use Rattle.gg_base.specs.Turns.{Answers};
 ghost use Rattle.tree_meaning.specs.Meaning.{tree_run};
 ghost use Rattle.tree_meaning.specs.Turns.{AdvancesTrees, tree_answers};
+ghost use Rattle.tree_meaning.specs.View.{stage_by};
 
 use crate::machine::Machine;
+use crate::progress::Progress;
 use gg_base::laws::lasting_is_enough;
-use gg_base::{NoMemory, SourceTurn};
+use gg_base::{Finish, NoMemory, SourceTurn};
 use std::alloc::Global;
 use std::marker::Model;
 use tree_core::TreeProgram;
@@ -16,12 +18,30 @@ use tree_core::TreeProgram;
 /// A run of a tree program that still goes on, or is over.
 #[derive(Drop)]
 pub struct TreeRun<'a> {
-    machine: Machine<'a>,
+    stage: Stage<'a>,
     left: u64,
     taken: u64,
-    spent: bool,
-    failed: bool,
     alloc: Global,
+}
+
+// Whether a run goes on; it doesn't at an end, once the number is used up, or once memory was wanting.
+#[derive(Drop)]
+enum Stage<'a> {
+    Going(Machine<'a>),
+    Over(Finish),
+    Spent,
+    Failed,
+}
+
+impl<'a> Stage<'a> {
+    // Over, if the run has come to its end.
+    fn follow(&mut self, done: Progress)
+        ensures { self.new ≡ stage_by done self.old }
+    {
+        if let Progress::Ends(end) = done {
+            *self = Stage::Over(end);
+        }
+    }
 }
 
 impl<'a> Model for TreeRun<'a> {
@@ -32,7 +52,7 @@ impl<'a> Model for TreeRun<'a> {
 
     ghost use Rattle.tree_meaning.specs.View.{turns_of};
 
-    ghost view = { λ r. turns_of r.machine r.left r.taken r.spent r.failed };
+    ghost view = { λ r. turns_of r.stage r.left r.taken };
 
     ghost invariant = { λ r. r.taken + r.left < 2 ^ 64 };
 }
@@ -55,13 +75,14 @@ impl<'a> TreeRun<'a> {
         ensures one_end { OneEnd (tree_run program.now input.now) }
     {
         lasting_is_enough();
-        let machine = Machine::new(alloc, program, input)?;
+        let stage = match Machine::new(alloc, program, input)? {
+            Some(machine) => Stage::Going(machine),
+            None => Stage::Over(Finish::Wild),
+        };
         Ok(TreeRun {
-            machine,
+            stage,
             left: n,
             taken: 0,
-            spent: false,
-            failed: false,
             alloc,
         })
     }
@@ -75,25 +96,30 @@ impl<'a> TreeRun<'a> {
         ensures stays { self.old.remaining.failed ≡ true → IsErr result }
         ensures within { self.new.remaining.taken ≤ self.new.remaining.outcome.number }
     {
-        if self.failed {
-            return Err(NoMemory);
-        }
-        if self.spent {
-            return Ok(SourceTurn::Spent);
-        }
-        let Some(leaves) = self.machine.arrive() else {
-            return Ok(self.machine.turn(None));
+        let machine = match &mut self.stage {
+            Stage::Going(machine) => machine,
+            Stage::Over(end) => return Ok(end.turn()),
+            Stage::Spent => return Ok(SourceTurn::Spent),
+            Stage::Failed => return Err(NoMemory),
+        };
+        let leaves = match machine.arrive() {
+            Ok(leaves) => leaves,
+            Err(end) => {
+                self.stage = Stage::Over(end);
+                return Ok(end.turn());
+            }
         };
         if self.left == 0 {
-            self.spent = true;
+            self.stage = Stage::Spent;
             return Ok(SourceTurn::Spent);
         }
-        let Ok(written) = self.machine.step(self.alloc, leaves) else {
-            self.failed = true;
+        let Ok(done) = machine.step(self.alloc, leaves) else {
+            self.stage = Stage::Failed;
             return Err(NoMemory);
         };
         self.left -= 1;
         self.taken += 1;
-        Ok(self.machine.turn(written))
+        self.stage.follow(done);
+        Ok(done.turn())
     }
 }
