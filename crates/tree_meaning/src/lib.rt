@@ -1,7 +1,7 @@
 //! What tree programs do.
 #![tactic(auto)]
 
-mod acts;
+mod effects;
 mod frame;
 pub mod laws;
 mod machine;
