@@ -118,10 +118,8 @@ pub fn spell(
         zeros: 0,
         links: o.links.as_slice(),
     };
-    let mut at = 0;
-    for b in o.bytes.as_slice() {
-        state = state.step(alloc, objects, at, *b, items)?;
-        at += 1;
+    for (at, b) in o.bytes.as_slice().iter().enumerate() {
+        state = state.step(alloc, objects, at as u32, *b, items)?;
     }
     end_zeros(items, state.zeros)
 }
