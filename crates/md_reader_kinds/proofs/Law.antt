@@ -1,6 +1,6 @@
 -- Each line's kind is the first of its row.
 use Rattle.std.proofs.Common.{◌≡◌, ℕ, ◌==◌, Bool, true, false, List, [], ◌∷◌, length, Option, Some, None, refl, ap, ◌∙◌}
-use Rattle.std.specs.Prelude.{Result, Ok, Err, codes, nat_le, not, ◌||◌, if◌then◌else◌}
+use Rattle.std.specs.Prelude.{is_none, is_some, Result, Ok, Err, codes, nat_le, not, ◌||◌, if◌then◌else◌}
 use Rattle.tree_core.specs.declared.token.Sort.{Sort}
 use Rattle.md_reader_pieces.specs.declared.piece.Piece.{Piece}
 use Rattle.md_reader_pieces.specs.Pieces.{text_of, pieces}
@@ -29,7 +29,7 @@ use Rattle.md_reader.specs.Steps.{step, step_at}
 use Rattle.std.specs.Option.{option_map}
 use Rattle.md_reader_kinds.specs.Sayings.{Saying, Head, NewClass, Spill, NewRule, If, Do, Giving, head_if, spill_said}
 use Rattle.md_reader_kinds.specs.Sayings.{class_said, do_said, if_said, said_at}
-use Rattle.md_reader_kinds.specs.Table.{is_none, is_some, fails, lacks, bad_operand, bad_give, wrong_sorts}
+use Rattle.md_reader_kinds.specs.Table.{fails, lacks, bad_operand, bad_give, wrong_sorts}
 use Rattle.md_reader_kinds.specs.Table.{wrong_sort, Row, row, rows, first, kind_of, FirstKindIsAnswered}
 
 module _ (s : State) (n : ℕ) (z : Bool) where

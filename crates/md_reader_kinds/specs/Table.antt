@@ -1,6 +1,6 @@
 -- The table of kinds: what may be wrong with a line at the point where it stands, in the order in which it is answered.
 use Rattle.std.specs.Prelude.{◌≡◌, ℕ, ◌||◌, not, nat_le, Bool, true, false, List, [], ◌∷◌, length, Option, Some, None}
-use Rattle.std.specs.Prelude.{Result, Ok, Err, if◌then◌else◌}
+use Rattle.std.specs.Prelude.{is_none, is_some, Result, Ok, Err, if◌then◌else◌}
 use Rattle.tree_core.specs.declared.token.Sort.{Sort}
 use Rattle.md_reader_pieces.specs.Pieces.{pieces}
 use Rattle.md_reader.specs.declared.types.Class.{Class}
@@ -19,14 +19,6 @@ use Rattle.md_reader.specs.State.{State}
 use Rattle.md_reader.specs.HeadSteps.{has_stmt}
 use Rattle.md_reader.specs.Steps.{line_step}
 use Rattle.md_reader_kinds.specs.Sayings.{Saying, Head, NewClass, Spill, NewRule, If, Do, Giving, said}
-
-abbrev pub is_none : {A : Type 0} → Option A → Bool
-is_none None = true
-is_none (Some a) = false
-
-abbrev pub is_some : {A : Type 0} → Option A → Bool
-is_some None = false
-is_some (Some a) = true
 
 -- there is one, and it fails
 abbrev pub fails : {A : Type 0} → (A → Bool) → Option A → Bool
