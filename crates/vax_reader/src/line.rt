@@ -9,11 +9,9 @@ use crate::address::{addr, copy_of, owned};
 use crate::fronts::{from_one, name, strip, up_to};
 use crate::instr::instr;
 use crate::line_fault::LineFault;
+use gg_base::limits::AREA_LIMIT;
 use std::alloc::Global;
 use vax_core::{AreaItem, CodeItem};
-
-/// The longest `.space`, which is the longest data area.
-const SPACE_LIMIT: u32 = 1_048_576;
 
 /// The greatest entry mask, which names r0 to r11.
 const MASK_LIMIT: u32 = 4095;
@@ -48,7 +46,7 @@ fn counted(bytes: &[u8]) -> Option<(AreaItem, &[u8])>
         return Some((AreaItem::Byte(n as u8), rest));
     }
     if let Some(rest) = strip(b"\t.space\t", bytes) {
-        let (n, rest) = from_one(SPACE_LIMIT, rest)?;
+        let (n, rest) = from_one(AREA_LIMIT, rest)?;
         let rest = strip(b"\n", rest)?;
         return Some((AreaItem::Space(n), rest));
     }
