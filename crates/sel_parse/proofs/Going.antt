@@ -1,7 +1,7 @@
 -- The steps over the tables are those of the parse over whole stacks.
 use Rattle.std.proofs.Common.{◌≡◌, ◌⊎◌, inl, inr, ℕ, ◌+◌, ◌-◌, ◌<◌, ◌≤◌, ◌==◌, List, [], ◌∷◌, ◌++◌, Option, Some, None, Bool, true, false, Contains, length, get_or, set, take}
 use Rattle.std.proofs.Common.{drop, replicate, slice_get, refl, sym, ap, ◌∙◌, subst, arith, length-drop}
-use Rattle.std.specs.Prelude.{Result, Ok, Err, map, if◌then◌else◌}
+use Rattle.std.specs.Prelude.{Result, Ok, Err, map, ◌||◌, if◌then◌else◌}
 use Rattle.std.specs.Option.{option_map}
 use Rattle.std.proofs.lemmas.List.{length-replicate}
 use Rattle.tree_core.specs.declared.token.Tok.{Tok}
@@ -207,7 +207,7 @@ module _ {O I S F : Type 0} (of : Meaning O I S F) (q : TreeProgram) (t : TableV
       others z = taken asked rules ns z
 
       tests : (b c : Bool) → chosen (takes of q t.content first x) (map choice.Reduce ns) ≡ option_map choice.Reduce (others (Some x)).rule
-          → or_later (code.or_else b c) n (chosen (takes of q t.content first x) (map choice.Reduce ns))
+          → or_later (b || c) n (chosen (takes of q t.content first x) (map choice.Reduce ns))
           ≡ option_map choice.Reduce
           (if b then record { rule = Some n; kept = Some x } else if c then record { rule = Some n; kept = Some x } else others (Some x)).rule
       tests true c go = refl

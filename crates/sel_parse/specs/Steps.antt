@@ -1,6 +1,6 @@
 -- The parse as the code computes it by the tables, step by step.
 use Rattle.std.specs.Prelude.{◌≡◌, ◌⊎◌, ℕ, ◌+◌, ◌-◌, ◌==◌, nat_lt, List, [], ◌∷◌, ◌++◌, Option, Some, None, Bool, true}
-use Rattle.std.specs.Prelude.{false, length, take, replicate, slice_get, slice_index_or, slice_set, if◌then◌else◌}
+use Rattle.std.specs.Prelude.{false, length, take, replicate, slice_get, slice_index_or, slice_set, ◌||◌, if◌then◌else◌}
 use Rattle.tree_core.specs.declared.token.Tok.{Tok}
 use Rattle.tree_core.specs.declared.token.Tok.TheVariants as tok
 use Rattle.tree_core.specs.declared.tree.Leaf.{Leaf}
@@ -107,14 +107,11 @@ reduced_turn t c r (Done x) =
     let below = take (length c.states - length r.right) c.states in
     placed c below r x (target_at t (top_of below) (grammar_symbol.Class r.left))
 
-abbrev pub or_else : Bool → Bool → Bool
-or_else b c = if b then true else c
-
 module _ {O I S F : Type 0} (of : Meaning O I S F) (q : TreeProgram) (d : Content) (first : ℕ) where
   -- a rule is taken that isn't restricted, or whose restrictions hold
   abbrev pub takes_rule : Stack O I → Option Rule → Bool
   takes_rule x None = false
-  takes_rule x (Some r) = or_else (length r.restrictions == 0) (answered (selecting of q d first) r (Some x))
+  takes_rule x (Some r) = (length r.restrictions == 0) || answered (selecting of q d first) r (Some x)
 
   abbrev pub takes : Stack O I → ℕ → Bool
   takes x n = takes_rule x (slice_get d.rules n)
