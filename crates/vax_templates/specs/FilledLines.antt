@@ -1,6 +1,6 @@
 -- Lines of templates with their holes filled.
 -- This is how the code computes it; that instructions do so is the law vax_is_lawful of vax_target_laws.
-use Rattle.std.specs.Prelude.{ℕ, ◌-◌, ◌==◌, List, [], ◌∷◌, ◌++◌, map, take, length, slice_get, Option, Some, None, if◌then◌else◌, codes}
+use Rattle.std.specs.Prelude.{ℕ, ◌-◌, ◌==◌, List, [], ◌∷◌, map, take, length, slice_get, Option, Some, None, if◌then◌else◌, codes}
 use Rattle.std.specs.Option.{option_map, option_or}
 use Rattle.gg_base.specs.declared.relation.Rel.{Rel}
 use Rattle.gg_base.specs.declared.relation.Rel.TheVariants as relations
@@ -8,7 +8,7 @@ use Rattle.tree_core.specs.declared.tree.Att.{Att}
 use Rattle.tree_core.specs.declared.tree.Att.TheVariants as att
 use Rattle.tree_core.specs.declared.program.TreeFn.{TreeFn}
 use Rattle.tree_core.specs.declared.program.TreeProgram.{TreeProgram}
-use Rattle.tree_core.specs.Names.{label_name}
+use Rattle.tree_core.specs.Names.{label_name, function_label}
 use Rattle.md_reader_pieces.specs.declared.piece.Piece.{Piece}
 use Rattle.sel_target.specs.declared.attr.Attr.{Attr}
 use Rattle.sel_target.specs.declared.attr.Attr.TheVariants as attr
@@ -76,7 +76,7 @@ abbrev pub service_name : ℕ → List ℕ
 service_name n = if n == 0 then codes "_putchar" else codes "_getchar"
 
 abbrev pub function_name : Option TreeFn → ℕ → List ℕ
-function_name (Some f) service = codes "_" ++ f.name
+function_name (Some f) service = function_label f.name
 function_name None service = service_name service
 
 abbrev pub callee_name : TreeProgram → ℕ → List ℕ
