@@ -5,6 +5,7 @@ use Rattle.std.specs.List.{All, list_all}
 use Rattle.gg_base.specs.Names.{is_name_part}
 use Rattle.tree_core.specs.declared.program.Object.{Object}
 use Rattle.tree_core.specs.Area.{HoldsAddress}
+use Rattle.tree_core.specs.Names.{function_label}
 
 -- `_` before a global variable's name, `S` before a literal's number, `T` before a static local's
 abbrev pub is_label_start : ℕ → Bool
@@ -15,10 +16,6 @@ abbrev pub is_label : List ℕ → Bool
 is_label [] = false
 is_label (c ∷ cs) = is_label_start c && (nat_le (length cs) 63 && list_all is_name_part cs)
 
--- the label of a function or service
-abbrev pub entry_label : List ℕ → List ℕ
-entry_label name = 95 ∷ name
-
 abbrev pub HoldsAddresses : List Object → Object → Type 0
 HoldsAddresses os o = All (HoldsAddress os o.bytes) o.links
 
@@ -28,7 +25,7 @@ pub record AreLabelled (os : List Object) (names : List (List ℕ)) : Type 0 whe
   pub differ : (i j : ℕ) (o p : Object) → slice_get os i ≡ Some o → slice_get os j ≡ Some p → o.label ≡ p.label → i ≡ j
   pub spelled : (i : ℕ) (o : Object) → slice_get os i ≡ Some o → is_label o.label ≡ true
   pub functions : (i f : ℕ) (o : Object) (name : List ℕ) → slice_get os i ≡ Some o → slice_get names f ≡ Some name
-      → o.label ≢ entry_label name
-  pub putchar : (i : ℕ) (o : Object) → slice_get os i ≡ Some o → o.label ≢ entry_label (codes "putchar")
-  pub getchar : (i : ℕ) (o : Object) → slice_get os i ≡ Some o → o.label ≢ entry_label (codes "getchar")
+      → o.label ≢ function_label name
+  pub putchar : (i : ℕ) (o : Object) → slice_get os i ≡ Some o → o.label ≢ function_label (codes "putchar")
+  pub getchar : (i : ℕ) (o : Object) → slice_get os i ≡ Some o → o.label ≢ function_label (codes "getchar")
   pub addresses : All (HoldsAddresses os) os

@@ -16,13 +16,14 @@ use Rattle.tree_core.specs.declared.program.Link.{Link}
 use Rattle.tree_core.specs.Valid.{is_aligned, is_whole, is_placed, rounded, object_lies}
 use Rattle.tree_core.proofs.Validity.{rounded_up}
 use Rattle.tree_core.specs.Area.{HoldsAddress}
+use Rattle.tree_core.specs.Names.{function_label}
 use Rattle.c_tokens.proofs.NameParts.{letters_are_parts}
 use Rattle.c_typed_scope.specs.declared.entry.Entry.{Entry}
 use Rattle.c_typed_scope.specs.declared.entry.Entry.TheVariants as entries
 use Rattle.c_typed_scope.specs.Scopes.{Scope, find}
 use Rattle.c_typed_scope.proofs.Written.{low_is}
 use Rattle.c_program.specs.Programs.{ARoutine}
-use Rattle.c_sound.specs.Labels.{is_label_start, is_label, entry_label, HoldsAddresses, AreLabelled}
+use Rattle.c_sound.specs.Labels.{is_label_start, is_label, HoldsAddresses, AreLabelled}
 use Rattle.c_typed_definition.specs.State.{State}
 use Rattle.c_typed_words.specs.Words.{IsName}
 use Rattle.c_sound_bodies.proofs.Objects.{IsVariable}
@@ -54,7 +55,7 @@ not_function (entries.Variable t v) f is a b = subst IsFunctionEntry (sym is) b
 not_function (entries.Array t v size) f is a b = subst IsFunctionEntry (sym is) b
 not_function (entries.Function n) f is a b = a
 
-no_function : (s : State) (name x : List ℕ) → NamesFunction s.scope name → IsLabel s x → x ≢ entry_label name
+no_function : (s : State) (name x : List ℕ) → NamesFunction s.scope name → IsLabel s x → x ≢ function_label name
 no_function s name x f (Numbered new) e = not_named start s.area name x new (sym e)
 no_function s name x f (Variable n e is_name found variable is) same =
     let names : n ≡ name = tail_same 95 95 n name (sym is ∙ same) in
