@@ -3,6 +3,7 @@ use Rattle.std.proofs.Common.{◌≡◌, ℕ, zero, suc, ◌+◌, Bool, true, fa
 use Rattle.std.proofs.Common.{if◌then◌else◌, length, ◌*◌}
 use Rattle.std.proofs.lemmas.Bool.{ltb-false}
 use Rattle.std.specs.Prelude.{is_some}
+use Rattle.gg_base.proofs.Facts.{ok_same}
 use Rattle.tree_core.specs.declared.program.Object.{Object}
 use Rattle.c_phrases.specs.declared.operator.Spec.{Spec}
 use Rattle.c_phrases.specs.declared.operator.Storage.{Storage}
@@ -63,14 +64,8 @@ pub record IsLaid (a : Area) : Type 0 where
 record Leaves {R : Type 0} (P : Type 0) (Q : R → Type 0) (m : Result R Fault) : Type 0 where
   pub leaves : (r : R) → m ≡ Ok r → P → Q r
 
-abbrev fine : {A : Type 0} → A → Result A Fault
-fine x = Ok x
-
-same_answer : {R : Type 0} (x y : R) → fine x ≡ Ok y → x ≡ y
-same_answer x y e = cc
-
 leave_ok : {R : Type 0} (P : Type 0) (Q : R → Type 0) (x : R) → (P → Q x) → Leaves P Q (Ok x)
-leave_ok P Q x h = record { leaves = λ r e p. subst Q (same_answer x r e) (h p) }
+leave_ok P Q x h = record { leaves = λ r e p. subst Q (ok_same x r e) (h p) }
 
 leave_bad : {R : Type 0} (P : Type 0) (Q : R → Type 0) (f : Fault) → Leaves P Q (Err f)
 leave_bad P Q f = record { leaves = λ r e p. absurd (cc) }

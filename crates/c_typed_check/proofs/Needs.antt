@@ -1,6 +1,7 @@
 -- Each function of a typed text keeps its own frame need.
 use Rattle.std.proofs.Common.{◌≡◌, ℕ, zero, suc, ◌+◌, ◌<◌, false, List, [], ◌∷◌, ◌++◌, length, map, get_or, refl, ap, sym, subst, ◌∙◌, Option, Some, None, Result, Ok, Err, arith}
 use Rattle.std.specs.Prelude.{slice_get, is_some}
+use Rattle.gg_base.proofs.Facts.{ok_same}
 use Rattle.c_phrases.specs.declared.operator.Spec.{Spec}
 use Rattle.c_phrases.specs.Units.{SomeItems, AFunction, ADeclared, function, globals, AnExternal, AUnit}
 use Rattle.c_types.specs.declared.types.CType.{CType}
@@ -24,6 +25,7 @@ use Rattle.c_typed_definition.specs.Texts.{empty_text}
 use Rattle.c_typed_law.proofs.Law.{text_means}
 use Rattle.c_typed_law.proofs.Declared.{declared_bodies}
 use Rattle.c_typed_check.specs.Typed.{IsTypedUnit, need_in, need_at}
+use Rattle.c_typed_check.proofs.Texts.{fine}
 
 pub record KeepsNeed (r : ARoutine) : Type 0 where
   pub need_is : r.need ≡ need_of r.locals r.body
@@ -45,12 +47,6 @@ record Bound {A B : Type 0} (m : Result A Fault) (k : A → Result B Fault) (y :
 bound : {A B : Type 0} (m : Result A Fault) (k : A → Result B Fault) (y : B) → (m >>= k) ≡ Ok y → Bound m k y
 bound (Ok x) k y e = record { part = x; is = refl; rest = e }
 bound (Err f) k y e = absurd (cc)
-
-abbrev fine : {A : Type 0} → A → Result A Fault
-fine x = Ok x
-
-ok_same : {A : Type 0} (x y : A) → fine x ≡ Ok y → x ≡ y
-ok_same x y e = cc
 
 module _ (names : List (List ℕ × Entry)) (signatures : List Signature) where
   body_keeps : (spec : Spec) (f : AFunction) (row : Option SomeItems) (s : State) (t u : Text) → type_body names signatures spec f row s t ≡ Ok u → AllKeep t.bodies → AllKeep u.bodies

@@ -22,7 +22,8 @@ use Rattle.c_typed_definition.specs.Headings.{Text}
 use Rattle.c_typed_definition.specs.Texts.{empty_text, type_text, type_globals, type_external}
 use Rattle.c_typed_definition.specs.Texts.{type_externals, is_main, behind, main_of}
 
-abbrev fine : {A : Type 0} → A → Result A Fault
+-- an answer that is no fault of types
+abbrev pub fine : {A : Type 0} → A → Result A Fault
 fine x = Ok x
 
 pub known_step : (es : List External) (i : ℕ) (e d : External) (k next : Known) → i < length es → e ≡ get_or es i d → fine (known_with (external_of e) k) ≡ Ok next
