@@ -1,6 +1,6 @@
 -- The names in operands of templates with their holes filled are objects' labels.
 use Rattle.std.proofs.Common.{◌≡◌, ℕ, zero, suc, ◌-◌, ◌==◌, List, [], ◌∷◌, Option, Some, None, Bool, true, false, cond, refl, ap}
-use Rattle.std.specs.Prelude.{nat_lt, nat_le, is_none, slice_get}
+use Rattle.std.specs.Prelude.{nat_lt, nat_le, is_none, slice_get, unwrap_or}
 use Rattle.std.specs.List.{AllByRecursion as All}
 use Rattle.gg_base.proofs.Facts.{none_is as is_none_is}
 use Rattle.tree_core.specs.declared.token.Tok.{Tok}
@@ -25,7 +25,7 @@ use Rattle.vax_templates.specs.declared.form.Base.TheVariants as base
 use Rattle.vax_templates.specs.declared.form.Base.{Base as FormBase}
 use Rattle.vax_templates.specs.declared.form.Form.{Form}
 use Rattle.vax_templates.specs.Instructions.{shape_of_pieces}
-use Rattle.vax_templates.specs.Filled.{spare, attr_or, attr_at, label_of, addr_of_att, addr_in, number_addr, word_operand, slot_operand, argument_deferred, slot_deferred}
+use Rattle.vax_templates.specs.Filled.{spare, attr_at, label_of, addr_of_att, addr_in, number_addr, word_operand, slot_operand, argument_deferred, slot_deferred}
 use Rattle.vax_templates.specs.Filled.{leaf_operand, operand_in, leaf_deferred, deferred_in, filled_base, with_index, filled, filled_or_spare}
 use Rattle.vax_templates.specs.FilledLines.{label_of_att}
 use Rattle.vax_target_meaning.specs.Vax.{vax}
@@ -146,7 +146,7 @@ module _ (q : TreeProgram) (area : List AreaItem) (code : List CodeItem) where
 
     -- ---- holes
 
-    get_good : (holes : List (Attr Operand)) (n : ℕ) (z : Attr Operand) → All Good holes → Good z → Good (attr_or z (slice_get holes n))
+    get_good : (holes : List (Attr Operand)) (n : ℕ) (z : Attr Operand) → All Good holes → Good z → Good (unwrap_or (slice_get holes n) z)
     get_good [] zero z h k = k
     get_good [] (suc n) z h k = k
     get_good (a ∷ holes) zero z h k = h.0
@@ -157,7 +157,7 @@ module _ (q : TreeProgram) (area : List AreaItem) (code : List CodeItem) where
     either_good false x y h k = k
 
     pub at_good : (holes : List (Attr Operand)) (z : Attr Operand) (i : ℕ) → All Good holes → Good z → Good (attr_at holes z i)
-    at_good holes z i h k = either_good (i == 0) z (attr_or z (slice_get holes (i - 1))) k (get_good holes (i - 1) z h k)
+    at_good holes z i h k = either_good (i == 0) z (unwrap_or (slice_get holes (i - 1)) z) k (get_good holes (i - 1) z h k)
 
     base_named : (holes : List (Attr Operand)) (z : Attr Operand) (b : FormBase) → All Good holes → Good z → Named (filled_base q holes z b).base
     unfolding filled_base

@@ -1,5 +1,6 @@
 -- What a rule that gives a shape gives: the operand stands for it, and the rule's lines change nothing.
 use Rattle.std.proofs.Common.{◌≡◌, ℕ, zero, suc, ◌-◌, ◌==◌, Bool, true, false, cond, Option, Some, None, Ok, List, [], ◌∷◌, map, refl, sym, ap, subst, ◌∙◌, slice_get}
+use Rattle.std.specs.Prelude.{unwrap_or}
 use Rattle.std.specs.List.{AllByRecursion}
 use Rattle.std.proofs.lemmas.Option.{same_Some}
 use Rattle.gg_base.specs.declared.size.Size.{Size}
@@ -47,7 +48,7 @@ use Rattle.vax_templates.specs.Instructions.{shape_of_pieces}
 use Rattle.vax_templates.specs.HoleTerms.{constant_of}
 use Rattle.vax_templates.specs.Standing.{◌>>=◌}
 use Rattle.vax_templates.specs.GiveLines.{number_given, shape_given, shape_read, given_shape, given_by}
-use Rattle.vax_templates.specs.Filled.{attr_or, attr_at, addr_in, filled_or_spare}
+use Rattle.vax_templates.specs.Filled.{attr_at, addr_in, filled_or_spare}
 use Rattle.vax_templates.proofs.Judgements.{hole_front_is}
 use Rattle.vax_target_meaning.specs.Running.{course_of}
 use Rattle.vax_target_meaning.specs.Vax.{vax}
@@ -133,7 +134,7 @@ module _ (q : TreeProgram) (m : State) where
   all_numbered classes (x ∷ right) [] f = absurd f
   all_numbered classes (x ∷ right) (h ∷ hs) f = (symbol_numbered classes x h f.0, all_numbered classes right hs f.1)
 
-  numbered_nth : (roles : List Hole) (hs : List (Attr Operand)) (k : ℕ) → AllNumbered roles hs → Numbered (hole_or_other (slice_get roles k)) (attr_or attr.Nothing (slice_get hs k))
+  numbered_nth : (roles : List Hole) (hs : List (Attr Operand)) (k : ℕ) → AllNumbered roles hs → Numbered (hole_or_other (slice_get roles k)) (unwrap_or (slice_get hs k) attr.Nothing)
   numbered_nth [] [] k h = tt
   numbered_nth [] (a ∷ hs) k h = absurd h
   numbered_nth (x ∷ roles) [] k h = absurd h
@@ -142,7 +143,7 @@ module _ (q : TreeProgram) (m : State) where
 
   role_numbered : (roles : List Hole) (hs : List (Attr Operand)) (i : ℕ) → AllNumbered roles hs → Numbered (hole_at roles i) (attr_at hs attr.Nothing i)
   role_numbered roles hs i h = by (i == 0) where
-    by : (b : Bool) → Numbered (cond b hole_kind.Other (hole_or_other (slice_get roles (i - 1)))) (cond b attr.Nothing (attr_or attr.Nothing (slice_get hs (i - 1))))
+    by : (b : Bool) → Numbered (cond b hole_kind.Other (hole_or_other (slice_get roles (i - 1)))) (cond b attr.Nothing (unwrap_or (slice_get hs (i - 1)) attr.Nothing))
     by true = tt
     by false = numbered_nth roles hs (i - 1) h
 

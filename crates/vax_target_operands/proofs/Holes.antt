@@ -1,6 +1,6 @@
 -- What a hole means, as a number, a register, or an operand.
 use Rattle.std.proofs.Common.{◌≡◌, ℕ, ◌-◌, ◌%◌, ◌^◌, ◌<◌, ◌==◌, Bool, true, false, cond, Option, Some, None, IsSome, Result, Ok, Err, refl, sym, ap, subst, ◌∙◌, arith}
-use Rattle.std.specs.Prelude.{slice_get}
+use Rattle.std.specs.Prelude.{slice_get, unwrap_or}
 use Rattle.std.specs.List.{AllByRecursion}
 use Rattle.gg_base.specs.declared.size.Size.{Size}
 use Rattle.gg_base.specs.declared.size.Size.TheVariants.{Long}
@@ -36,7 +36,7 @@ use Rattle.vax_templates.specs.Standing.{Where, Register, OwnRegister, Value, Pl
 use Rattle.vax_templates.specs.Standing.{where_own, where_hole, where_deferred}
 use Rattle.vax_templates.specs.HoleTerms.{constant_of, address_of, absolute_term, number_term, own_value, register_of}
 use Rattle.vax_templates.specs.HoleTerms.{register_term}
-use Rattle.vax_templates.specs.Filled.{alone, addr_number, attr_or, numbered, register_in, addr_in, number_addr, operand_in, deferred_in}
+use Rattle.vax_templates.specs.Filled.{alone, addr_number, numbered, register_in, addr_in, number_addr, operand_in, deferred_in}
 use Rattle.vax_core.specs.declared.register.Reg.TheVariants.{Fp}
 use Rattle.vax_core.specs.Homes.{home, word_addr}
 use Rattle.vax_target_meaning.specs.Reading.{named, names, reads, displaced}
@@ -299,11 +299,11 @@ module _ (c : Scene) (zero : Option Shape) (m : State) (h : Sees c zero m) where
   pub register_is : (i : ℕ) (t : Shape) → (is_lost c zero ≡ true → is_operand (role_at c i) ≡ false) →
       register_term c.setting c.roles zero i ≡ Ok t → reg m (register_in (filling_at c i)) ≡ worth c t
   register_is i t free e = by (i == 0) (h.means i free) e where
-    by : (b : Bool) → Means c m (cond b hole_kind.Other (hole_or_other (slice_get c.roles (i - 1)))) i (cond b c.own (attr_or c.own (slice_get c.holes (i - 1)))) →
+    by : (b : Bool) → Means c m (cond b hole_kind.Other (hole_or_other (slice_get c.roles (i - 1)))) i (cond b c.own (unwrap_or (slice_get c.holes (i - 1)) c.own)) →
         cond b (own_value c.setting.own zero) (register_of (cond b hole_kind.Other (hole_or_other (slice_get c.roles (i - 1)))) i) ≡ Ok t →
-        reg m (register_in (cond b c.own (attr_or c.own (slice_get c.holes (i - 1))))) ≡ worth c t
+        reg m (register_in (cond b c.own (unwrap_or (slice_get c.holes (i - 1)) c.own))) ≡ worth c t
     by true k e = own_held c m c.setting.own zero t h.holds e
-    by false k e = register_known c m (hole_or_other (slice_get c.roles (i - 1))) i t (attr_or c.own (slice_get c.holes (i - 1))) k e
+    by false k e = register_known c m (hole_or_other (slice_get c.roles (i - 1))) i t (unwrap_or (slice_get c.holes (i - 1)) c.own) k e
 
   -- a hole alone, `%0` too
   pub alone_stands : (i : ℕ) (w : Where) (size : Size) → (is_lost c zero ≡ true → is_operand (role_at c i) ≡ false) →
@@ -311,6 +311,6 @@ module _ (c : Scene) (zero : Option Shape) (m : State) (h : Sees c zero m) where
   alone_stands i w size free e can = by (i == 0) refl e where
     by : (b : Bool) → (i == 0) ≡ b → cond b (where_own c.setting.own) (where_hole (role_at c i) i) ≡ Ok w → BaseStands c m w (operand_in c.program (filling_at c i)) size
     by true zero_is e =
-        subst (λ a. BaseStands c m w (operand_in c.program a) size) (sym (ap (λ b. cond b c.own (attr_or c.own (slice_get c.holes (i - 1)))) zero_is))
+        subst (λ a. BaseStands c m w (operand_in c.program a) size) (sym (ap (λ b. cond b c.own (unwrap_or (slice_get c.holes (i - 1)) c.own)) zero_is))
         (own_stands c m c.setting.own w size h.own_is e)
     by false zero_is e = hole_stands c m (role_at c i) i w size (h.means i free) e can

@@ -50,7 +50,7 @@ use Rattle.vax_templates.specs.declared.setting.Hole.TheVariants as hole_kind
 use Rattle.vax_templates.specs.declared.setting.Own.TheVariants as own
 use Rattle.vax_templates.specs.declared.setting.Opening.TheVariants as opening
 use Rattle.vax_templates.specs.Settings.{hole_of_token, hole_of_kind, hole_of, hole_or_other, own_of, opening_of, opening_by}
-use Rattle.vax_templates.specs.Filled.{spare, attr_or, numbered, label_of, word_operand, slot_operand, argument_deferred}
+use Rattle.vax_templates.specs.Filled.{spare, numbered, label_of, word_operand, slot_operand, argument_deferred}
 use Rattle.vax_target_meaning.specs.Reading.{named, moved, names, reads}
 use Rattle.vax_target_meaning.specs.Vax.{vax}
 use Rattle.vax_target_operands.specs.Scenes.{Scene, worth, role_at, filling_at, IsLocal, Names, IsNumber, IsObject, IsSavedLocal, Means, OwnIs, Sees}
@@ -300,8 +300,8 @@ mapped_at classes (s ∷ right) (suc j) = mapped_at classes right j
 pub role_is : (c : Scene) (j : ℕ) → role_at c (suc j) ≡ hole_or_other (slice_get c.roles j)
 role_is c j = ap (λ b. cond b hole_kind.Other (hole_or_other (slice_get c.roles (suc j - 1)))) (not_zero j) ∙ ap (λ k. hole_or_other (slice_get c.roles k)) (one_less j)
 
-pub filling_is : (c : Scene) (j : ℕ) → filling_at c (suc j) ≡ attr_or c.own (slice_get c.holes j)
-filling_is c j = ap (λ b. cond b c.own (attr_or c.own (slice_get c.holes (suc j - 1)))) (not_zero j) ∙ ap (λ k. attr_or c.own (slice_get c.holes k)) (one_less j)
+pub filling_is : (c : Scene) (j : ℕ) → filling_at c (suc j) ≡ unwrap_or (slice_get c.holes j) c.own
+filling_is c j = ap (λ b. cond b c.own (unwrap_or (slice_get c.holes (suc j - 1)) c.own)) (not_zero j) ∙ ap (λ k. unwrap_or (slice_get c.holes k) c.own) (one_less j)
 
 -- what stands for `%0` is a register where it has a value
 pub register_result : (g : Give) (hs : List (Attr Operand)) (a : Attr Operand) → own_of g ≡ own.Register → IsResult vax g hs a → (n : ℕ) × (a ≡ attr.Reg n) × (n < 12)
@@ -355,7 +355,7 @@ module _ (every : Bool) (q : TreeProgram) (f : Extent) (fs : List Extent) (class
       let sized : size_at classes rule.right (suc j) ≡ size_of_symbol classes s = size_behind classes rule.right j ∙ ap (size_of_some classes) is in
       subst (λ r. Means scene m r (suc j) (filling_at scene (suc j)))
       (sym (role_is scene j ∙ ap hole_or_other (mapped_at classes rule.right j ∙ ap (option_map (hole_of classes)) is)))
-      (subst (λ a. Means scene m (hole_of classes s) (suc j) a) (sym (filling_is scene j ∙ ap (attr_or res) x.at))
+      (subst (λ a. Means scene m (hole_of classes s) (suc j) a) (sym (filling_is scene j ∙ ap (λ (o : Option (Attr Operand)). unwrap_or o res) x.at))
       (symbol_means scene m (suc j) inst.agrees.labelled classes s x.attribute x.fits
       (hole_known (suc j) x.attribute (size_of_symbol classes s) x.at sized)
       (inst.whole (suc j) x.attribute x.at)

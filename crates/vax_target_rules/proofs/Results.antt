@@ -1,7 +1,7 @@
 -- A rule's lines leave its result in its register.
 use Rattle.std.proofs.Common.{◌≡◌, ℕ, zero, suc, ◌-◌, ◌<◌, ◌⊎◌, inl, inr, true, false, List, [], ◌∷◌, map, Option, Some, None, Ok}
 use Rattle.std.proofs.Common.{refl, sym, ap, subst, ◌∙◌, arith}
-use Rattle.std.specs.Prelude.{slice_get}
+use Rattle.std.specs.Prelude.{slice_get, unwrap_or}
 use Rattle.std.specs.Option.{option_map}
 use Rattle.std.proofs.lemmas.Option.{same_Some, none-some}
 use Rattle.gg_base.specs.declared.size.Size.TheVariants.{Long}
@@ -38,7 +38,7 @@ use Rattle.vax_templates.specs.Settings.{holes_of, setting_of, own_of, is_reuse,
 use Rattle.vax_templates.specs.Deeds.{Last, Plain, Compared, Tested, Returning, Ended}
 use Rattle.vax_templates.specs.Judging.{is_operand}
 use Rattle.vax_templates.specs.GiveLines.{left_value, last_deed, given_by}
-use Rattle.vax_templates.specs.Filled.{attr_or, register_in}
+use Rattle.vax_templates.specs.Filled.{register_in}
 use Rattle.vax_target_meaning.specs.Running.{course_of}
 use Rattle.vax_target_meaning.specs.Vax.{vax}
 use Rattle.vax_target_operands.specs.Scenes.{Scene, role_at, filling_at, Sees}
@@ -155,7 +155,7 @@ module _ (q : TreeProgram) (f : Extent) (fs : List Extent) (classes : List Class
         absurd (let x : false ≡ true = ap is_operand (sym role) ∙ op in cc)
     by (Some s) there =
         let x = filled_at classes rule.right hs j s ready.instance_of.holes_fit there in
-        ap (λ a. attr_touches vax a (RegAt (reg_number (register_in res)))) (filling_is scene j ∙ ap (attr_or res) x.at)
+        ap (λ a. attr_touches vax a (RegAt (reg_number (register_in res)))) (filling_is scene j ∙ ap (λ (o : Option (Attr Operand)). unwrap_or o res) x.at)
         ∙ ap (λ n. attr_touches vax x.attribute (RegAt n)) number_so
         ∙ avoids_at (RegAt reg_is.0) hs j x.attribute off x.at
 

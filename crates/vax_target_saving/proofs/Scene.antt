@@ -21,7 +21,7 @@ use Rattle.vax_machine.specs.State.{State}
 use Rattle.vax_templates.specs.declared.setting.Hole.{Hole}
 use Rattle.vax_templates.specs.declared.setting.Hole.TheVariants as hole_kind
 use Rattle.vax_templates.specs.Settings.{hole_or_other, hole_at, saved_hole, saved_setting}
-use Rattle.vax_templates.specs.Filled.{attr_or, attr_at}
+use Rattle.vax_templates.specs.Filled.{attr_at}
 use Rattle.vax_target_meaning.specs.Fitting.{fits, is_place}
 use Rattle.vax_target_meaning.specs.Reading.{named, moved, names}
 use Rattle.vax_target_meaning.specs.Vax.{vax}
@@ -44,10 +44,10 @@ module _ (q : TreeProgram) (k : Kind) (a res : Attr Operand) (v : View) (m : Sta
       ap (λ b. cond b hole_kind.Other (hole_or_other (slice_get (saved_hole k ∷ []) (suc j - 1)))) (not_zero j)
       ∙ ap (λ n. hole_or_other (slice_get (saved_hole k ∷ []) n)) (one_less j)
 
-  filling_is : (j : ℕ) → attr_at (a ∷ []) res (suc j) ≡ attr_or res (slice_get (a ∷ []) j)
+  filling_is : (j : ℕ) → attr_at (a ∷ []) res (suc j) ≡ unwrap_or (slice_get (a ∷ []) j) res
   filling_is j =
-      ap (λ b. cond b res (attr_or res (slice_get (a ∷ []) (suc j - 1)))) (not_zero j)
-      ∙ ap (λ n. attr_or res (slice_get (a ∷ []) n)) (one_less j)
+      ap (λ b. cond b res (unwrap_or (slice_get (a ∷ []) (suc j - 1)) res)) (not_zero j)
+      ∙ ap (λ n. unwrap_or (slice_get (a ∷ []) n) res) (one_less j)
 
   means : (i : ℕ) → Means the m (hole_at (saved_hole k ∷ []) i) i (attr_at (a ∷ []) res i)
   means zero = tt

@@ -1,6 +1,6 @@
 -- A symbol's own place keeps its operand, and a register that is given is a symbol's own.
 use Rattle.std.proofs.Common.{◌≡◌, ℕ, zero, suc, ◌-◌, ◌==◌, Bool, true, false, cond, Option, Some, None, Result, Ok, Err, List, [], ◌∷◌, refl, sym, ap, subst, ◌∙◌, slice_get}
-use Rattle.std.specs.Prelude.{is_none}
+use Rattle.std.specs.Prelude.{is_none, unwrap_or}
 use Rattle.vax_target_spelling.proofs.Shapes.{nth_is}
 use Rattle.gg_base.specs.declared.size.Size.{Size}
 use Rattle.gg_base.specs.declared.size.Size.TheVariants.{Byte, Long}
@@ -54,7 +54,7 @@ use Rattle.vax_templates.specs.GiveLines.{value_given, home_given, place_given, 
 use Rattle.vax_templates.specs.GiveLines.{shape_read, given_shape}
 use Rattle.vax_templates.specs.Dropped.{first_dropped, none_dropped}
 use Rattle.vax_templates.specs.Found.{with_divisors, checked, ended, template_found, found}
-use Rattle.vax_templates.specs.Filled.{attr_or, attr_at, operand_in, filled_base, with_index, filled, filled_or_spare, filled_operand}
+use Rattle.vax_templates.specs.Filled.{attr_at, operand_in, filled_base, with_index, filled, filled_or_spare, filled_operand}
 use Rattle.vax_templates.proofs.Judgements.{hole_front_is}
 use Rattle.vax_target_meaning.specs.Vax.{vax}
 use Rattle.vax_target_writing.proofs.Each.{EachOk, bind_each, if_ok, of_ok}
@@ -141,7 +141,7 @@ all_own q classes [] (h ∷ hs) f = absurd f
 all_own q classes (x ∷ right) [] f = absurd f
 all_own q classes (x ∷ right) (h ∷ hs) f = (symbol_owns q classes x h f.0, all_own q classes right hs f.1)
 
-owns_nth : (q : TreeProgram) (roles : List Hole) (hs : List (Attr Operand)) (k : ℕ) → AllOwn q roles hs → Owns q (hole_or_other (slice_get roles k)) (attr_or attr.Nothing (slice_get hs k))
+owns_nth : (q : TreeProgram) (roles : List Hole) (hs : List (Attr Operand)) (k : ℕ) → AllOwn q roles hs → Owns q (hole_or_other (slice_get roles k)) (unwrap_or (slice_get hs k) attr.Nothing)
 owns_nth q [] [] k h = tt
 owns_nth q [] (a ∷ hs) k h = absurd h
 owns_nth q (x ∷ roles) [] k h = absurd h
@@ -151,7 +151,7 @@ owns_nth q (x ∷ roles) (a ∷ hs) (suc k) h = owns_nth q roles hs k h.1
 -- what fills a hole
 pub filled_with : (hs : List (Attr Operand)) (i : ℕ) (h : Attr Operand) → hole hs i ≡ Some h → attr_at hs attr.Nothing i ≡ h
 filled_with hs zero h e = absurd (cc)
-filled_with hs (suc k) h e = nth_is hs k ∙ ap (attr_or attr.Nothing) e
+filled_with hs (suc k) h e = nth_is hs k ∙ ap (λ (o : Option (Attr Operand)). unwrap_or o attr.Nothing) e
 
 module _ (q : TreeProgram) (s : Setting) (roles : List Hole) (hs : List (Attr Operand)) (owns : AllOwn q roles hs) where
   -- a symbol's place stands for its own operand
@@ -166,7 +166,7 @@ module _ (q : TreeProgram) (s : Setting) (roles : List Hole) (hs : List (Attr Op
   -- the role of a symbol, and what fills it
   role_owns : (i : ℕ) → Owns q (hole_at roles i) (attr_at hs attr.Nothing i)
   role_owns i = by (i == 0) where
-    by : (b : Bool) → Owns q (cond b hole_kind.Other (hole_or_other (slice_get roles (i - 1)))) (cond b attr.Nothing (attr_or attr.Nothing (slice_get hs (i - 1))))
+    by : (b : Bool) → Owns q (cond b hole_kind.Other (hole_or_other (slice_get roles (i - 1)))) (cond b attr.Nothing (unwrap_or (slice_get hs (i - 1)) attr.Nothing))
     by true = tt
     by false = owns_nth q roles hs (i - 1) owns
 

@@ -1,6 +1,6 @@
 -- A shape touches nothing that none of its holes touches, and a hole alone is its symbol's place.
 use Rattle.std.proofs.Common.{◌≡◌, ℕ, zero, suc, ◌-◌, ◌<◌, ◌==◌, ◌||◌, Bool, true, false, cond, Option, Some, None, Result, Ok, Err, List, [], ◌∷◌, refl, sym, ap, subst, ◌∙◌, arith, slice_get}
-use Rattle.std.specs.Prelude.{nat_lt, nat_le}
+use Rattle.std.specs.Prelude.{nat_lt, nat_le, unwrap_or}
 use Rattle.std.specs.List.{list_any}
 use Rattle.gg_base.specs.declared.size.Size.{Size}
 use Rattle.gg_base.specs.declared.size.Size.TheVariants.{Byte, Long}
@@ -62,7 +62,7 @@ use Rattle.vax_templates.specs.GiveLines.{given_line, register_given, base_numbe
 use Rattle.vax_templates.specs.GiveLines.{value_given, place_given, without_index, shape_given, shape_read}
 use Rattle.vax_templates.specs.GiveLines.{given_shape}
 use Rattle.vax_templates.specs.Found.{ended, template_found, checked, with_divisors, found}
-use Rattle.vax_templates.specs.Filled.{alone, spare, numbered, register_in, attr_or, attr_at, addr_in, addr_number, number_addr, object_addr, word_operand, slot_operand}
+use Rattle.vax_templates.specs.Filled.{alone, spare, numbered, register_in, attr_at, addr_in, addr_number, number_addr, object_addr, word_operand, slot_operand}
 use Rattle.vax_templates.specs.Filled.{slot_deferred, argument_deferred, operand_in, deferred_in, filled_base, with_index, filled, filled_or_spare, filled_operand}
 use Rattle.vax_target_meaning.specs.Vax.{vax}
 use Rattle.vax_target_meaning.proofs.Own.{attr_alone}
@@ -268,14 +268,14 @@ all_tell q classes (x ∷ right) [] f = absurd f
 all_tell q classes (x ∷ right) (h ∷ hs) f = (symbol_tells q classes x h f.0, all_tell q classes right hs f.1)
 
 tells_nth : (q : TreeProgram) (hs' : List Hole) (hs : List (Attr Operand)) (k : ℕ) → AllTell q hs' hs →
-    Tells q (hole_or_other (slice_get hs' k)) (attr_or attr.Nothing (slice_get hs k))
+    Tells q (hole_or_other (slice_get hs' k)) (unwrap_or (slice_get hs k) attr.Nothing)
 tells_nth q [] [] k h = tt
 tells_nth q [] (a ∷ hs) k h = absurd h
 tells_nth q (x ∷ hs') [] k h = absurd h
 tells_nth q (x ∷ hs') (a ∷ hs) zero h = h.0
 tells_nth q (x ∷ hs') (a ∷ hs) (suc k) h = tells_nth q hs' hs k h.1
 
-any_nth : (s : Spot) (hs : List (Attr Operand)) (k : ℕ) → attr_touches vax (attr_or attr.Nothing (slice_get hs k)) s ≡ true → list_any (λ h. attr_touches vax h s) hs ≡ true
+any_nth : (s : Spot) (hs : List (Attr Operand)) (k : ℕ) → attr_touches vax (unwrap_or (slice_get hs k) attr.Nothing) s ≡ true → list_any (λ h. attr_touches vax h s) hs ≡ true
 any_nth s [] k e = absurd (false≢true e)
 any_nth s (h ∷ hs) zero e = or_left (attr_touches vax h s) (list_any (λ g. attr_touches vax g s) hs) e
 any_nth s (h ∷ hs) (suc k) e = or_right (attr_touches vax h s) (list_any (λ g. attr_touches vax g s) hs) (any_nth s hs k e)
@@ -305,7 +305,7 @@ module _ (q : TreeProgram) (set : Setting) (hs' : List Hole) (hs : List (Attr Op
 
   hole_touches : (i : ℕ) → attr_touches vax (attr_at hs attr.Nothing i) s ≡ true → Somewhere
   hole_touches i e = by (i == 0) e where
-    by : (b : Bool) → attr_touches vax (cond b attr.Nothing (attr_or attr.Nothing (slice_get hs (i - 1)))) s ≡ true → Somewhere
+    by : (b : Bool) → attr_touches vax (cond b attr.Nothing (unwrap_or (slice_get hs (i - 1)) attr.Nothing)) s ≡ true → Somewhere
     by true e = absurd (false≢true e)
     by false e = any_nth s hs (i - 1) e
 
@@ -334,10 +334,10 @@ module _ (q : TreeProgram) (set : Setting) (hs' : List Hole) (hs : List (Attr Op
 
   register_at : (i : ℕ) → EachOk (λ (t : Shape). IsRegisterAt i) (register_term set hs' None i)
   register_at i = by (i == 0) where
-    by : (b : Bool) → EachOk (λ (t : Shape). IsRegister (cond b attr.Nothing (attr_or attr.Nothing (slice_get hs (i - 1)))))
+    by : (b : Bool) → EachOk (λ (t : Shape). IsRegister (cond b attr.Nothing (unwrap_or (slice_get hs (i - 1)) attr.Nothing)))
         (cond b (own_value set.own None) (register_of (cond b hole_kind.Other (hole_or_other (slice_get hs' (i - 1)))) i))
     by true = no_value _ set.own
-    by false = register_hole (hole_or_other (slice_get hs' (i - 1))) i (attr_or attr.Nothing (slice_get hs (i - 1))) (tells_nth q hs' hs (i - 1) tell)
+    by false = register_hole (hole_or_other (slice_get hs' (i - 1))) i (unwrap_or (slice_get hs (i - 1)) attr.Nothing) (tells_nth q hs' hs (i - 1) tell)
 
   -- its register touches what the hole touches
   register_touches : (i : ℕ) (r : IsRegisterAt i) → touches vax (alone (bases.Reg (numbered r.number))) s ≡ true → Somewhere
@@ -376,10 +376,10 @@ module _ (q : TreeProgram) (set : Setting) (hs' : List Hole) (hs : List (Attr Op
 
   hole_told : (i : ℕ) → EachOk (λ w. Told w (operand_in q (attr_at hs attr.Nothing i))) (cond (i == 0) (where_own set.own) (where_hole (hole_at hs' i) i))
   hole_told i = by (i == 0) where
-    by : (b : Bool) → EachOk (λ w. Told w (operand_in q (cond b attr.Nothing (attr_or attr.Nothing (slice_get hs (i - 1))))))
+    by : (b : Bool) → EachOk (λ w. Told w (operand_in q (cond b attr.Nothing (unwrap_or (slice_get hs (i - 1)) attr.Nothing))))
         (cond b (where_own set.own) (where_hole (cond b hole_kind.Other (hole_or_other (slice_get hs' (i - 1)))) i))
     by true = own_told set.own (operand_in q attr.Nothing) no_own
-    by false = symbol_told (hole_or_other (slice_get hs' (i - 1))) i (attr_or attr.Nothing (slice_get hs (i - 1))) (tells_nth q hs' hs (i - 1) tell) (any_nth s hs (i - 1))
+    by false = symbol_told (hole_or_other (slice_get hs' (i - 1))) i (unwrap_or (slice_get hs (i - 1)) attr.Nothing) (tells_nth q hs' hs (i - 1) tell) (any_nth s hs (i - 1))
 
   pointer_told : (h : Hole) (i : ℕ) (a : Attr Operand) → Tells q h a → (attr_touches vax a s ≡ true → Somewhere) → EachOk (λ w. Told w (deferred_in q a)) (where_deferred h i)
   pointer_told hole_kind.Register i a k f = tt
@@ -397,10 +397,10 @@ module _ (q : TreeProgram) (set : Setting) (hs' : List Hole) (hs : List (Attr Op
 
   deferred_told : (i : ℕ) → EachOk (λ w. Told w (deferred_in q (attr_at hs attr.Nothing i))) (where_deferred (hole_at hs' i) i)
   deferred_told i = by (i == 0) where
-    by : (b : Bool) → EachOk (λ w. Told w (deferred_in q (cond b attr.Nothing (attr_or attr.Nothing (slice_get hs (i - 1))))))
+    by : (b : Bool) → EachOk (λ w. Told w (deferred_in q (cond b attr.Nothing (unwrap_or (slice_get hs (i - 1)) attr.Nothing))))
         (where_deferred (cond b hole_kind.Other (hole_or_other (slice_get hs' (i - 1)))) i)
     by true = tt
-    by false = pointer_told (hole_or_other (slice_get hs' (i - 1))) i (attr_or attr.Nothing (slice_get hs (i - 1))) (tells_nth q hs' hs (i - 1) tell) (any_nth s hs (i - 1))
+    by false = pointer_told (hole_or_other (slice_get hs' (i - 1))) i (unwrap_or (slice_get hs (i - 1)) attr.Nothing) (tells_nth q hs' hs (i - 1) tell) (any_nth s hs (i - 1))
 
   untouched : (o : Operand) → (touches vax o s ≡ true → ⊥) → (w : Where) → Told w o
   untouched o h (Immediate t) = λ e. absurd (h e)
@@ -515,10 +515,10 @@ module _ (q : TreeProgram) (set : Setting) (hs' : List Hole) (hs : List (Attr Op
 
   constant_at : (i : ℕ) → EachOk (λ (t : Shape). Touches (operand_in q (attr_at hs attr.Nothing i))) (constant_of (hole_at hs' i) i)
   constant_at i = by (i == 0) where
-    by : (b : Bool) → EachOk (λ (t : Shape). Touches (operand_in q (cond b attr.Nothing (attr_or attr.Nothing (slice_get hs (i - 1))))))
+    by : (b : Bool) → EachOk (λ (t : Shape). Touches (operand_in q (cond b attr.Nothing (unwrap_or (slice_get hs (i - 1)) attr.Nothing))))
         (constant_of (cond b hole_kind.Other (hole_or_other (slice_get hs' (i - 1)))) i)
     by true = tt
-    by false = constant_told (hole_or_other (slice_get hs' (i - 1))) i (attr_or attr.Nothing (slice_get hs (i - 1))) (tells_nth q hs' hs (i - 1) tell) (any_nth s hs (i - 1))
+    by false = constant_told (hole_or_other (slice_get hs' (i - 1))) i (unwrap_or (slice_get hs (i - 1)) attr.Nothing) (tells_nth q hs' hs (i - 1) tell) (any_nth s hs (i - 1))
 
   number_told : (b : FormBase) → EachOk (λ (x : ActShape). Touches (filled_base q hs attr.Nothing b)) (base_number hs' b)
   unfolding filled_base
@@ -583,14 +583,14 @@ unfolding Rattle.vax_templates.specs.Forms.form_front Rattle.vax_templates.specs
     Rattle.vax_templates.specs.Forms.index_front Rattle.vax_templates.specs.Marks.at_front filled_base
 alone_filled q i hs = refl
 
-pub nth_is : (hs : List (Attr Operand)) (k : ℕ) → attr_at hs attr.Nothing (suc k) ≡ attr_or attr.Nothing (slice_get hs k)
+pub nth_is : (hs : List (Attr Operand)) (k : ℕ) → attr_at hs attr.Nothing (suc k) ≡ unwrap_or (slice_get hs k) attr.Nothing
 nth_is hs k =
-    ap (λ b. cond b attr.Nothing (attr_or attr.Nothing (slice_get hs (suc k - 1)))) (not_zero k)
-    ∙ ap (λ n. attr_or attr.Nothing (slice_get hs n)) (one_less k)
+    ap (λ b. cond b attr.Nothing (unwrap_or (slice_get hs (suc k - 1)) attr.Nothing)) (not_zero k)
+    ∙ ap (λ n. unwrap_or (slice_get hs n) attr.Nothing) (one_less k)
 
 pub alone_is : (q : TreeProgram) (l : Line) (i : ℕ) (hs : List (Attr Operand)) (h : Attr Operand) (o : Operand) →
     l.pieces ≡ piece.Hole i ∷ [] → hole hs i ≡ Some h → own_operand vax h ≡ Some o → vax.operand q l hs ≡ o
 alone_is q l i hs h o e found own = ap (λ ps. filled_operand q ps hs) e ∙ (alone_filled q i hs ∙ nth i found) where
   nth : (i : ℕ) → hole hs i ≡ Some h → operand_in q (attr_at hs attr.Nothing i) ≡ o
   nth zero there = absurd (cc)
-  nth (suc k) there = ap (operand_in q) (nth_is hs k) ∙ (ap (λ x. operand_in q (attr_or attr.Nothing x)) there ∙ attr_alone q h o own)
+  nth (suc k) there = ap (operand_in q) (nth_is hs k) ∙ (ap (λ x. operand_in q (unwrap_or x attr.Nothing)) there ∙ attr_alone q h o own)

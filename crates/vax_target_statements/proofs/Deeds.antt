@@ -1,5 +1,6 @@
 -- The last line of a statement does the deed of its act.
 use Rattle.std.proofs.Common.{◌≡◌, ℕ, zero, suc, List, Option, Some, None, Result, Ok, refl, sym, ap, subst, ◌∙◌}
+use Rattle.std.specs.Prelude.{unwrap_or}
 use Rattle.gg_base.specs.declared.size.Size.{Size}
 use Rattle.gg_base.specs.declared.size.Size.TheVariants.{Long}
 use Rattle.tree_core.specs.declared.program.TreeProgram.{TreeProgram}
@@ -32,7 +33,6 @@ use Rattle.vax_machine.specs.Step.{pushing}
 use Rattle.vax_machine_lists.specs.Instructions as lists
 use Rattle.vax_machine_lists.specs.Instructions.{Course, exec}
 use Rattle.vax_states.proofs.Standing.{area_written_so, push_written}
-use Rattle.vax_templates.specs.Filled.{attr_or}
 use Rattle.vax_target_meaning.specs.Running.{course_of}
 use Rattle.vax_target_meaning.specs.Vax.{vax, stands}
 use Rattle.vax_target_operands.specs.Scenes.{Scene, worth, filling_at}
@@ -44,7 +44,7 @@ use Rattle.vax_target_statements.proofs.LastLines.{c, did, agrees_there, room_th
 -- what fills a hole that is there
 pub filled_hole : (s : Scene) (i : ℕ) (h : Attr Operand) → hole s.holes i ≡ Some h → filling_at s i ≡ h
 filled_hole s zero h e = cc
-filled_hole s (suc j) h e = filling_is s j ∙ ap (attr_or s.own) e
+filled_hole s (suc j) h e = filling_is s j ∙ ap (λ (o : Option (Attr Operand)). unwrap_or o s.own) e
 
 -- a symbol's own place is what its hole spells
 

@@ -1,6 +1,6 @@
 -- An operand of a template, with its holes filled, is one that its instruction may have there.
 use Rattle.std.proofs.Common.{◌≡◌, ℕ, zero, suc, ◌-◌, ◌^◌, ◌==◌, Bool, true, false, cond, not, ◌&&◌, Option, Some, None, Result, Ok, Err, List, [], ◌∷◌, map, length, refl, arith, slice_get}
-use Rattle.std.specs.Prelude.{is_none}
+use Rattle.std.specs.Prelude.{is_none, unwrap_or}
 use Rattle.std.specs.List.{AllByRecursion}
 use Rattle.std.proofs.lemmas.Bool.{and_from, lt-ltb}
 use Rattle.gg_base.proofs.Facts.{second_true}
@@ -43,7 +43,7 @@ use Rattle.vax_templates.specs.HoleTerms.{constant_of, address_of, absolute_term
 use Rattle.vax_templates.specs.Taking.{Taken, Arguments, fetched, addressed, written, both, taken, evaluated}
 use Rattle.vax_templates.specs.Taking.{all_evaluated, in_front}
 use Rattle.vax_templates.specs.Targets.{Target, own_target, statement_target, memory_target, zero_target, targeted}
-use Rattle.vax_templates.specs.Filled.{attr_or, attr_at, register_in, addr_number, addr_in, number_addr, operand_in, deferred_in, filled_base, with_index, filled}
+use Rattle.vax_templates.specs.Filled.{attr_at, register_in, addr_number, addr_in, number_addr, operand_in, deferred_in, filled_base, with_index, filled}
 use Rattle.vax_target_meaning.specs.Fitting.{steps, is_steady}
 use Rattle.vax_target_writing.proofs.Each.{EachOk, bind_each, always_ok, still_ok, if_ok}
 use Rattle.vax_target_writing.proofs.Longs.{IsLongNumber, IsLongBase, IsLongForm}
@@ -187,7 +187,7 @@ OwnSpells q own.Register a = IsWritable (operand_in q a)
 OwnSpells q (own.Slot z) a = IsWritable (operand_in q a)
 
 spells_nth : (q : TreeProgram) (holes : List Hole) (hs : List (Attr Operand)) (res : Attr Operand) (k : ℕ) → AllSpell q holes hs →
-    Spells q (hole_or_other (slice_get holes k)) (attr_or res (slice_get hs k))
+    Spells q (hole_or_other (slice_get holes k)) (unwrap_or (slice_get hs k) res)
 spells_nth q [] [] res k h = tt
 spells_nth q [] (a ∷ hs) res k h = absurd h
 spells_nth q (x ∷ holes) [] res k h = absurd h
@@ -271,10 +271,10 @@ module _ (q : TreeProgram) (s : Setting) (holes : List Hole) (zero' : Option Sha
 
   hole_stands : (i : ℕ) → Filling → EachOk (λ w. StandsBare w (operand_in q (attr_at hs res i))) (cond (i == 0) (where_own s.own) (where_hole (hole_at holes i) i))
   hole_stands i h = by (i == 0) where
-    by : (b : Bool) → EachOk (λ w. StandsBare w (operand_in q (cond b res (attr_or res (slice_get hs (i - 1))))))
+    by : (b : Bool) → EachOk (λ w. StandsBare w (operand_in q (cond b res (unwrap_or (slice_get hs (i - 1)) res))))
         (cond b (where_own s.own) (where_hole (cond b hole_kind.Other (hole_or_other (slice_get holes (i - 1)))) i))
     by true = own_stands s.own h.1
-    by false = symbol_stands (hole_or_other (slice_get holes (i - 1))) i (attr_or res (slice_get hs (i - 1))) (spells_nth q holes hs res (i - 1) h.0)
+    by false = symbol_stands (hole_or_other (slice_get holes (i - 1))) i (unwrap_or (slice_get hs (i - 1)) res) (spells_nth q holes hs res (i - 1) h.0)
 
   -- numbers
   constant_is : (h : Hole) (i : ℕ) (a : Attr Operand) → Spells q h a → EachOk (λ (t : Shape). IsNumber (addr_in q a)) (constant_of h i)
@@ -308,10 +308,10 @@ module _ (q : TreeProgram) (s : Setting) (holes : List Hole) (zero' : Option Sha
   number_stands : (n : Number) → IsLongNumber n → AllSpell q holes hs → EachOk (λ (t : Shape). is_addr (number_addr q hs res n) ≡ true) (number_term holes n)
   number_stands (number.Itself n) long h = lt-ltb n (2 ^ 32) long
   number_stands (number.Symbol i) long h = by (i == 0) where
-    by : (b : Bool) → EachOk (λ (t : Shape). is_addr (addr_in q (cond b res (attr_or res (slice_get hs (i - 1))))) ≡ true)
+    by : (b : Bool) → EachOk (λ (t : Shape). is_addr (addr_in q (cond b res (unwrap_or (slice_get hs (i - 1)) res))) ≡ true)
         (address_of (cond b hole_kind.Other (hole_or_other (slice_get holes (i - 1)))) i)
     by true = tt
-    by false = address_is (hole_or_other (slice_get holes (i - 1))) i (attr_or res (slice_get hs (i - 1))) (spells_nth q holes hs res (i - 1) h)
+    by false = address_is (hole_or_other (slice_get holes (i - 1))) i (unwrap_or (slice_get hs (i - 1)) res) (spells_nth q holes hs res (i - 1) h)
 
   absolute_stands : (n : Number) → IsLongNumber n → AllSpell q holes hs →
       EachOk (λ (t : Shape). is_long (number_addr q hs res n).offset ≡ true) (absolute_term holes n)
@@ -323,10 +323,10 @@ module _ (q : TreeProgram) (s : Setting) (holes : List Hole) (zero' : Option Sha
       longs (Ok t) n = n.long
       longs (Err e) n = tt
 
-    by : (b : Bool) → EachOk (λ (t : Shape). is_long (addr_in q (cond b res (attr_or res (slice_get hs (i - 1))))).offset ≡ true)
+    by : (b : Bool) → EachOk (λ (t : Shape). is_long (addr_in q (cond b res (unwrap_or (slice_get hs (i - 1)) res))).offset ≡ true)
         (constant_of (cond b hole_kind.Other (hole_or_other (slice_get holes (i - 1)))) i)
     by true = tt
-    by false = offset (hole_or_other (slice_get holes (i - 1))) (attr_or res (slice_get hs (i - 1))) (spells_nth q holes hs res (i - 1) h)
+    by false = offset (hole_or_other (slice_get holes (i - 1))) (unwrap_or (slice_get hs (i - 1)) res) (spells_nth q holes hs res (i - 1) h)
 
   -- memory at the address that a symbol holds
   pointed_is : (h : Hole) (i : ℕ) (a : Attr Operand) → Spells q h a → EachOk (λ w. StandsBare w (deferred_in q a)) (where_deferred h i)
@@ -345,10 +345,10 @@ module _ (q : TreeProgram) (s : Setting) (holes : List Hole) (zero' : Option Sha
 
   deferred_stands : (i : ℕ) → AllSpell q holes hs → EachOk (λ w. StandsBare w (deferred_in q (attr_at hs res i))) (where_deferred (hole_at holes i) i)
   deferred_stands i h = by (i == 0) where
-    by : (b : Bool) → EachOk (λ w. StandsBare w (deferred_in q (cond b res (attr_or res (slice_get hs (i - 1))))))
+    by : (b : Bool) → EachOk (λ w. StandsBare w (deferred_in q (cond b res (unwrap_or (slice_get hs (i - 1)) res))))
         (where_deferred (cond b hole_kind.Other (hole_or_other (slice_get holes (i - 1)))) i)
     by true = tt
-    by false = pointed_is (hole_or_other (slice_get holes (i - 1))) i (attr_or res (slice_get hs (i - 1))) (spells_nth q holes hs res (i - 1) h)
+    by false = pointed_is (hole_or_other (slice_get holes (i - 1))) i (unwrap_or (slice_get hs (i - 1)) res) (spells_nth q holes hs res (i - 1) h)
 
   -- where an operand stands that is memory, if it stands somewhere
   in_memory : (P : Where → Type 0) (r : Result Shape TemplateKind) (f : Shape → Result Where TemplateKind) → ((t : Shape) → EachOk P (f t)) → EachOk P (r >>= f)

@@ -1,5 +1,5 @@
 -- Templates with their holes filled: an operand, and an instruction.
-use Rattle.std.specs.Prelude.{ℕ, ◌-◌, ◌*◌, ◌==◌, nat_lt, nat_le, List, slice_get, Option, Some, None, if◌then◌else◌}
+use Rattle.std.specs.Prelude.{ℕ, ◌-◌, ◌*◌, ◌==◌, nat_lt, nat_le, List, slice_get, unwrap_or, Option, Some, None, if◌then◌else◌}
 use Rattle.gg_base.specs.Arithmetic.{neg32}
 use Rattle.tree_core.specs.declared.token.Tok.{Tok}
 use Rattle.tree_core.specs.declared.token.Tok.TheVariants as tok
@@ -36,13 +36,9 @@ addr_number n = record { name = None; offset = n }
 abbrev pub spare : Operand
 spare = alone (bases.Imm (addr_number 0))
 
-abbrev pub attr_or : Attr Operand → Option (Attr Operand) → Attr Operand
-attr_or zero None = zero
-attr_or zero (Some a) = a
-
 -- what a hole stands for; symbols are numbered from 1
 abbrev pub attr_at : List (Attr Operand) → Attr Operand → ℕ → Attr Operand
-attr_at holes zero i = if i == 0 then zero else attr_or zero (slice_get holes (i - 1))
+attr_at holes zero i = if i == 0 then zero else unwrap_or (slice_get holes (i - 1)) zero
 
 abbrev pub register_or_zero : Option Reg → Reg
 register_or_zero None = R0
