@@ -2,6 +2,7 @@
 -- This is how the code computes it; the rules of typing are the relations of c_typed_law.
 use Rattle.std.specs.Prelude.{ℕ, ◌+◌, Bool, true, false, List, [], ◌∷◌, ◌++◌, length, Option, Some, None, Result, Ok}
 use Rattle.std.specs.Fmt.{decimal}
+use Rattle.tree_core.specs.Names.{function_label}
 use Rattle.c_types.specs.declared.types.CType.{CType}
 use Rattle.c_types.specs.declared.types.CType.TheVariants as types
 use Rattle.c_types.specs.declared.typed.Variable.{Variable}
@@ -38,7 +39,7 @@ variable_of false n = variables.Global n
 
 abbrev pub label_of : Bool → List ℕ → Area → List ℕ
 label_of true name a = 84 ∷ decimal a.statics
-label_of false name a = 95 ∷ name
+label_of false name a = function_label name
 
 abbrev pub counted_static : Bool → Area → Area
 counted_static true a = one_more_static a
