@@ -3,7 +3,6 @@
 #![tactic(auto)]
 
 ghost use Rattle.sel_terms_meaning.specs.Alike.{NormKeepsEffects, ShownIsAlike, WantedIsNarrow};
-ghost use Rattle.sel_terms_meaning.specs.Depth.{WantedIsShallow};
 
 /// An effect and its normal form under a rule's facts do the same and read the same memory.
 pub fn norm_keeps_effects()
@@ -18,9 +17,4 @@ pub fn shown_is_alike()
 /// The constants of a pattern's effect are longwords.
 pub fn wanted_is_narrow()
     ensures { WantedIsNarrow }
-{}
-
-/// The terms of a pattern's effect are at most three times as deep as the pattern has symbols, and one.
-pub fn wanted_is_shallow()
-    ensures { WantedIsShallow }
 {}
