@@ -1,7 +1,7 @@
 -- One program, to see that all premises can be met: `main` writes a byte and returns 0.
 use Rattle.std.specs.Prelude.{ℕ, List, [], ◌∷◌, ◌++◌, codes, Some}
 use Rattle.gg_base.specs.Follows.{Follows}
-use Rattle.vax_core.specs.declared.op.Op.TheVariants.{Pushl, Calls, Jbr}
+use Rattle.vax_core.specs.declared.op.Op.TheVariants.{Pushl, Calls}
 use Rattle.vax_core.specs.declared.code.Code.{Code}
 use Rattle.vax_core.specs.declared.code.Instr.{Instr}
 use Rattle.vax_core.specs.declared.code.CodeItem.{CodeItem}
@@ -13,7 +13,7 @@ use Rattle.tree_core.specs.declared.program.TreeItem.TheVariants as tree_item
 use Rattle.tree_core.specs.declared.program.TreeFn.{TreeFn}
 use Rattle.tree_core.specs.declared.program.TreeProgram.{TreeProgram}
 use Rattle.tree_core.specs.Attributes.{end_leaf}
-use Rattle.tree_core.specs.Names.{label_name, function_label}
+use Rattle.tree_core.specs.Names.{function_label}
 use Rattle.tree_meaning.specs.Meaning.{tree_run}
 use Rattle.vax_machine_lists.specs.Sound.{AllBelow}
 use Rattle.vax_frames.specs.Frames.{instr, code_items, end_code, frame_items}
@@ -37,9 +37,6 @@ demo = record { functions = demo_main ∷ []; objects = [] }
 -- its code: `pushl $72`, `calls $1,_putchar`, `clrl r0` and `ret`, and the end of `main`
 abbrev pub push_code : ℕ → List Instr
 push_code n = instr Pushl (imm n ∷ []) ∷ []
-
-abbrev pub jump_code : ℕ → List Instr
-jump_code l = record { op = Jbr; operands = []; target = Some (label_name l) } ∷ []
 
 abbrev pub call_code : ℕ → List ℕ → List Instr
 call_code count name = record { op = Calls; operands = imm count ∷ []; target = Some name } ∷ []
