@@ -1,7 +1,7 @@
 -- The list of what is to come, and the order that it leads to.
-use Rattle.std.proofs.Common.{◌≡◌, ℕ, zero, suc, ◌+◌, ◌-◌, ◌≤◌, ◌<◌, List, [], ◌∷◌, ◌++◌, Some, Contains, length, reverse, take, get_or, slice_get, refl, sym, ap, ◌∙◌, subst}
+use Rattle.std.proofs.Common.{◌≡◌, ℕ, zero, suc, ◌+◌, ◌-◌, ◌≤◌, ◌<◌, List, [], ◌∷◌, ◌++◌, Some, Contains, length, reverse, slice_get, refl, sym, ap, ◌∙◌, subst}
 use Rattle.std.proofs.Common.{⊎_elim, arith, append_assoc, append-nil, length-append}
-use Rattle.std.proofs.lemmas.List.{reverse-append, reverse-reverse, length-reverse, take_more, take_all, get_or-reverse}
+use Rattle.std.proofs.lemmas.List.{reverse-append, reverse-reverse, length-reverse}
 use Rattle.std.proofs.lemmas.List.Elements.{Contains-append_cases, Contains-push_cases, Contains-push, Contains-append_left, Contains-append_right}
 use Rattle.gg_base.proofs.Facts.{slice_some}
 use Rattle.lr_check.specs.Tree.{Node, IsSample}
@@ -26,17 +26,6 @@ reverse_has (x ∷ l) j h =
     (λ a. Contains-append_right (x ∷ []) l j (reverse_has l j a))
     (λ e. (0, omega arith, e))
     (Contains-push_cases (reverse l) x j (subst (λ (y : List ℕ). Contains y j) (reverse-append (x ∷ []) l) h))
-
-pub kids_turn : (kids old rest : List ℕ) (n x : ℕ) → rest ≡ old ++ take n (reverse kids) → n < length kids → x ≡ get_or kids (length kids - 1 - n) x → rest ++ x ∷ [] ≡ old
-    ++ take (n + 1) (reverse kids)
-kids_turn kids old rest n x e lt f =
-    let l : length (reverse kids) ≡ length kids = length-reverse kids in
-    let t : take (n + 1) (reverse kids) ≡ take n (reverse kids) ++ get_or (reverse kids) n x ∷ [] = take_more (reverse kids) n x (omega (arith, l, lt)) in
-    let g : get_or (reverse kids) n x ≡ x = get_or-reverse kids n x lt ∙ sym f in
-    ap (λ (y : List ℕ). y ++ x ∷ []) e ∙ (append_assoc old (take n (reverse kids)) (x ∷ []) ∙ ap (λ (y : List ℕ). old ++ y) (ap (λ (z : ℕ). take n (reverse kids) ++ z ∷ []) (sym g) ∙ sym t))
-
-pub kids_all : (kids old rest : List ℕ) (n : ℕ) → rest ≡ old ++ take n (reverse kids) → length kids ≤ n → rest ≡ old ++ reverse kids
-kids_all kids old rest n e le = e ∙ ap (λ (y : List ℕ). old ++ y) (take_all n (reverse kids) (let l = length-reverse kids in omega (arith, l, le)))
 
 -- the next node is one of the nodes
 pub next_within : (nodes : List Node) (order old rest : List ℕ) (n k : ℕ) → Ordering nodes order old n → old ≡ rest ++ k ∷ [] → k < length nodes

@@ -1,6 +1,5 @@
 -- The run over a sample's tokens.
-use Rattle.std.proofs.Common.{◌≡◌, ℕ, ◌<◌, List, Some, None, false, length, sym, ap, ◌∙◌, subst}
-use Rattle.std.proofs.lemmas.List.{length-replicate}
+use Rattle.std.proofs.Common.{◌≡◌, ℕ, ◌<◌, List, Some, None, length, sym, ap, ◌∙◌, subst}
 use Rattle.md_reader.specs.Valid.{IsValid}
 use Rattle.lr_tables.specs.View.{TableView}
 use Rattle.lr_tables.specs.Grammar.{IsGrammar}
@@ -18,14 +17,6 @@ pub record Running (t : TableView) (nodes : List Node) (order : List ℕ) (c : C
   pub seen : length c.seen ≡ length t.content.classes
 
 module _ (t : TableView) (nodes : List Node) (order : List ℕ) where
-  pub run_start : (c : Config) (n : ℕ) → c ≡ first_config n → n ≡ length t.content.classes → Running t nodes order c
-  run_start c n e f =
-      let g : c ≡ first_config (length t.content.classes) = e ∙ ap first_config f in
-      record {
-        ends = λ o h. subst (λ (x : Config). Halts t nodes order x o) g h;
-        seen = ap (λ (x : Config). length x.seen) g ∙ length-replicate (length t.content.classes) false;
-      }
-
   grammar : (c : Config) → IsValid t.content → Running t nodes order c → IsGrammar t.content.rules (stmt_of t.content.classes) (length c.seen)
   grammar c v r = subst (λ (n : ℕ). IsGrammar t.content.rules (stmt_of t.content.classes) n) (sym r.seen) (is_grammar t.content v)
 

@@ -1,6 +1,5 @@
 -- One node more.
 use Rattle.std.proofs.Common.{◌≡◌, ◌⊎◌, ℕ, zero, suc, ◌+◌, List, [], ◌∷◌, ◌++◌, Some, length, slice_get, refl, sym, ap, ◌∙◌, subst, inl, inr, ⊎_elim, length-append}
-use Rattle.std.proofs.lemmas.Option.{none-some}
 use Rattle.gg_base.proofs.Facts.{slice_last}
 use Rattle.tree_core.specs.declared.token.Tok.{Tok}
 use Rattle.lr_check_sets.specs.Automaton.{Automaton}
@@ -17,9 +16,6 @@ last_or [] x y (suc zero) e = absurd (cc)
 last_or [] x y (suc (suc i)) e = absurd (cc)
 last_or (z ∷ xs) x y zero e = inl e
 last_or (z ∷ xs) x y (suc i) e = ⊎_elim (λ h. inl h) (λ h. inr (ap suc h.0, h.1)) (last_or xs x y i e)
-
-abbrev the_none : List ℕ → List (List ℕ)
-the_none ds = []
 
 module _ (A : Automaton) (f : FoundView) where
   stays : (d : DrawingView) (token : Tok) (k : KidsView) (i : ℕ) (ds : List ℕ) → IsDrawnAt A f d i ds → IsDrawnAt A f (held d token k) i ds
@@ -66,10 +62,3 @@ module _ (A : Automaton) (f : FoundView) where
 
   pub longer : (d d' : DrawingView) (token : Tok) (k : KidsView) (i : ℕ) → i ≡ length d.depths → d' ≡ held d token k → length d'.depths ≡ i + 1
   longer d d' token k i next same = ap (λ (z : DrawingView). length z.depths) same ∙ (length-append d.depths (k.asked.depths ∷ []) ∙ ap (λ z. z + 1) (sym next))
-
-  pub none_drawn : AreDrawn A f (record { nodes = []; depths = [] })
-  none_drawn = record { many = refl; each = λ i ds e. absurd (nowhere i ds e) }
-    where
-      nowhere : (i : ℕ) (ds : List ℕ) → slice_get (the_none ds) i ≡ Some ds → ⊥
-      nowhere zero ds e = none-some ds e
-      nowhere (suc i) ds e = none-some ds e

@@ -104,9 +104,6 @@ module _ (f : FoundView) (n : ℕ) (o : Origin) (is : (q : Origin) → IsOrigin 
         earlier = above.earlier;
       }
 
-  second_begun : (nodes : List Node) (node i k : ℕ) → StandsAt f nodes n node → o ≡ origin.Second i k → (x : Place) → IsPlaceAt f n x → BegunSecond f n x i k
-  second_begun nodes node i k s e x at = (begun_as x at (origin.Second i k) e).1
-
   pub second_fits : (nodes : List Node) (node i k j : ℕ) (token : Tok) → HaveNodes f nodes → StandsAt f nodes n node → o ≡ origin.Second i k → ((y : Place) → IsPlaceAt f i y → token ≡ y.token) →
       j ≡ k → KidsFit nodes (j ∷ node ∷ []) (kids token)
   second_fits nodes node i k j token settled s e tok same =

@@ -13,7 +13,7 @@ use Rattle.lr_check_samples.specs.Answering.{answers_to, depths_to}
 use Rattle.lr_check_samples.specs.Samples.{Turning, turn, turn_on}
 use Rattle.lr_check_flaws.specs.Flaws.{StepsTo, Along, along_one, along_on}
 use Rattle.lr_check_drawn.specs.Asked.{AskedView}
-use Rattle.lr_check_drawn.specs.Turning.{HasTurned, LeadsOn, IsRound, class_before, Turned, turned_not, turned_so, Turns}
+use Rattle.lr_check_drawn.specs.Turning.{HasTurned, LeadsOn, class_before, Turned, turned_not, turned_so, Turns}
 
 module _ (A : Automaton) (q : ℕ) (t : Tok) where
   -- the last class, and that there is one
@@ -105,18 +105,12 @@ module _ (A : Automaton) (x : Place) where
       let is : from ≡ d = k.from_before ∙ (ap (class_before c ds) same ∙ get_or_from_slice_get ds l.before d c l.last) in
       subst (λ z. HasTurned A x c z a) is (turned_last c from i a k.turned l.before same)
 
-  pub round_some : (ds : List ℕ) → IsRound A x ds → 0 < length ds
-  round_some ds r = let l = lasts A x.state x.behind r.along in let long : length ds ≡ suc l.before = l.long in omega (arith, long)
-
   last_is : (c d : ℕ) (ds : List ℕ) → Along A x.state x.behind c ds d → get_or ds (length ds - 1) 0 ≡ d
   last_is c d ds h =
       let l = lasts A x.state x.behind h in
       let long : length ds ≡ suc l.before = l.long in
       let at : length ds - 1 ≡ l.before = omega (arith, long) in
       ap (λ n. get_or ds n 0) at ∙ get_or_from_slice_get ds l.before d 0 l.last
-
-  pub round_leads : (n : ℕ) (ds : List ℕ) → IsRound A x ds → n ≡ get_or ds (length ds - 1) 0 → LeadsOn A x n ds
-  round_leads n ds r e = record { last = r.class; along = subst (λ z. Along A x.state x.behind z ds r.class) (sym (e ∙ last_is r.class r.class ds r.along)) r.along }
 
   pub round_turned : {E : Type 0} (r : Result AskedView E) (n : ℕ) (ds : List ℕ) → n ≡ get_or ds (length ds - 1) 0 →
       IfOk r (λ a. (d : ℕ) → Along A x.state x.behind n ds d → HasTurned A x n d a) → IfOk r (λ a. (c : ℕ) → Along A x.state x.behind c ds c → HasTurned A x c c a)

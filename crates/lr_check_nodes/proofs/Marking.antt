@@ -1,5 +1,5 @@
 -- Which nodes a root reaches: the marks.
-use Rattle.std.proofs.Common.{◌≡◌, ◌⊎◌, ℕ, zero, suc, ◌+◌, ◌-◌, ◌<◌, List, [], ◌∷◌, Some, Bool, true, false, Contains, length, set, replicate, get_or, slice_get, refl}
+use Rattle.std.proofs.Common.{◌≡◌, ◌⊎◌, ℕ, zero, suc, ◌+◌, ◌-◌, ◌<◌, List, [], ◌∷◌, Some, Bool, true, false, Contains, length, set, get_or, slice_get, refl}
 use Rattle.std.proofs.Common.{sym, ap, ◌∙◌, subst, inl, inr, ⊎_elim, arith, true≢false}
 use Rattle.std.proofs.lemmas.Bool.{cases_lt}
 use Rattle.std.proofs.lemmas.Option.{slice_get_within, slice_get-get_or, same_Some}
@@ -52,12 +52,6 @@ marks_cases ms (k ∷ ks) n h = ⊎_elim
     (λ a. ⊎_elim (λ b. inl b) (λ e. inr (inl e)) (set_cases ms k n a))
     (λ g. inr (inr g))
     (marks_cases (set ms k true) ks n h)
-
-none_marked : (n k : ℕ) → IsMarked (replicate n false) k → ⊥
-none_marked zero zero h = absurd (cc)
-none_marked zero (suc k) h = absurd (cc)
-none_marked (suc n) zero h = true≢false (sym (same_Some false true h))
-none_marked (suc n) (suc k) h = none_marked n k h
 
 -- a node that is marked is looked at
 pub reach_marked : (nodes : List Node) (marks marks' : List Bool) (n : ℕ) (v : Node) → IsSample nodes → Reaching nodes marks (n + 1) → slice_get nodes n ≡ Some v → IsMarked marks n →

@@ -28,9 +28,6 @@ renumbered_stays ns xs (k ∷ ks) low = ap₂ (λ (a : ℕ) (b : List ℕ). a �
 again_stays : (ns xs : List ℕ) (v : Node) → ((k : ℕ) → In k v.kids → k < length ns) → node_again (ns ++ xs) v ≡ node_again ns v
 again_stays ns xs v low = ap (λ (ks : List ℕ). record { tok = v.tok; kids = ks; answers = v.answers }) (renumbered_stays ns xs v.kids low)
 
-abbrev the_none : List Node → List Node
-the_none nodes = []
-
 module _ (nodes : List Node) (marks : List Bool) (sample : IsSample nodes) where
   kids_low : (n i : ℕ) (v : Node) → slice_get nodes n ≡ Some v → n ≤ i → (k : ℕ) → In k v.kids → k < i
   kids_low n i v there le k h = let low = sample.lower n k v there (In-Contains k v.kids h) in omega (arith, low, le)

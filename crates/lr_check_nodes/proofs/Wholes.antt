@@ -1,19 +1,18 @@
 -- Nodes whose kids stand before them and fit.
-use Rattle.std.proofs.Common.{◌≡◌, ◌⊎◌, ℕ, zero, suc, ◌+◌, ◌<◌, ◌≤◌, List, [], ◌∷◌, ◌++◌, Some, Bool, true, Contains, length, get_or, take, slice_get, refl, sym, ap}
+use Rattle.std.proofs.Common.{◌≡◌, ◌⊎◌, ℕ, zero, suc, ◌+◌, ◌<◌, List, [], ◌∷◌, ◌++◌, Some, Bool, true, Contains, length, get_or, take, slice_get, refl, sym, ap}
 use Rattle.std.proofs.Common.{◌∙◌, subst, subst₂, inl, inr, ⊎_elim, arith, length-append, append_assoc, append-nil}
 use Rattle.std.specs.Prelude.{Result, Ok, Err, IfOk}
-use Rattle.std.proofs.lemmas.List.{take_all, get_or_default}
+use Rattle.std.proofs.lemmas.List.{get_or_default}
 use Rattle.std.proofs.lemmas.Bool.{false≢true}
 use Rattle.gg_base.proofs.Facts.{slice_left, slice_last, slice_cases}
 use Rattle.tree_core.specs.declared.token.Tok.{Tok}
 use Rattle.tree_core.specs.declared.token.Sort.{Sort}
 use Rattle.tree_core.specs.declared.token.Sort.TheVariants as sort
-use Rattle.tree_core.specs.Grammar.{kids, sort_of}
-use Rattle.tree_core.specs.Trees.{sort_fits}
+use Rattle.tree_core.specs.Grammar.{kids}
 use Rattle.lr_tables.proofs.Members.{In, Contains-In}
 use Rattle.lr_check.specs.Tree.{Node}
 use Rattle.lr_check.specs.Statement.{fits_at, KidsFit}
-use Rattle.lr_check.proofs.Typed.{fit_none, fit_more}
+use Rattle.lr_check.proofs.Typed.{fit_more}
 use Rattle.lr_check_nodes.specs.Growing.{AreWhole, Grows, HasTreeOf, HaveKids, HasLast, HasTreeFrom, smallest}
 
 pub fits_more : (nodes more : List Node) (k : ℕ) (x : Sort) → fits_at (slice_get nodes k) x ≡ true → fits_at (slice_get (nodes ++ more) k) x ≡ true
@@ -25,11 +24,6 @@ pub fits_within : (nodes : List Node) (k : ℕ) (x : Sort) → fits_at (slice_ge
 fits_within [] k x h = absurd (false≢true h)
 fits_within (v ∷ nodes) zero x h = omega arith
 fits_within (v ∷ nodes) (suc k) x h = let lt = fits_within nodes k x h in omega (arith, lt)
-
--- a node fits where a tree that begins with its token does
-pub last_fits : (nodes : List Node) (n : ℕ) (k : Tok) (ks : List ℕ) (own : List Bool) (x : Sort) → slice_get nodes n ≡ Some (record { tok = k; kids = ks; answers = own }) →
-    sort_fits (sort_of k) x ≡ true → fits_at (slice_get nodes n) x ≡ true
-last_fits nodes n k ks own x there fits = ap (λ o. fits_at o x) there ∙ fits
 
 pub kids_more : (nodes more : List Node) (ks : List ℕ) (xs : List Sort) → KidsFit nodes ks xs → KidsFit (nodes ++ more) ks xs
 kids_more nodes more ks xs h = record { many = h.many; each = λ i k x at is. fits_more nodes more k x (h.each i k x at is) }
@@ -97,15 +91,7 @@ last_more nodes new k ks own n w fit e at = record {
 pub last_over : {a b c : List Node} {k : Tok} {ks : List ℕ} {own : List Bool} {n : ℕ} → Grows a b → HasLast b c k ks own n → HasLast a c k ks own n
 last_over g h = record { grows = grows_both g h.grows; whole = h.whole; node = h.node; last = h.last }
 
-pub tree_of_last : {a b : List Node} {k : Tok} {ks : List ℕ} {own : List Bool} {n : ℕ} (x : Sort) → sort_fits (sort_of k) x ≡ true → HasLast a b k ks own n → HasTreeOf a b x n
-tree_of_last {b = b} {k = k} {ks = ks} {own = own} {n = n} x fits h = record { grows = h.grows; whole = h.whole; fits = last_fits b n k ks own x h.node fits }
-
 module _ {E : Type 0} where
-  pub tree_if : (r : Result ℕ E) (a b c : List Node) (k : Tok) (ks : List ℕ) (own : List Bool) (x : Sort) → Grows a b → sort_fits (sort_of k) x ≡ true →
-      IfOk r (λ n. HasLast b c k ks own n) → IfOk r (λ n. HasTreeOf a c x n)
-  tree_if (Ok n) a b c k ks own x g fits h = tree_of_last x fits (last_over g h)
-  tree_if (Err e) a b c k ks own x g fits h = tt
-
   pub from_if : (r : Result ℕ E) (a b c : List Node) (k : Tok) (ks : List ℕ) → Grows a b → IfOk r (λ n. HasLast b c k ks [] n) → IfOk r (λ n. HasTreeFrom a c k n)
   from_if (Ok n) a b c k ks g h = record { kids = ks; has = last_over g h }
   from_if (Err e) a b c k ks g h = tt
@@ -122,10 +108,7 @@ small sort.PlaceW = inr refl
 small sort.PlaceL = inl refl
 small sort.Stmt = inl refl
 
--- the turns over a token's kids
-pub kids_none : (nodes : List Node) (xs : List Sort) → AreWhole nodes → HaveKids nodes nodes (take 0 xs) []
-kids_none nodes xs w = record { grows = grows_none nodes; whole = w; fit = fit_none nodes [] refl }
-
+-- a turn over a token's kids
 pub kids_turn : (a b c : List Node) (xs : List Sort) (i k : ℕ) (x : Sort) (ks ks' : List ℕ) → HaveKids a b (take i xs) ks → i < length xs → x ≡ get_or xs i x → HasTreeOf b c x k → ks' ≡ ks ++ k ∷ [] →
     HaveKids a c (take (i + 1) xs) ks'
 kids_turn a b c xs i k x ks ks' h lt is t e =
@@ -142,9 +125,6 @@ kids_turn a b c xs i k x ks ks' h lt is t e =
 
     take_push : (ys : List Sort) (j : ℕ) (y : Sort) → j < length ys → y ≡ get_or ys j y → take (j + 1) ys ≡ take j ys ++ y ∷ []
     take_push ys j y l f = let more : j + 1 ≡ suc j = omega arith in ap (λ (m : ℕ). take m ys) more ∙ by_suc ys j y l f
-
-pub kids_all : (a b : List Node) (xs : List Sort) (i : ℕ) (ks : List ℕ) → HaveKids a b (take i xs) ks → length xs ≤ i → HaveKids a b xs ks
-kids_all a b xs i ks h le = subst (λ l. HaveKids a b l ks) (take_all i xs le) h
 
 -- a turn, as the code makes it
 pub kids_turn_at : (a b c : List Node) (ys xs : List Sort) (i k : ℕ) (d : Sort) (ks ks' : List ℕ) → ys ≡ xs → HaveKids a b (take i xs) ks → i < length ys → HasTreeOf b c (get_or ys i d) k →
