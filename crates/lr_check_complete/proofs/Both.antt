@@ -1,6 +1,6 @@
 -- The two kids of places, as items.
 use Rattle.std.proofs.Common.{◌≡◌, ℕ, List, [], ◌∷◌, ◌++◌, Option, Some, None, Contains, false, true≢false, length, slice_get, refl, sym, ap, ◌∙◌, subst}
-use Rattle.std.specs.Prelude.{slice_index_or, IfSome, nat_lt}
+use Rattle.std.specs.Prelude.{slice_index_or, nat_lt}
 use Rattle.std.proofs.lemmas.Bool.{lt-ltb}
 use Rattle.std.proofs.lemmas.Option.{slice_get_within, same_Some, none-some}
 use Rattle.tree_core.specs.declared.token.Tok.{Tok}
@@ -91,10 +91,6 @@ second_done f n i p x m e at behind h = record {
 -- a settling that leads nowhere is no sum
 pub second_nowhere : (f : FoundView) (n i : ℕ) (x : Place) (m : Tok) (o : Option ℕ) → o ≡ None → ((e : Settling) → IsSettlingAt f i e → o ≡ e.behind) → SecondAt f n x m i
 second_nowhere f n i x m o none is = record { each = λ y s j sum. absurd (none-some j (sym none ∙ (is sum.entry sum.there ∙ sum.behind))) }
-
-pub if_some : {X : Type 0} (o : Option X) (Q : Type 0) → Q → IfSome o (λ x. Q)
-if_some None Q h = tt
-if_some (Some x) Q h = h
 
 -- ---- frames
 

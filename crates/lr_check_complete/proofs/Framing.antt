@@ -1,5 +1,5 @@
 -- Frames: how many kids a token has, and the places of a state and a token.
-use Rattle.std.proofs.Common.{◌≡◌, ◌⊎◌, ℕ, zero, suc, ◌+◌, ◌≤◌, ◌<◌, List, [], ◌∷◌, ◌++◌, Some, Contains, length, get_or, refl, sym, ap, ◌∙◌, subst, inl, inr, ⊎_elim, arith}
+use Rattle.std.proofs.Common.{◌≡◌, ◌⊎◌, ℕ, ◌+◌, ◌<◌, List, [], ◌∷◌, ◌++◌, Some, Contains, length, get_or, sym, ap, ◌∙◌, subst, inl, inr, ⊎_elim, arith}
 use Rattle.std.proofs.lemmas.List.Elements.{Contains-append_left, Contains-append_right}
 use Rattle.std.proofs.lemmas.Option.{same_Some}
 use Rattle.gg_base.proofs.Facts.{nil_of}
@@ -9,7 +9,6 @@ use Rattle.tree_core.specs.declared.token.Sort.{Sort}
 use Rattle.tree_core.specs.Grammar.{kids}
 use Rattle.md_reader.specs.declared.types.Sym.TheVariants as grammar_symbol
 use Rattle.lr_check_sets.specs.Automaton.{Automaton}
-use Rattle.lr_check_sets.proofs.Closing.{few}
 use Rattle.lr_check_found.specs.declared.places.Place.{Place}
 use Rattle.lr_check_found.specs.declared.settlings.How.TheVariants as how
 use Rattle.lr_check_found.specs.Found.{FoundView, place_of, IsPlaceAt, Settles}
@@ -34,18 +33,6 @@ one_kids k xs d e many = sym e ∙ one_of xs d many
 
 pub two_kids_are : (k : Tok) (xs : List Sort) (c d : Sort) → xs ≡ kids k → length xs ≡ 2 → kids k ≡ get_or xs 0 c ∷ get_or xs 1 d ∷ []
 two_kids_are k xs c d e many = sym e ∙ two_of xs c d many
-
-pub no_more : (k : Tok) (xs : List Sort) → xs ≡ kids k → (length xs ≡ 0 → ⊥) → (length xs ≡ 1 → ⊥) → (length xs ≡ 2 → ⊥) → ⊥
-no_more k xs e a b c =
-    let le = few k in
-    let same : length xs ≡ length (kids k) = ap length e in
-    by (length xs) refl (omega (arith, le, same))
-  where
-    by : (n : ℕ) → length xs ≡ n → n ≤ 2 → ⊥
-    by zero f le = a f
-    by (suc zero) f le = b f
-    by (suc (suc zero)) f le = c f
-    by (suc (suc (suc n))) f le = omega (arith, le)
 
 -- ---- a token without kids
 

@@ -14,10 +14,6 @@ module _ (look : Look) where
   pub looks_there : (xs : List Item) (P : Type 0) → P → Looks look xs xs P
   looks_there xs P h = record { sound = λ a. a; longer = omega arith; none = λ z le. h }
 
-  -- not all is looked at
-  pub looks_part : (xs : List Item) (P : Type 0) → (look.window.settlings ≡ 0 → ⊥) → Looks look xs xs P
-  looks_part xs P h = record { sound = λ a. a; longer = omega arith; none = λ z le. absurd (h z) }
-
   -- one item is pushed
   pub looks_pushed : (xs ys : List Item) (i : Item) (P : Type 0) → IsItem (automaton look) look.found.now i → ys ≡ xs ++ i ∷ [] → Looks look xs ys P
   looks_pushed xs ys i P h e = record {

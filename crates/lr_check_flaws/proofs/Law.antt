@@ -41,10 +41,6 @@ module _ (A : Automaton) (q : ℕ) (t : Tok) where
   comes : (c d : ℕ) (s : StepsTo A q t c d) → reduced s.rule (class c) ≡ class d
   comes c d s = ap (λ n. grammar_symbol.Class s.rule.left ∷ drop n (class c)) s.one ∙ ap class s.left
 
-  -- the same step in the sets
-  pub settles_on : (k : Tok) (c d : ℕ) → StepsTo A q t c d → sets.Settling A q k t (class c) → sets.Settling A q k t (class d)
-  settles_on k c d s h = subst (sets.Settling A q k t) (comes c d s) (sets.settled s.rule h s.go s.free s.one)
-
   pub circles : (c d : ℕ) (ds : List ℕ) → Along A q t c ds d → Circles A q t (class c) (class d)
   circles c d _ (along_one s) = subst (Circles A q t (class c)) (comes c d s) (Circles.one s.rule s.go s.free s.one)
   circles c e _ (along_on {d = d} {ds = ds} h s) =

@@ -134,9 +134,6 @@ module _ {L X : Type 0} (of : Answering L X) (rules : List Rule) (stmt classes :
           (λ s k. subst (λ j. Within ws (grammar_symbol.Class r.left ∷ drop j a) s log) e (h.1 s (subst (λ j. Marks (a ∷ before) (grammar_symbol.Class r.left ∷ drop j a) s) (sym e) k)))
       by (inr two) = long_within ws a r.left (length r.right) log m before seen marks lt two le h.1
 
-  no_moves : (n : ℕ) → 0 ≤ n
-  no_moves n = omega arith
-
   pub bounded : {at : ℕ} {before : List (List Sym)} {ws : List L} {a : List Sym} {x : X} {log : List (Move L)} {e : Ending X} → Parses of rules stmt at before ws a x log e → Rest before ws a log
   bounded (loops h) = inl refl
   bounded (accepts h s f) = inl refl

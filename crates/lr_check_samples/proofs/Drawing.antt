@@ -44,9 +44,6 @@ stands_none = record { unfolds = λ rest u h. h }
 pub node_fits : (nodes : List Node) (n : ℕ) {k : Tok} {ks : List ℕ} {own : List Bool} (x : Sort) → IsNode nodes n k ks own → May k x → fits_at (slice_get nodes n) x ≡ true
 node_fits nodes n {k = k} x there may = ap (λ o. fits_at o x) there ∙ may
 
-abbrev the_none : List Node → List ℕ
-the_none nodes = []
-
 module _ (A : Automaton) (f : FoundView) (nodes : List Node) (found : IsFound A f) where
   pub drawn : {i : ℕ} {ks : List ℕ} {own : List Bool} {ds : List ℕ} → DrawnKids A f nodes i ks own ds → IsDrawn A f nodes i ks own ds
   drawn (kids_leaf by) = record {
