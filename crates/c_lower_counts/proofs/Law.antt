@@ -4,15 +4,14 @@ use Rattle.c_tokens.specs.declared.token.Token.TheVariants as token
 use Rattle.c_tokens.specs.declared.marks.Mark.TheVariants as marks
 use Rattle.c_phrases.specs.declared.operator.Spec.{Spec}
 use Rattle.c_phrases.specs.Classes.{Placed, sign}
-use Rattle.c_phrases.specs.Spelling.{onto_spec, onto_stars, onto_name}
-use Rattle.c_phrases.specs.Units.{SomeItems, AParam, params, AFunction, ADeclared}
+use Rattle.c_phrases.specs.Spelling.{onto_spec, onto_name}
+use Rattle.c_phrases.specs.Units.{SomeItems, params, AFunction, ADeclared}
 use Rattle.c_phrases.specs.Units.{function, globals, AnExternal}
-use Rattle.c_phrases.specs.UnitSpelling.{onto_length, onto_named, onto_param, onto_params}
+use Rattle.c_phrases.specs.UnitSpelling.{onto_params}
 use Rattle.c_phrases.specs.UnitSpelling.{onto_body, onto_declared, onto_externals}
 use Rattle.c_program.specs.Programs.{ARoutine, AProgram}
-use Rattle.c_syntax.proofs.ListLaws.{longer_length}
 use Rattle.c_syntax.proofs.ItemLaws.{longer_spec, longer_declarators}
-use Rattle.c_syntax.proofs.UnitLaws.{longer_named, longer_static, longer_some_params}
+use Rattle.c_syntax.proofs.UnitLaws.{longer_static, longer_some_params}
 use Rattle.c_syntax.proofs.ExpressionLaws.{longer_stars}
 use Rattle.c_typed_scope.specs.declared.entry.Entry.{Entry}
 use Rattle.c_typed_scope.specs.declared.entry.Signature.{Signature}
@@ -26,15 +25,6 @@ use Rattle.c_lower_counts.specs.Sizes.{row_size, routines_size, program_size}
 use Rattle.c_lower_counts.specs.Claims.{ProgramsAreSmall, TypedHaveFewLabels}
 use Rattle.c_lower_counts.proofs.Labels.{labels_are_few}
 use Rattle.c_lower_counts.proofs.Statements.{items_size}
-
-param_grows : (p : AParam) (w : List Placed) → length w ≤ length (onto_param p w)
-param_grows p w = omega (
-  arith,
-  longer_spec p.spec (onto_stars p.stars (onto_named p.name (onto_length p.length w))),
-  longer_stars p.stars (onto_named p.name (onto_length p.length w)),
-  longer_named p.name (onto_length p.length w),
-  longer_length p.length w,
-)
 
 size_behind : (gs : List ARoutine) (g : ARoutine) → routines_size (gs ++ g ∷ []) ≡ routines_size gs + row_size g.body
 size_behind [] g = omega arith

@@ -1,7 +1,7 @@
 -- What the items of an assignment's two sides do.
 use Rattle.std.proofs.Common.{◌≡◌, ℕ, suc, ◌≤◌, ◌<◌, List, [], ◌∷◌, ◌++◌, Some, refl, ap, arith, sym, ◌∙◌, subst, ◌⊎◌, inl, inr, ⊎_elim}
 use Rattle.std.specs.Prelude.{Bool, true, false, not, ◌&&◌}
-use Rattle.std.proofs.lemmas.Bool.{cases_eq, or_parts, and_parts, not-false}
+use Rattle.std.proofs.lemmas.Bool.{or_parts, and_parts, not-false}
 use Rattle.gg_base.specs.Runs.{Runs}
 use Rattle.tree_core.specs.declared.program.TreeItem.{TreeItem}
 use Rattle.tree_core.specs.declared.program.TreeProgram.{TreeProgram}
@@ -52,15 +52,6 @@ module _ (program : TreeProgram) (code : List TreeItem) (callers : List Activati
   since_held t p v u w a b st d st1 d1 st2 d2 tp pv vu uw s s' = record {
     keeps = λ j szj o. s'.keeps j szj (⊎_elim (λ lt. inl (omega arith)) (λ ge. inr (omega arith)) o) (λ e. ⊎_elim (λ lt. omega arith) (λ ge. omega arith) o)
         ∙ s.keeps j szj (⊎_elim (λ lt. inl lt) (λ ge. inr (omega arith)) o);
-    same = λ e. let h = s.same (front_nil a b e) in let g = s'.same (back_nil a b e) in (g.0 ∙ h.0, g.1 ∙ h.1);
-  }
-
-  -- the same where nothing was saved
-  since_free : (t p v u : ℕ) (a b : List Item) (st : State) (d : Desk) (st1 : State) (d1 : Desk) (st2 : State) (d2 : Desk) → t ≤ p → p ≤ v → Since size t p a st d st1 d1
-      → Held size p v u b st1 d1 st2 d2 → ((j : ℕ) → size ≤ j → d2.locals u ≡ d1.locals u) → Since size t v (a ++ b) st d st2 d2
-  since_free t p v u a b st d st1 d1 st2 d2 tp pv s s' free = record {
-    keeps = λ j szj o. ⊎_elim (λ e. subst (λ i. d2.locals i ≡ d1.locals i) (sym e) (free j szj)) (λ ne. s'.keeps j szj (⊎_elim (λ lt. inl (omega arith)) (λ ge. inr ge) o) ne)
-        (cases_eq j u) ∙ s.keeps j szj (⊎_elim (λ lt. inl lt) (λ ge. inr (omega arith)) o);
     same = λ e. let h = s.same (front_nil a b e) in let g = s'.same (back_nil a b e) in (g.0 ∙ h.0, g.1 ∙ h.1);
   }
 

@@ -199,10 +199,6 @@ operator_kids ariths.Or = refl
 operator_kids ariths.ShiftLeft = refl
 operator_kids ariths.ShiftRight = refl
 
--- a token over one tree
-abbrev pub unary_below : Leaf → Forest → Forest
-unary_below l f = tree l f none
-
 abbrev mutual
   pub top : Tree → Leaf
   top (Num n) = leaf (constant_token n) (att.Number n)

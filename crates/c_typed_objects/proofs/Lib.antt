@@ -1,4 +1,3 @@
 -- Endings of names: _by goes by the cases of a part that it is given. See docs/READING.md.
-pub mod Lists
 pub mod Forms
 pub mod Limits
