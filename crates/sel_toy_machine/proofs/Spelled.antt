@@ -1,6 +1,6 @@
 -- What the toy machine's operands spell: they are told apart, and touch what they spell.
-use Rattle.std.proofs.Common.{◌≡◌, ℕ, zero, suc, ◌^◌, ◌<◌, ◌==◌, List, [], ◌∷◌, Option, Some, None, Bool, true, false, refl, sym, ap, ◌∙◌, subst, slice_get}
-use Rattle.std.specs.Prelude.{◌↔◌, ◌||◌, cond, unwrap_or}
+use Rattle.std.proofs.Common.{◌≡◌, ℕ, zero, suc, ◌^◌, ◌<◌, ◌==◌, List, [], ◌∷◌, Option, Some, None, true, false, refl, sym, ap, ◌∙◌, subst, slice_get}
+use Rattle.std.specs.Prelude.{◌↔◌, cond, unwrap_or}
 use Rattle.std.specs.List.{list_any}
 use Rattle.std.specs.Int.{bit_at}
 use Rattle.std.proofs.lemmas.Nat.Bits.{bit_at-zero, bit_at-pow_same}
@@ -119,15 +119,6 @@ of_touches q (attr.Con n) s e = absurd (number_nothing n s e)
 of_touches q (attr.Ea o) s e = e
 of_touches q (attr.Token l) s e = token_touches q l.tok l.att s e
 of_touches q attr.Nothing s e = absurd (nothing s e)
-
-any_here : {X : Type 0} (p : X → Bool) (x : X) (xs : List X) → p x ≡ true → list_any p (x ∷ xs) ≡ true
-any_here p x xs e = ap (λ b. b || list_any p xs) e
-
-any_behind : {X : Type 0} (p : X → Bool) (x : X) (xs : List X) → list_any p xs ≡ true → list_any p (x ∷ xs) ≡ true
-any_behind p x xs e = by (p x) where
-  by : (b : Bool) → (b || list_any p xs) ≡ true
-  by true = refl
-  by false = e
 
 hole_touches : (q : TreeProgram) (hs : List (Attr Operand)) (i : ℕ) (s : Spot) (o : Option (Attr Operand)) → hole hs i ≡ o →
     touches toy (some_operand q o) s ≡ true → list_any (λ h. attr_touches toy h s) hs ≡ true

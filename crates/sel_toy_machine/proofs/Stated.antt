@@ -22,7 +22,7 @@ use Rattle.gg_base.specs.declared.run.Finish.TheVariants as finish
 use Rattle.tree_meaning.specs.declared.value.Meaning.{Meaning as Place}
 use Rattle.tree_meaning.specs.declared.value.Meaning.TheVariants as meaning
 use Rattle.tree_meaning.specs.Deeds.{Deed, Puts, Branches, Pushes, Returns as Leaves, Calls as CallDeed, Saves, Jumps, Traps, Strays}
-use Rattle.tree_meaning.specs.Steps.{Goes as GoesOn, GoesTo, Serves, Enters, Ends, strays, with_local_set, with_argument_set, with_pushed, without_pushed}
+use Rattle.tree_meaning.specs.Steps.{Goes as GoesOn, GoesTo, Enters, Ends, strays, with_local_set, with_argument_set, with_pushed, without_pushed}
 use Rattle.tree_meaning.specs.Steps.{deed_step, put_in, wrote, got, called_as, served}
 use Rattle.md_reader_pieces.specs.declared.piece.Line.{Line}
 use Rattle.md_reader.specs.declared.types.Class.{Class}
@@ -355,11 +355,6 @@ module _ (q : TreeProgram) (f : Extent) (fs : List Extent) (classes : List Class
   jump_did label e ready = (m, refl, stays v.state m ready.instance_of.agrees refl)
 
   -- a service is done at once, a function's call is left to be done
-  after_service : (s : State) (n : Machine) (x : ℕ) → Stands q f fs s n → n.callers ≡ m.callers → x < 2 ^ 32 → s.running.result ≡ x →
-      IsStep toy q f fs v.state m (comes (with_register n 0 x)) (Serves None s)
-  after_service s n x h callers small is =
-      (with_register n 0 x, refl, stays s (with_register n 0 x) (register_set q f fs s n h 0 x) callers, part_same Long x small ∙ sym is)
-
   byte_written : (ps : List ℕ) (count : ℕ) → v.state.running.pushed ≡ ps → count ≡ 1 → length ps ≡ count → Stands q f fs v.state m →
       IsStep toy q f fs v.state m (followed (running.written ps m) [] (run [])) (wrote (without_pushed v.state count) (slice_get (take count ps) 0))
   byte_written [] count is one size h = absurd (let e : 0 ≡ 1 = size ∙ one in omega (arith, e))

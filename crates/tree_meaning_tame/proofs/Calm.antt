@@ -88,9 +88,6 @@ module _ (objects : List Object) (s : Sight) where
   leaf_follows : (own : Fate) → (own ≡ Zero → ⊥) → Follows false Well own
   leaf_follows own h = record { astray = λ e. absurd (cc); zero = λ e. absurd (h e) }
 
-  number_no_zero : (n : ℕ) → fate_of_value (Number n) ≡ Zero → ⊥
-  number_no_zero n e = cc
-
   -- the kids' fate as that of values
   one_follows : (v : Value) (f : ℕ → Value) → ((x : ℕ) → fate_of_value (f x) ≡ Zero → ⊥) → Follows false (first (fate_of_value v) Well) (fate_of_value (bind v f))
   one_follows (Number x) f h = record { astray = λ e. absurd (cc); zero = λ e. absurd (h x e) }
@@ -178,9 +175,6 @@ module _ (objects : List Object) (s : Sight) where
   argument_no_zero (att.Branch r n) e = cc
   argument_no_zero (att.Label n) e = cc
   argument_no_zero (att.Callee g n) e = cc
-
-  quotient_zero : (o : Option ℕ) → fate_of_value (quotient o) ≡ Zero → true ≡ true
-  quotient_zero o e = refl
 
   abbrev own_fate : Option Sort → Meaning → Fate
   own_fate None g = Well
