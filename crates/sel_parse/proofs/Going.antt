@@ -52,9 +52,6 @@ Err-same {X = X} a b e = ap out e
     out (Err x) = x
 
 module _ {O I S F : Type 0} (of : Meaning O I S F) (q : TreeProgram) (t : TableView) (first : ℕ) (w : List Leaf) where
-  abbrev pub asking : Answering Leaf (Kept O I)
-  asking = by_attributes (selecting of q t.content first)
-
   -- questions change nothing
   pub keeps : (ns : List ℕ) (x : Kept O I) → (taken (by_attributes (selecting of q t.content first)) t.content.rules ns x).kept ≡ x
   keeps [] x = refl

@@ -1,6 +1,5 @@
 -- Lists of kinds and of attributes, joined.
 use Rattle.std.proofs.Common.{◌≡◌, ℕ, zero, suc, ◌<◌, ◌≤◌, List, [], ◌∷◌, ◌++◌, length, set, take, drop, get_or, slice_get, Option, Some, None, true, refl, ap, sym, ◌∙◌, arith}
-use Rattle.std.specs.Prelude.{◌&&◌}
 use Rattle.std.proofs.lemmas.Bool.{and_from}
 use Rattle.gg_base.proofs.Facts.{first_true, second_true}
 use Rattle.md_reader.specs.declared.types.Kind.{Kind}
@@ -75,11 +74,6 @@ module _ {O : Type 0} where
   joined-set (k ∷ ks) (g ∷ hs) zero h = refl
   joined-set (k ∷ ks) (g ∷ hs) (suc i) h = ap (λ (es : List (Entry O)). record { kind = k; attr = g } ∷ es) (joined-set ks hs i h)
 
-  pub are_low-snoc : (hs : List (Attr O)) (h : Attr O) → are_low hs ≡ true → is_low h ≡ true → are_low (hs ++ h ∷ []) ≡ true
-  are_low-snoc [] h e f = and_from (is_low h) true f refl
-  are_low-snoc (g ∷ hs) h e f =
-      and_from (is_low g) (are_low (hs ++ h ∷ [])) (first_true (is_low g) (are_low hs) e) (are_low-snoc hs h (second_true (is_low g) (are_low hs) e) f)
-
   pub are_low-take : (n : ℕ) (hs : List (Attr O)) → are_low hs ≡ true → are_low (take n hs) ≡ true
   are_low-take zero hs e = refl
   are_low-take (suc n) [] e = refl
@@ -96,15 +90,6 @@ module _ {O : Type 0} where
   are_low-set (g ∷ hs) zero h e f = and_from (is_low h) (are_low hs) f (second_true (is_low g) (are_low hs) e)
   are_low-set (g ∷ hs) (suc i) h e f =
       and_from (is_low g) (are_low (set hs i h)) (first_true (is_low g) (are_low hs) e) (are_low-set hs i h (second_true (is_low g) (are_low hs) e) f)
-
-  pub low_there : (hs : List (Attr O)) (i : ℕ) (h : Attr O) → are_low hs ≡ true → slice_get hs i ≡ Some h → is_low h ≡ true
-  low_there [] i h e there = absurd (cc)
-  low_there (g ∷ hs) zero h e there = first_true (is_low h) (are_low hs) (ap (λ (x : Option (Attr O)). is_low (out x) && are_low hs) (sym there) ∙ e)
-    where
-      out : Option (Attr O) → Attr O
-      out None = h
-      out (Some x) = x
-  low_there (g ∷ hs) (suc i) h e there = low_there hs i h (second_true (is_low g) (are_low hs) e) there
 
   pub low_so : (hs gs : List (Attr O)) → hs ≡ gs → are_low gs ≡ true → are_low hs ≡ true
   low_so hs gs e f = ap (λ (xs : List (Attr O)). are_low xs) e ∙ f

@@ -76,17 +76,6 @@ module _ {O I S F : Type 0} (of : Meaning O I S F) where
             ∙ (ap (λ (hs : List (Attr O)). list_any (holds_some of) hs) (take_within (attrs es) (e.attr ∷ []) n t.within) ∙ t.no_register);
       }
 
-  -- the room that is needed for one more, behind a push
-  pub push_room : (p : Attr O → Bool) (es fs : List (Entry O)) (e : Entry O) (k : ℕ) → fs ≡ es ++ e ∷ [] → length fs < 2 ^ 64 → k ≡ count_by p (attrs es)
-      → k + one (p e.attr) < 2 ^ 64
-  push_room p es fs e k is small c =
-      let all : attrs fs ≡ attrs es ++ e.attr ∷ [] = ap (λ (xs : List (Entry O)). attrs xs) is ∙ attrs-snoc es e in
-      let m = count_by-le-length p (attrs fs) in
-      let l = length-attrs fs in
-      let s : count_by p (attrs fs) ≡ count_by p (attrs es) + one (p e.attr) =
-      ap (λ (hs : List (Attr O)). count_by p hs) all ∙ count-snoc p (attrs es) e.attr in
-      omega (arith, m, l, s, c, small)
-
   -- another attribute at a place
   pub put_tallied : (es fs : List (Entry O)) (i : ℕ) (k : Option Kind) (h g : Attr O) (rs ws ra wa rb wb : List ℕ) (n : ℕ)
       → fs ≡ set es i (record { kind = k; attr = h }) → i < length es → n ≤ i → g ≡ get_or (attrs es) i g

@@ -266,9 +266,6 @@ module _ {O I S F : Type 0} (of : Meaning O I S F) (law : IsLawful of) (stores :
       record { state = b.state; ran = b.ran; sees = b.sees; live = b.live; holds = (stands.token l fit named, b.holds); first_run = λ k. b.first_run k })
 
   -- what comes of a reduction
-  pub record Came (rule : Rule) (x : Stack O I) (x' : Kept O I) : Type 0 where
-    pub came : (x' ≡ None) ⊎ ((y : Stack O I) × (x' ≡ Some y) × (reduced of q d first rule x ≡ Done y))
-
   came_of : (o : Outcome (Stack O I)) (x' : Kept O I) → kept_of o ≡ Some x' → (x' ≡ None) ⊎ ((y : Stack O I) × (x' ≡ Some y) × (o ≡ Done y))
   came_of Full x' e = absurd (none-some x' e)
   came_of Stuck x' e = inl (sym (same_Some None x' e))

@@ -1,5 +1,5 @@
 -- What a reduction leaves: the code comes to a state where the result stands for what the rule gives, or it traps.
-use Rattle.std.proofs.Common.{◌≡◌, ◌⊎◌, inl, inr, ℕ, ◌+◌, ◌<◌, ◌≤◌, List, [], ◌∷◌, ◌++◌, length, Option, Some, None, Bool, true, refl, sym, ap, ◌∙◌, subst}
+use Rattle.std.proofs.Common.{◌≡◌, ℕ, ◌+◌, ◌<◌, ◌≤◌, List, [], ◌∷◌, ◌++◌, length, Option, Some, None, Bool, true, refl, sym, ap, ◌∙◌, subst}
 use Rattle.std.proofs.Common.{arith}
 use Rattle.std.specs.Prelude.{count_ones}
 use Rattle.tree_core.specs.declared.program.TreeProgram.{TreeProgram}
@@ -9,7 +9,6 @@ use Rattle.tree_meaning.specs.State.{State, Extent}
 use Rattle.tree_meaning.specs.Values.{Sight}
 use Rattle.md_reader.specs.declared.types.Kind.{Kind}
 use Rattle.md_reader.specs.declared.types.Kind.TheVariants as kind
-use Rattle.md_reader.specs.declared.types.Give.{Give}
 use Rattle.md_reader.specs.declared.types.Give.TheVariants as give
 use Rattle.md_reader.specs.declared.types.Rule.{Rule}
 use Rattle.md_reader.specs.declared.types.Sym.{Sym}
@@ -17,7 +16,7 @@ use Rattle.md_reader.specs.declared.types.Sym.TheVariants as grammar_symbol
 use Rattle.md_reader.specs.Patterns.{kind_at}
 use Rattle.md_reader.specs.Restrictions.{is_reg, is_nothing}
 use Rattle.md_reader.specs.State.{Content}
-use Rattle.md_reader.specs.Valid.{IsRule, MayGive}
+use Rattle.md_reader.specs.Valid.{IsRule}
 use Rattle.term_core.specs.Value as term
 use Rattle.sel_terms.specs.Reading.{effect_read}
 use Rattle.sel_terms_trees.specs.Senses.{Sense, OfNumber, piled, StandsFor}
@@ -217,10 +216,6 @@ module _ {O I S F : Type 0} (of : Meaning O I S F) (law : IsLawful of) (q : Tree
         (later y ok answered) is trapping)
 
     -- ---- the results that rules may have
-
-    reg_kind : (g : Give) → MayGive d.classes rule.left rule.right g → (g ≡ give.Fresh) ⊎ (g ≡ give.Reuse) → kind_at d.classes rule.left ≡ Some kind.Reg
-    reg_kind g h (inl e) = reg_is (kind_at d.classes rule.left) (subst (λ w. MayGive d.classes rule.left rule.right w) e h)
-    reg_kind g h (inr e) = reg_is (kind_at d.classes rule.left) (subst (λ w. MayGive d.classes rule.left rule.right w) e h)
 
     pub fresh_result : (y : Desk O I) (r : ℕ) → rule.give ≡ give.Fresh → r < 12 → AllUntouched of q d f t (RegAt r ∷ []) y.symbols → IsResult of rule.give (attrs y.symbols) (attr.Reg r)
     fresh_result y r e lt free = subst (λ g. IsResult of g (attrs y.symbols) (attr.Reg r)) (sym e) (lt, avoided of law q d first f fs t s m0 (RegAt r) y.symbols free)

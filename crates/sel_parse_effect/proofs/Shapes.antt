@@ -197,9 +197,6 @@ const_number tok.Save a c e = absurd (cc)
 const_number tok.Jump a c e = absurd (cc)
 const_number tok.End a c e = absurd (cc)
 
-number_same : (n k : ℕ) → OfNumber n ≡ OfNumber k → n ≡ k
-number_same n k e = cc
-
 number_term : (t u : Shape) → Number t ≡ Number u → t ≡ u
 number_term t u e = cc
 

@@ -138,9 +138,6 @@ module _ {O I S F : Type 0} (of : Meaning O I S F) (law : IsLawful of) (q : Tree
 
   -- ---- between two moves of the parse of a tree with so many tokens of two kids
   module _ (k : ℕ) where
-    abbrev most_of : ℕ
-    most_of = first + (k + 1)
-
     pub record At (ws : List Leaf) (a : List Sym) (x : Stack O I) : Type 0 where
       pub parts : List Part
       pub held : Held a x.entries parts
