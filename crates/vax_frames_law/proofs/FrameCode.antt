@@ -16,7 +16,7 @@ use Rattle.tree_core.specs.declared.program.Object.{Object}
 use Rattle.tree_meaning.specs.State.{State as Trees, Extent}
 use Rattle.vax_machine_lists.specs.Sound.{IsSound}
 use Rattle.vax_states.specs.Agreeing.{Agrees}
-use Rattle.vax_machine_lists.specs.Instructions.{Course, ends, comes, Returns, course_of, followed, performed, exec}
+use Rattle.vax_machine_lists.specs.Instructions.{ends, comes, Returns, course_of, followed, performed, exec}
 use Rattle.vax_machine_lists.proofs.Soundness.{conditions_sound}
 use Rattle.vax_frames.specs.Frames.{instr, room_code, end_code}
 use Rattle.vax_states.proofs.Keeping.{sound_register}
@@ -35,9 +35,6 @@ same_memory : (m : State) → SameMemory m m
 same_memory m = record { layout = refl; area = refl; stack = refl; frames = refl; input = refl }
 
 module _ (m : State) (sound : IsSound m) (low : 2139095040 ≤ reg m Sp) (high : reg m Sp ≤ 2147483648) where
-  subtracted : (k : ℕ) → Course
-  subtracted k = exec (instr Subl2 (imm k ∷ (in_reg Sp ∷ [])) ∷ []) m
-
   lowered_codes : ℕ → Conditions
   lowered_codes k = (valued Long (sub32 (reg m Sp) k) (nat_lt (reg m Sp) k)).conditions
 

@@ -212,9 +212,6 @@ module _ (w : Where) where
 
   -- ---- what is done with them
 
-  acts_there : Acts → Acts
-  acts_there r = pair_there r
-
   course_by : (r : Acts) → course_of (pair_there r) ≡ course_there (course_of r) w
   unfolding pair_there
   course_by (Ok x) = refl

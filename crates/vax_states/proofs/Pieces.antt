@@ -29,9 +29,6 @@ stored_below stack x v low bottom high le = λ a from. stored_other stack x a v 
 -- ---- one piece
 
 module _ (stack : List ℕ) (f : Frame) (e : Extent) (a : Activation) (low high : ℕ) (h : Holds stack f e a low high) where
-  words_is : low + 4 * (e.words + length a.pushed) ≡ f.fp
-  words_is = h.words
-
   pub low_fp : low ≤ f.fp
   low_fp = omega (arith, h.words)
 
@@ -51,9 +48,6 @@ module _ (stack : List ℕ) (f : Frame) (e : Extent) (a : Activation) (low high 
 
   pub local_word : (k v : ℕ) → a.locals k ≡ Some v → k < e.words
   local_word k v is = omega (arith, h.is_local k v is, h.locals)
-
-  pub pushed_high : (i : ℕ) → i < length a.pushed → low + 4 * i + 4 ≤ low + 4 * length a.pushed
-  pushed_high i lt = omega arith
 
   pub argument_high : (i : ℕ) → i < length a.arguments → argument_of f.ap (i + 1) + 4 ≤ high
   argument_high i lt = omega (arith, h.end)

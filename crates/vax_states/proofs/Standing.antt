@@ -33,9 +33,6 @@ use Rattle.vax_states.proofs.Keeping.{sound_register, sound_stack, sound_area, w
 module _ (objects : List Object) (e : Extent) (es : List Extent) (t : Trees) (m : State) (h : Agrees objects e es t m) where
   -- ---- where things are
 
-  pub sp_low : 2139095040 ≤ reg m Sp
-  sp_low = h.bottom
-
   pub high_top : h.high ≤ 2147483648
   high_top = hold_end m.stack h.outer es t.callers h.high h.callers
 
