@@ -524,10 +524,7 @@ module _ (c : Scene) (held : Option Shape) (m : State) (h : Sees c held m) where
   read_back [] ys r = r
   read_back (x ∷ xs) ys r = read_back xs ys r.1
 
-  -- a destination in front of none, and none in front of one
-  front_aim : (t : Option Target) (d : Option Destination) → IsDestination c m t d → IsDestination c m (last_of t None) (machine.last_of d None)
-  front_aim t d a = a
-
+  -- none in front of a destination
   back_aim : (t : Option Target) (d : Option Destination) → IsDestination c m t d → IsDestination c m (last_of None t) (machine.last_of None d)
   back_aim None None a = tt
   back_aim None (Some d) a = a
@@ -537,10 +534,6 @@ module _ (c : Scene) (held : Option Shape) (m : State) (h : Sees c held m) where
   back_size : (d : Option Destination) (size : Size) → AtSize d size → AtSize (machine.last_of None d) size
   back_size None size a = a
   back_size (Some d) size a = a
-
-  last_of_none : (t : Option Target) → last_of None t ≡ t
-  last_of_none None = refl
-  last_of_none (Some t) = refl
 
   abbrev whole : Taken → Arguments → Arguments
   whole t r = record { first = t.term; second = r.first; reads = t.reads ++ r.reads; target = last_of t.target r.target; missized = t.missized || r.missized }

@@ -92,9 +92,6 @@ module _ (c : Scene) (m : State) (i : ℕ) (labelled : AreLabelled c.program.obj
     deferred_is = refl;
   }
 
-  abbrev LocalBy : Operand → Operand → Type 0
-  LocalBy o p = (reads o Long m ≡ Some (worth c (Symbol i))) → IsSome (names o Long m) → (p.index ≡ None) × (named m p.base ≡ Some (worth c (Symbol i)))
-
   local_by : (b : Bool) (k : ℕ) → nat_lt k 1024 ≡ true → reads (word_operand k) Long m ≡ Some (worth c (Symbol i)) → IsSome (names (word_operand k) Long m) → IsLocal c m i (token tok.Loc (att.Slot k))
   local_by b k is e some =
       let a = the_number (names (word_operand k) Long m) some in

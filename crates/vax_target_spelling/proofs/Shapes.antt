@@ -414,10 +414,6 @@ module _ (q : TreeProgram) (set : Setting) (hs' : List Hole) (hs : List (Attr Op
   untouched o h (Saved i) = tt
   untouched o h (At a p) = λ e. absurd (h e)
 
-  all_ok : {A B : Type 0} (P : B → Type 0) (r : Result A TemplateKind) (f : A → Result B TemplateKind) → ((x : A) → EachOk P (f x)) → EachOk P (r >>= f)
-  all_ok P (Ok x) f h = h x
-  all_ok P (Err e) f h = tt
-
   each_told : (o : Operand) → (touches vax o s ≡ true → ⊥) → (r : Result Where TemplateKind) → EachOk (λ w. Told w o) r
   each_told o h (Ok w) = untouched o h w
   each_told o h (Err e) = tt
