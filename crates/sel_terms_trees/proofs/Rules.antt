@@ -1,5 +1,5 @@
 -- What a rule's wanted effect gives for the tree that its pattern covers.
-use Rattle.std.proofs.Common.{◌≡◌, ◌⊎◌, inl, inr, ℕ, suc, List, [], ◌∷◌, Option, Some, None, true, refl, sym, ap, subst, slice_get}
+use Rattle.std.proofs.Common.{◌≡◌, ◌⊎◌, inl, inr, ℕ, List, [], ◌∷◌, Option, Some, None, true, refl, sym, ap, subst, slice_get}
 use Rattle.std.specs.Option.{option_map}
 use Rattle.gg_base.specs.declared.size.Size.{Size}
 use Rattle.gg_base.specs.declared.size.Size.TheVariants as sizes
@@ -34,6 +34,7 @@ use Rattle.sel_terms_trees.specs.Senses.{Sense, OfNumber, OfPlace, IsPlace, IsSe
 use Rattle.tree_meaning_tame.specs.Tame.{tree_means}
 use Rattle.sel_terms_trees.specs.Senses as sense
 use Rattle.tree_meaning_tame.specs.Tame.{IsTame, Tame, IsUndivided}
+use Rattle.tree_meaning_tame.proofs.Calm.{KidsTame, kids_on, kid_tame}
 use Rattle.sel_terms_trees.specs.Effects.{GivesBy, TrapsBy}
 use Rattle.sel_terms_trees.proofs.Tokens.{IsWorth, IsZero, IsOf, IsSpot, IsZeroSpot, IsAt, StandsAt}
 use Rattle.sel_terms_trees.proofs.Patterns.{numbered, pattern_law}
@@ -246,39 +247,15 @@ module _ (objects : List Object) (s : Sight) where
       by (att.Label l) f = absurd (cc)
       by (att.Callee g n) f = absurd (cc)
 
-  -- a kid whose value is wanted isn't wild
-  abbrev KidTame : Sort → Option Meaning → Type 0
-  KidTame sort.Long o = kid s o ≡ Wild → ⊥
-  KidTame sort.Byte o = kid s o ≡ Wild → ⊥
-  KidTame sort.Word o = kid s o ≡ Wild → ⊥
-  KidTame x o = Unit {0}
-
-  abbrev pub KidsTame : List Sort → List Meaning → ℕ → Type 0
-  KidsTame [] gs k = Unit {0}
-  KidsTame (x ∷ xs) gs k = KidTame x (slice_get gs k) × KidsTame xs gs (suc k)
-
-  kids_on : (xs : List Sort) (g : Meaning) (gs : List Meaning) (k : ℕ) → KidsTame xs gs k → KidsTame xs (g ∷ gs) (suc k)
-  kids_on [] g gs k h = h
-  kids_on (x ∷ xs) g gs k h = (h.0, kids_on xs g gs (suc k) h.1)
-
-  kid_tame : (x : Sort) (g : Meaning) → IsTame objects s x g → KidTame x (Some g)
-  kid_tame sort.Stmt g h = h
-  kid_tame sort.Long g h = h
-  kid_tame sort.Byte g h = h
-  kid_tame sort.Word g h = h
-  kid_tame sort.PlaceB g h = h
-  kid_tame sort.PlaceW g h = h
-  kid_tame sort.PlaceL g h = h
-
   pub kids_tame : (classes : List Class) {xs : List Sort} {pattern : Trees (sorted_test classes) xs} {f : Forest} {us : List Sense} → Sensed objects s classes xs pattern f us
-      → Tame objects s xs f → KidsTame xs (meanings objects s f) 0
+      → Tame objects s xs f → KidsTame objects s xs (meanings objects s f) 0
   kids_tame classes sense.nothing h = tt
   kids_tame classes (sense.token {x = x} {xs = xs} {f = f} {g = g} l passes below beside fit p q) h =
-      (kid_tame x (tree_means objects s l f) h.0, kids_on xs (tree_means objects s l f) (meanings objects s g) 0 (kids_tame classes q h.2))
+      (kid_tame objects s x (tree_means objects s l f) h.0, kids_on objects s xs (tree_means objects s l f) (meanings objects s g) 0 (kids_tame classes q h.2))
   kids_tame classes (sense.class {x = x} {xs = xs} {f = f} {g = g} {l = l} c v passes below beside is q) h =
-      (kid_tame x (tree_means objects s l f) h.0, kids_on xs (tree_means objects s l f) (meanings objects s g) 0 (kids_tame classes q h.2))
+      (kid_tame objects s x (tree_means objects s l f) h.0, kids_on objects s xs (tree_means objects s l f) (meanings objects s g) 0 (kids_tame classes q h.2))
 
-  token_fact : (z : Size) (t : Tok) (a : Att) (gs : List Meaning) → sort_fits (sort_of t) (sort_of_kind (kind.Place z)) ≡ true → is_of_kind (attribute_of t) a ≡ true → KidsTame (kids t) gs 0
+  token_fact : (z : Size) (t : Tok) (a : Att) (gs : List Meaning) → sort_fits (sort_of t) (sort_of_kind (kind.Place z)) ≡ true → is_of_kind (attribute_of t) a ≡ true → KidsTame objects s (kids t) gs 0
       → PlaceFact z (token_means objects s t a (kid s (slice_get gs 0)) (kid s (slice_get gs 1)))
   token_fact sizes.Byte tok.Zero a gs e f h = absurd (cc)
   token_fact sizes.Byte tok.One a gs e f h = absurd (cc)

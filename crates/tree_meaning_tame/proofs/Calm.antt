@@ -373,22 +373,22 @@ module _ (objects : List Object) (s : Sight) where
           lifted (divides l.tok) (fates (kids l.tok) gs 0) y x g q
           (subst (λ (t : Option Sort). Follows (divides l.tok) (fates (kids l.tok) gs 0) (own_fate t g)) f (token_follows l.tok l.att gs other))
 
-  -- nothing is wild where no memory is read
-  abbrev KidTame : Sort → Option Meaning → Type 0
+  -- a kid whose value is wanted isn't wild
+  abbrev pub KidTame : Sort → Option Meaning → Type 0
   KidTame sort.Long o = kid s o ≡ Wild → ⊥
   KidTame sort.Byte o = kid s o ≡ Wild → ⊥
   KidTame sort.Word o = kid s o ≡ Wild → ⊥
   KidTame x o = Unit {0}
 
-  abbrev KidsTame : List Sort → List Meaning → ℕ → Type 0
+  abbrev pub KidsTame : List Sort → List Meaning → ℕ → Type 0
   KidsTame [] gs k = Unit {0}
   KidsTame (x ∷ xs) gs k = KidTame x (slice_get gs k) × KidsTame xs gs (suc k)
 
-  kids_on : (xs : List Sort) (g : Meaning) (gs : List Meaning) (k : ℕ) → KidsTame xs gs k → KidsTame xs (g ∷ gs) (suc k)
+  pub kids_on : (xs : List Sort) (g : Meaning) (gs : List Meaning) (k : ℕ) → KidsTame xs gs k → KidsTame xs (g ∷ gs) (suc k)
   kids_on [] g gs k h = h
   kids_on (x ∷ xs) g gs k h = (h.0, kids_on xs g gs (suc k) h.1)
 
-  kid_tame : (x : Sort) (g : Meaning) → IsTame objects s x g → KidTame x (Some g)
+  pub kid_tame : (x : Sort) (g : Meaning) → IsTame objects s x g → KidTame x (Some g)
   kid_tame sort.Stmt g h = h
   kid_tame sort.Long g h = h
   kid_tame sort.Byte g h = h
@@ -404,6 +404,7 @@ module _ (objects : List Object) (s : Sight) where
   kids_tame (x ∷ xs) (tree l below behind) typed h =
       (kid_tame x (tree_means objects s l below) h.0, kids_on xs (tree_means objects s l below) (meanings objects s behind) 0 (kids_tame xs behind typed.2 h.2))
 
+  -- nothing is wild where no memory is read
   tame_any : (x : Sort) (g : Meaning) → (read s g ≡ Wild → ⊥) → IsTame objects s x g
   tame_any sort.Stmt g h = tt
   tame_any sort.Long g h = h
