@@ -173,7 +173,7 @@ module _ {O I S F : Type 0} (of : Meaning O I S F) (law : IsLawful of) (stores :
     unmoved : (y : Desk O I) → reloaded of q d first (length rule.right) 0 Begin ≡ Done y → rule.right ≡ grammar_symbol.Tok tok.Save ∷ [] → Begin ≡ y
     unmoved y e alone = done_same Begin y (sym (none_reloaded (length rule.right) 0 Begin (start_loaded alone)) ∙ e)
 
-    may_not : rule.right ≡ grammar_symbol.Tok tok.Save ∷ [] → (p : Where) (e : Entry O) → MayMove of law q d first f fs t s m0 frame lines before.state rule.right Begin.symbols vs [] [] Begin p e → ⊥
+    may_not : rule.right ≡ grammar_symbol.Tok tok.Save ∷ [] → (p : Where) (e : Entry O) → MayMove of Begin p e → ⊥
     may_not alone p e (below i b at holding) =
         none-some e
         (ap (λ (w : List (Entry O)). slice_get w i)

@@ -26,12 +26,13 @@ use Rattle.sel_parse_selected.specs.Entries.{Entry}
 use Rattle.sel_parse_selected.specs.Desk.{Desk, Outcome, Full, Stuck, Done, bind, held, is_free_register, free_register, is_free_word, free_slot}
 use Rattle.sel_parse_selected.specs.Spills.{Where, Below, Among, last_that, holds_register, may_go, deepest, victim, in_slot, entry_in_slot, saved, saved_in, spilled}
 use Rattle.sel_parse_selected.specs.Spills.{with_free, due_by, due}
+use Rattle.sel_parse_stands.proofs.Desks as desks
+use Rattle.sel_parse_stands.proofs.Desks.{MayMove, may_victim}
 use Rattle.sel_parse_stands.proofs.Saving.{lowest_found, bits_none, token_none}
 use Rattle.sel_parse_slots.proofs.Counts.{tick, count, count_any, count_none, total, total_set, tick_small}
 use Rattle.sel_parse_slots.proofs.Fine as fine
 use Rattle.sel_parse_slots.proofs.Fine.{registers, register_one}
-use Rattle.sel_parse_slots.proofs.Counting as counting
-use Rattle.sel_parse_slots.proofs.Counting.{Good, AllFine, Counted, Goes, goes_of, fine_at}
+use Rattle.sel_parse_slots.proofs.Counting.{Good, AllFine, Counted, fine_at}
 use Rattle.sel_parse_registers.proofs.Pools.{tick_true, count_less_in, none_count, lowest_none, ones_counted, total_none, none_last}
 use Rattle.sel_parse_registers.proofs.Pools.{none_first, made_free, not_free}
 
@@ -284,9 +285,9 @@ module _ {O I S F : Type 0} (of : Meaning O I S F) (law : IsLawful of) (q : Tree
     abbrev In : ℕ → Desk O I → Type 0
     In i desk = Counted of law q d first right a c gb gs i desk
 
-    saved_freed : (i : ℕ) (given : Bool) (desk : Desk O I) (p : Where) (e : Entry O) (w : ℕ) → In i desk → OwnedAt of d desk → Goes of law q d first right a c gb gs desk p e
+    saved_freed : (i : ℕ) (given : Bool) (desk : Desk O I) (p : Where) (e : Entry O) (w : ℕ) → In i desk → OwnedAt of d desk → MayMove of desk p e
         → free_slot of first desk ≡ Some w → IsFreed given (saved of q d first desk p e w)
-    saved_freed i given desk p e w h owned (counting.below j e' at holding) free =
+    saved_freed i given desk p e w h owned (desks.below j e' at holding) free =
         let range = lowest_found (is_free_word of desk) first (1024 - first) w free in
         let r0 = range.from in
         let r1 = range.below in
@@ -315,7 +316,7 @@ module _ {O I S F : Type 0} (of : Meaning O I S F) (law : IsLawful of) (q : Tree
             let set = total_set (holds of r) desk.below j e (entry_in_slot of e w) at in
             let old = owned r lt in
             omega (arith, none, set, old)
-    saved_freed i given desk p e w h owned (counting.among j e' at holding not_register) free =
+    saved_freed i given desk p e w h owned (desks.among j e' at holding not_register) free =
         let range = lowest_found (is_free_word of desk) first (1024 - first) w free in
         let r0 = range.from in
         let r1 = range.below in
@@ -356,7 +357,7 @@ module _ {O I S F : Type 0} (of : Meaning O I S F) (law : IsLawful of) (q : Tree
         → Had (IsFreed given) (spilled of q d first desk (victim of given desk))
     spilled_had i given desk h owned some = by (victim of given desk) refl
       where
-        saved_by : (p : Where) (e : Entry O) → Goes of law q d first right a c gb gs desk p e → (o : Option ℕ) → free_slot of first desk ≡ o
+        saved_by : (p : Where) (e : Entry O) → MayMove of desk p e → (o : Option ℕ) → free_slot of first desk ≡ o
             → Had (IsFreed given) (saved_in of q d first desk p (Some e) o)
         saved_by p e goes None at = tt
         saved_by p e goes (Some w) at = saved_freed i given desk p e w h owned goes at
@@ -364,7 +365,7 @@ module _ {O I S F : Type 0} (of : Meaning O I S F) (law : IsLawful of) (q : Tree
         by : (o : Option Where) → victim of given desk ≡ o → Had (IsFreed given) (spilled of q d first desk o)
         by None at = some at
         by (Some p) at =
-            let g = goes_of of law q d first right a c gb gs given desk p at in
+            let g = may_victim of given desk p at in
             subst (λ o. Had (IsFreed given) (saved_in of q d first desk p o (free_slot of first desk))) (sym g.1) (saved_by p g.0 g.2 (free_slot of first desk) refl)
 
     pub due_had : (i : ℕ) (given : Bool) (desk : Desk O I) → In i desk → OwnedAt of d desk → (victim of given desk ≡ None → free_register of d given desk ≡ None → ⊥)

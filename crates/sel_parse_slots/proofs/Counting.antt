@@ -1,10 +1,10 @@
 -- A reduction uses no more words than the entries before it hold registers and slots.
 use Rattle.std.proofs.Common.{◌≡◌, ◌⊎◌, inl, inr, ℕ, zero, suc, ◌+◌, ◌-◌, ◌<◌, ◌≤◌, List, [], ◌∷◌, ◌++◌, Option, Some, None, Bool, true, false, refl, sym, ap, ◌∙◌, subst, arith, length}
 use Rattle.std.proofs.Common.{slice_get, eq-or-lt_of_le, le_of_suc-le-suc}
-use Rattle.std.specs.Prelude.{max, not, if◌then◌else◌, slice_set}
+use Rattle.std.specs.Prelude.{max, not, slice_set}
 use Rattle.std.proofs.lemmas.Option.{same_Some, none-some, slice_get_within}
-use Rattle.std.proofs.lemmas.Bool.{not-true, cases_eq}
-use Rattle.gg_base.proofs.Facts.{first_true, second_true, true_or_false, slice_set_other, slice_set_same}
+use Rattle.std.proofs.lemmas.Bool.{cases_eq}
+use Rattle.gg_base.proofs.Facts.{slice_set_other, slice_set_same}
 use Rattle.tree_core.specs.declared.program.TreeProgram.{TreeProgram}
 use Rattle.md_reader.specs.declared.types.Kind.{Kind}
 use Rattle.md_reader.specs.declared.types.Kind.TheVariants as kind
@@ -17,15 +17,14 @@ use Rattle.sel_target.specs.declared.attr.Attr.TheVariants as attr
 use Rattle.sel_target.specs.Meaning.{Meaning, WordAt}
 use Rattle.sel_target.specs.Laws.{IsLawful}
 use Rattle.sel_target.specs.Instances.{attr_touches, KindFits}
-use Rattle.sel_target.specs.Symbols.{first_that, is_register}
 use Rattle.sel_parse_selected.specs.Entries.{Entry}
 use Rattle.sel_parse_selected.specs.Desk.{Desk, Outcome, Full, Stuck, Done, bind, held, is_free_register, free_register, is_free_word, free_slot}
-use Rattle.sel_parse_selected.specs.Spills.{Where, Below, Among, last_that, holds_register, may_go, deepest, victim, entry_at, in_slot, entry_in_slot, saved, saved_in}
+use Rattle.sel_parse_selected.specs.Spills.{Where, victim, in_slot, entry_in_slot, saved, saved_in}
 use Rattle.sel_parse_selected.specs.Spills.{spilled, with_free, due_by, due}
 use Rattle.sel_parse_selected.specs.Reductions.{loaded, reloaded_by, reloaded_at, reloaded}
 use Rattle.sel_parse_stands.proofs.Loaded.{IsLoaded, in_slot_loaded}
 use Rattle.sel_parse_stands.proofs.Saving.{lowest_found}
-use Rattle.sel_parse_stands.proofs.Desks.{first_passes, last_passes, set_is}
+use Rattle.sel_parse_stands.proofs.Desks.{set_is, MayMove, below, among, may_victim}
 use Rattle.sel_parse_slots.proofs.Counts.{count, tick, count_any, below_lowest, none_lowest, total, total_set, total_append}
 use Rattle.sel_parse_slots.proofs.Fine as fine
 use Rattle.sel_parse_slots.proofs.Fine.{words, charge, weight, weight_charge, IsFine, fine_words, slot_word_one, fine_spilled}
@@ -174,13 +173,8 @@ module _ {O I S F : Type 0} (of : Meaning O I S F) (law : IsLawful of) (q : Tree
     abbrev pub SlotsStay : List (Entry O) → List (Entry O) → Type 0
     SlotsStay old new = (j w : ℕ) (k : Option Kind) → slice_get old j ≡ Some (record { kind = k; attr = attr.InSlot w }) → slice_get new j ≡ Some (record { kind = k; attr = attr.InSlot w })
 
-    -- an entry that may go
-    pub data Goes (desk : Desk O I) : (p : Where) (e : Entry O) → Type 0 where
-      below : (j : ℕ) (e : Entry O) → slice_get desk.below j ≡ Some e → holds_register of e ≡ true → Goes desk (Below j) e
-      among : (j : ℕ) (e : Entry O) → slice_get desk.symbols j ≡ Some e → holds_register of e ≡ true → (is_register e.attr ≡ true → ⊥) → Goes desk (Among j) e
-
     -- some word is free, if there is room
-    tight : (i : ℕ) (desk : Desk O I) (p : Where) (e : Entry O) → Counted i desk → Goes desk p e
+    tight : (i : ℕ) (desk : Desk O I) (p : Where) (e : Entry O) → Counted i desk → MayMove of desk p e
         → count (λ v. not (is_free_word of desk v)) first (1024 - first) + 1 ≤ c
     tight i desk p e h (below j e' at holding) =
         let s = fine_at a desk.below j e h.below_fine at in
@@ -203,7 +197,7 @@ module _ {O I S F : Type 0} (of : Meaning O I S F) (law : IsLawful of) (q : Tree
       pub counted : Counted i new
       pub stays : SlotsStay old.symbols new.symbols
 
-    saved_counted : (i : ℕ) (desk : Desk O I) (p : Where) (e : Entry O) (w : ℕ) → Counted i desk → Goes desk p e → free_slot of first desk ≡ Some w → After i desk (saved of q d first desk p e w)
+    saved_counted : (i : ℕ) (desk : Desk O I) (p : Where) (e : Entry O) (w : ℕ) → Counted i desk → MayMove of desk p e → free_slot of first desk ≡ Some w → After i desk (saved of q d first desk p e w)
     saved_counted i desk p e w h (below j e' at holding) free =
         let range = lowest_found (is_free_word of desk) first (1024 - first) w free in
         let r0 = range.from in
@@ -285,30 +279,6 @@ module _ {O I S F : Type 0} (of : Meaning O I S F) (law : IsLawful of) (q : Tree
     abbrev pub top : ℕ
     top = first + c
 
-    pub goes_of : (given : Bool) (desk : Desk O I) (p : Where) → victim of given desk ≡ Some p → (e : Entry O) × (entry_at of desk p ≡ Some e) × Goes desk p e
-    goes_of given desk p h = by (last_that (holds_register of) desk.below) refl h
-      where
-        Goal : Where → Type 0
-        Goal p = (e : Entry O) × (entry_at of desk p ≡ Some e) × Goes desk p e
-
-        among_goes : (i : ℕ) → first_that (may_go of) desk.symbols ≡ Some i → Goal (Among i)
-        among_goes i h =
-            let r = first_passes (may_go of) desk.symbols i h in (
-              r.element,
-              r.there,
-              among i r.element r.there (second_true (not (is_register r.element.attr)) (holds_register of r.element) r.is)
-                  (λ g. true_or_false (is_register r.element.attr) g (not-true (is_register r.element.attr) (first_true (not (is_register r.element.attr)) (holds_register of r.element) r.is))),
-            )
-
-        second : (g : Bool) (o : Option ℕ) → (if g then None else first_that (may_go of) desk.symbols) ≡ o → deepest of None o ≡ Some p → Goal p
-        second g None at k = absurd (none-some p k)
-        second true (Some i) at k = absurd (none-some i at)
-        second false (Some i) at k = subst Goal (same_Some (Among i) p k) (among_goes i at)
-
-        by : (o : Option ℕ) → last_that (holds_register of) desk.below ≡ o → deepest of o (if given then None else first_that (may_go of) desk.symbols) ≡ Some p → Goal p
-        by None at k = second given (if given then None else first_that (may_go of) desk.symbols) refl k
-        by (Some i) at k = subst Goal (same_Some (Below i) p k) (let r = last_passes (holds_register of) desk.below i at in (r.element, r.there, below i r.element r.there r.is))
-
     pub record IsDue (i : ℕ) (old : Desk O I) (p : ℕ × Desk O I) : Type 0 where
       pub small : p.0 < 12
       pub after : After i old p.1
@@ -323,7 +293,7 @@ module _ {O I S F : Type 0} (of : Meaning O I S F) (law : IsLawful of) (q : Tree
     pub spilled_good : (i : ℕ) (given : Bool) (desk : Desk O I) → Counted i desk → Good top (spilled of q d first desk (victim of given desk)) (After i desk)
     spilled_good i given desk h = by (victim of given desk) refl
       where
-        saved_by : (p : Where) (e : Entry O) → Goes desk p e → (o : Option ℕ) → free_slot of first desk ≡ o → Good top (saved_in of q d first desk p (Some e) o) (After i desk)
+        saved_by : (p : Where) (e : Entry O) → MayMove of desk p e → (o : Option ℕ) → free_slot of first desk ≡ o → Good top (saved_in of q d first desk p (Some e) o) (After i desk)
         saved_by p e goes None at =
             let a = none_lowest (is_free_word of desk) first (1024 - first) at in
             let b = tight i desk p e h goes in
@@ -333,7 +303,7 @@ module _ {O I S F : Type 0} (of : Meaning O I S F) (law : IsLawful of) (q : Tree
         by : (o : Option Where) → victim of given desk ≡ o → Good top (spilled of q d first desk o) (After i desk)
         by None at = tt
         by (Some p) at =
-            let g = goes_of given desk p at in
+            let g = may_victim of given desk p at in
             subst (λ o. Good top (saved_in of q d first desk p o (free_slot of first desk)) (After i desk)) (sym g.1) (saved_by p g.0 g.2 (free_slot of first desk) refl)
 
     pub due_good : (i : ℕ) (given : Bool) (desk : Desk O I) → Counted i desk → Good top (due of q d first given desk) (IsDue i desk)

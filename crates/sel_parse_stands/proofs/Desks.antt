@@ -97,6 +97,42 @@ set_length [] i y = refl
 set_length (x ∷ xs) zero y = refl
 set_length (x ∷ xs) (suc i) y = ap suc (set_length xs i y)
 
+-- ---- which entry may go to a slot
+
+module _ {O I S F : Type 0} (of : Meaning O I S F) where
+  -- what may be moved: an entry that holds a register, and of the symbols one that is no register
+  pub data MayMove (desk : Desk O I) : (p : Where) (e : Entry O) → Type 0 where
+    below : (i : ℕ) (e : Entry O) → slice_get desk.below i ≡ Some e → holds_register of e ≡ true → MayMove desk (Below i) e
+    among : (i : ℕ) (e : Entry O) → slice_get desk.symbols i ≡ Some e → holds_register of e ≡ true → (is_register e.attr ≡ true → ⊥) → MayMove desk (Among i) e
+
+  may_below : (desk : Desk O I) (i : ℕ) → last_that (holds_register of) desk.below ≡ Some i → (e : Entry O) × (entry_at of desk (Below i) ≡ Some e) × MayMove desk (Below i) e
+  may_below desk i h = (let r = last_passes (holds_register of) desk.below i h in (r.element, r.there, below i r.element r.there r.is))
+
+  may_among : (desk : Desk O I) (i : ℕ) → first_that (may_go of) desk.symbols ≡ Some i → (e : Entry O) × (entry_at of desk (Among i) ≡ Some e) × MayMove desk (Among i) e
+  may_among desk i h =
+      let r = first_passes (may_go of) desk.symbols i h in (
+        r.element,
+        r.there,
+        among i r.element r.there (second_true (not (is_register r.element.attr)) (holds_register of r.element) r.is)
+            (λ g. true_or_false (is_register r.element.attr) g (not-true (is_register r.element.attr) (first_true (not (is_register r.element.attr)) (holds_register of r.element) r.is))),
+      )
+
+  pub may_victim : (given : Bool) (desk : Desk O I) (p : Where) → victim of given desk ≡ Some p → (e : Entry O) × (entry_at of desk p ≡ Some e) × MayMove desk p e
+  may_victim given desk p h = by (last_that (holds_register of) desk.below) refl h
+    where
+      Goal : Where → Type 0
+      Goal p = (e : Entry O) × (entry_at of desk p ≡ Some e) × MayMove desk p e
+
+      second : (g : Bool) (o : Option ℕ) → (if g then None else first_that (may_go of) desk.symbols) ≡ o → deepest of None o ≡ Some p → Goal p
+      second g None at k = absurd (none-some p k)
+      second true (Some i) at k = absurd (none-some i at)
+      second false (Some i) at k = subst Goal (same_Some (Among i) p k) (may_among desk i at)
+
+      by : (o : Option ℕ) → last_that (holds_register of) desk.below ≡ o
+          → deepest of o (if given then None else first_that (may_go of) desk.symbols) ≡ Some p → Goal p
+      by None at k = second given (if given then None else first_that (may_go of) desk.symbols) refl k
+      by (Some i) at k = subst Goal (same_Some (Below i) p k) (may_below desk i at)
+
 module _ {O I S F : Type 0} (of : Meaning O I S F) (law : IsLawful of) (q : TreeProgram) (d : Content) (first : ℕ) (f : Extent) (fs : List Extent) (t : State) (s : Sight) (m0 : S)
     (frame : IsFrame of q d first f fs t s m0) (lines : LinesSave of d) where
   abbrev IsSymbol : S → Sym → Option Kind → Attr O → Sense → Type 0
@@ -181,8 +217,8 @@ module _ {O I S F : Type 0} (of : Meaning O I S F) (law : IsLawful of) (q : Tree
       let parts = free_parts (WordAt w ∷ []) desk.former (desk.symbols ++ desk.below) free in
       let two = free_parts (WordAt w ∷ []) desk.symbols desk.below parts.1 in
       let from = h.from in
-      let below = h.below in
-      record { from = from; low = omega (arith, from, below); symbols = two.0; below = two.1 }
+      let upto = h.below in
+      record { from = from; low = omega (arith, from, upto); symbols = two.0; below = two.1 }
 
   -- a register of the pool that no entry below touches, and none of the symbols unless theirs were given back
   pub record IsDue (given : Bool) (desk : Desk O I) (r : ℕ) : Type 0 where
@@ -230,12 +266,7 @@ module _ {O I S F : Type 0} (of : Meaning O I S F) (law : IsLawful of) (q : Tree
     unchanged : (bs : List (Entry O)) → Stays bs bs
     unchanged bs = record { slots = λ j w k lt e. e; loaded = λ i h. h; size = refl }
 
-    -- what may be moved: an entry that holds a register, and of the symbols one that is no register
-    pub data MayMove (desk : Desk O I) : (p : Where) (e : Entry O) → Type 0 where
-      below : (i : ℕ) (e : Entry O) → slice_get desk.below i ≡ Some e → holds_register of e ≡ true → MayMove desk (Below i) e
-      among : (i : ℕ) (e : Entry O) → slice_get desk.symbols i ≡ Some e → holds_register of e ≡ true → (is_register e.attr ≡ true → ⊥) → MayMove desk (Among i) e
-
-    moved_works : (desk : Desk O I) (p : Where) (e : Entry O) (w : ℕ) → MayMove desk p e → Word desk w → w < f.words → Works desk → Works (saved of q d first desk p e w)
+    moved_works : (desk : Desk O I) (p : Where) (e : Entry O) (w : ℕ) → MayMove of desk p e → Word desk w → w < f.words → Works desk → Works (saved of q d first desk p e w)
     moved_works desk p e w (below i e' at holding) word lt works =
         let b = picked works.state desk.below a us i e works.below at in
         let it = entry_saved of law q d first f fs t s m0 frame lines works.state works.sees w word.from lt b.symbol e.kind e.attr b.sense b.is holding in
@@ -267,7 +298,7 @@ module _ {O I S F : Type 0} (of : Meaning O I S F) (law : IsLawful of) (q : Tree
         is_free : (w : ℕ) → Word desk w → w < f.words → IsFree f (WordAt w)
         is_free w word lt = (let own = frame.own in let from = word.from in (omega (arith, own, from), lt))
 
-    moved_stays : (desk : Desk O I) (p : Where) (e : Entry O) (w : ℕ) → MayMove desk p e → Stays desk.symbols (saved of q d first desk p e w).symbols
+    moved_stays : (desk : Desk O I) (p : Where) (e : Entry O) (w : ℕ) → MayMove of desk p e → Stays desk.symbols (saved of q d first desk p e w).symbols
     moved_stays desk p e w (below i e' at holding) = unchanged desk.symbols
     moved_stays desk p e w (among i e' at holding apart) = record {
       slots = slots;
@@ -308,7 +339,7 @@ module _ {O I S F : Type 0} (of : Meaning O I S F) (law : IsLawful of) (q : Tree
     grown : (n k : ℕ) → n ≤ max n k
     grown n k = omega arith
 
-    spilled_by : (given : Bool) (desk new : Desk O I) (p : Where) (e : Entry O) (r : ℕ) → MayMove desk p e
+    spilled_by : (given : Bool) (desk new : Desk O I) (p : Where) (e : Entry O) (r : ℕ) → MayMove of desk p e
         → saved_in of q d first desk p (Some e) (free_slot of first desk) ≡ Done new → free_register of d given new ≡ Some r → Behind given desk r new
     spilled_by given desk new p e r may is due = by (free_slot of first desk) refl is
       where
@@ -326,34 +357,6 @@ module _ {O I S F : Type 0} (of : Meaning O I S F) (law : IsLawful of) (q : Tree
         by None at h = absurd (full_done new h)
         by (Some w) at h = done w at (done_same (saved of q d first desk p e w) new h)
 
-    may_below : (desk : Desk O I) (i : ℕ) → last_that (holds_register of) desk.below ≡ Some i → (e : Entry O) × (entry_at of desk (Below i) ≡ Some e) × MayMove desk (Below i) e
-    may_below desk i h = (let r = last_passes (holds_register of) desk.below i h in (r.element, r.there, below i r.element r.there r.is))
-
-    may_among : (desk : Desk O I) (i : ℕ) → first_that (may_go of) desk.symbols ≡ Some i → (e : Entry O) × (entry_at of desk (Among i) ≡ Some e) × MayMove desk (Among i) e
-    may_among desk i h =
-        let r = first_passes (may_go of) desk.symbols i h in (
-          r.element,
-          r.there,
-          among i r.element r.there (second_true (not (is_register r.element.attr)) (holds_register of r.element) r.is)
-              (λ g. true_or_false (is_register r.element.attr) g (not-true (is_register r.element.attr) (first_true (not (is_register r.element.attr)) (holds_register of r.element) r.is))),
-        )
-
-    may_victim : (given : Bool) (desk : Desk O I) (p : Where) → victim of given desk ≡ Some p → (e : Entry O) × (entry_at of desk p ≡ Some e) × MayMove desk p e
-    may_victim given desk p h = by (last_that (holds_register of) desk.below) refl h
-      where
-        Goal : Where → Type 0
-        Goal p = (e : Entry O) × (entry_at of desk p ≡ Some e) × MayMove desk p e
-
-        second : (g : Bool) (o : Option ℕ) → (if g then None else first_that (may_go of) desk.symbols) ≡ o → deepest of None o ≡ Some p → Goal p
-        second g None at k = absurd (none-some p k)
-        second true (Some i) at k = absurd (none-some i at)
-        second false (Some i) at k = subst Goal (same_Some (Among i) p k) (may_among desk i at)
-
-        by : (o : Option ℕ) → last_that (holds_register of) desk.below ≡ o
-            → deepest of o (if given then None else first_that (may_go of) desk.symbols) ≡ Some p → Goal p
-        by None at k = second given (if given then None else first_that (may_go of) desk.symbols) refl k
-        by (Some i) at k = subst Goal (same_Some (Below i) p k) (may_below desk i at)
-
     pub due_works : (given : Bool) (desk new : Desk O I) (r : ℕ) → due of q d first given desk ≡ Done (r, new) → Behind given desk r new
     due_works given desk new r h = by (free_register of d given desk) refl h
       where
@@ -369,11 +372,11 @@ module _ {O I S F : Type 0} (of : Meaning O I S F) (law : IsLawful of) (q : Tree
             → bind (spilled of q d first desk o) (λ x. with_free of q d first x (free_register of d given x)) ≡ Done (r, new) → Behind given desk r new
         at_victim None at k = absurd (stuck_done (r, new) k)
         at_victim (Some p) at k =
-            let v = may_victim given desk p at in
+            let v = may_victim of given desk p at in
             spilt p v.0 v.1 v.2 (saved_in of q d first desk p (Some v.0) (free_slot of first desk)) refl
             (ap (λ o. bind (saved_in of q d first desk p o (free_slot of first desk)) (λ x. with_free of q d first x (free_register of d given x))) (sym v.1) ∙ k)
           where
-            spilt : (p : Where) (e : Entry O) → entry_at of desk p ≡ Some e → MayMove desk p e → (o : Outcome (Desk O I)) → saved_in of q d first desk p (Some e) (free_slot of first desk) ≡ o
+            spilt : (p : Where) (e : Entry O) → entry_at of desk p ≡ Some e → MayMove of desk p e → (o : Outcome (Desk O I)) → saved_in of q d first desk p (Some e) (free_slot of first desk) ≡ o
                 → bind (saved_in of q d first desk p (Some e) (free_slot of first desk)) (λ x. with_free of q d first x (free_register of d given x)) ≡ Done (r, new) → Behind given desk r new
             spilt p e there may Full is k = absurd (full_done (r, new) (ap (λ o. bind o (λ x. with_free of q d first x (free_register of d given x))) (sym is) ∙ k))
             spilt p e there may Stuck is k = absurd (stuck_done (r, new) (ap (λ o. bind o (λ x. with_free of q d first x (free_register of d given x))) (sym is) ∙ k))
@@ -396,13 +399,13 @@ module _ {O I S F : Type 0} (of : Meaning O I S F) (law : IsLawful of) (q : Tree
 
     -- where nothing may be moved, nothing is
     pub due_unmoved : (given : Bool) (desk new : Desk O I) (r : ℕ) → due of q d first given desk ≡ Done (r, new)
-        → ((p : Where) (e : Entry O) → MayMove desk p e → ⊥) → desk ≡ new
+        → ((p : Where) (e : Entry O) → MayMove of desk p e → ⊥) → desk ≡ new
     due_unmoved given desk new r h stuck = by (free_register of d given desk) h
       where
         at_victim : (o : Option Where) → victim of given desk ≡ o
             → bind (spilled of q d first desk o) (λ x. with_free of q d first x (free_register of d given x)) ≡ Done (r, new) → desk ≡ new
         at_victim None at k = absurd (stuck_done (r, new) k)
-        at_victim (Some p) at k = absurd (let v = may_victim given desk p at in stuck p v.0 v.2)
+        at_victim (Some p) at k = absurd (let v = may_victim of given desk p at in stuck p v.0 v.2)
 
         by : (o : Option ℕ) → due_by of q d first given desk o ≡ Done (r, new) → desk ≡ new
         by (Some r') k = ap (λ p. p.1) (done_same (r', desk) (r, new) k)

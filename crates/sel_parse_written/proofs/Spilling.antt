@@ -22,12 +22,13 @@ use Rattle.sel_parse_selected.specs.Desk.{Desk, Outcome, Full, Stuck, Done, is_f
 use Rattle.sel_parse_selected.specs.Spills.{Where, holds_register, victim, entry_in_slot, saved, saved_in, spilled, with_free, due_by, due}
 use Rattle.sel_parse_selected.specs.Reductions.{loaded, reloaded_by, reloaded_at, reloaded}
 use Rattle.sel_parse_stands.specs.Lines.{LinesSave}
+use Rattle.sel_parse_stands.proofs.Desks as desks
+use Rattle.sel_parse_stands.proofs.Desks.{MayMove, may_victim}
 use Rattle.sel_parse_stands.proofs.Saving.{lowest_found, slot_holds_none}
 use Rattle.sel_parse_lines.proofs.Each.{Each, each_bind}
 use Rattle.sel_parse_slots.proofs.Fine as fine
 use Rattle.sel_parse_slots.proofs.Fine.{charge, IsFine, fine_spilled}
-use Rattle.sel_parse_slots.proofs.Counting as counting
-use Rattle.sel_parse_slots.proofs.Counting.{Good, fine_at, slot_kind, Counted, Goes, goes_of, IsDue, due_good, one_good}
+use Rattle.sel_parse_slots.proofs.Counting.{Good, fine_at, slot_kind, Counted, IsDue, due_good, one_good}
 use Rattle.sel_parse_written.specs.Claims.{LinesPass}
 use Rattle.sel_parse_written.proofs.Classes.{KindIs, AllKinds, kind_there, kinds_set}
 
@@ -77,9 +78,9 @@ module _ {O I S F : Type 0} (of : Meaning O I S F) (law : IsLawful of) (q : Tree
       pub symbols : AllKinds d right desk.symbols
       pub code : Passes desk.code
 
-    saved_written : (i : ℕ) (desk : Desk O I) (p : Where) (e : Entry O) (w : ℕ) → Count i desk → Goes of law q d first right a c gb gs desk p e → free_slot of first desk ≡ Some w
+    saved_written : (i : ℕ) (desk : Desk O I) (p : Where) (e : Entry O) (w : ℕ) → Count i desk → MayMove of desk p e → free_slot of first desk ≡ Some w
         → Written desk → Written (saved of q d first desk p e w)
-    saved_written i desk p e w h (counting.below j e' at holding) free g =
+    saved_written i desk p e w h (desks.below j e' at holding) free g =
         let range = lowest_found (is_free_word of desk) first (1024 - first) w free in
         let from = range.from in
         let upto = range.below in
@@ -91,7 +92,7 @@ module _ {O I S F : Type 0} (of : Meaning O I S F) (law : IsLawful of) (q : Tree
           symbols = g.symbols;
           code = all_append (λ (x : I). good x ≡ true) desk.code (saving of q (saving_line d e.kind) e.attr w) g.code (line, tt);
         }
-    saved_written i desk p e w h (counting.among j e' at holding apart) free g =
+    saved_written i desk p e w h (desks.among j e' at holding apart) free g =
         let range = lowest_found (is_free_word of desk) first (1024 - first) w free in
         let from = range.from in
         let upto = range.below in
@@ -107,7 +108,7 @@ module _ {O I S F : Type 0} (of : Meaning O I S F) (law : IsLawful of) (q : Tree
     spilled_written : (i : ℕ) (given : Bool) (desk : Desk O I) → Count i desk → Written desk → Each Written (spilled of q d first desk (victim of given desk))
     spilled_written i given desk h g = by (victim of given desk) refl
       where
-        saved_by : (p : Where) (e : Entry O) → Goes of law q d first right a c gb gs desk p e → (o : Option ℕ) → free_slot of first desk ≡ o
+        saved_by : (p : Where) (e : Entry O) → MayMove of desk p e → (o : Option ℕ) → free_slot of first desk ≡ o
             → Each Written (saved_in of q d first desk p (Some e) o)
         saved_by p e goes None at = tt
         saved_by p e goes (Some w) at = saved_written i desk p e w h goes at g
@@ -115,7 +116,7 @@ module _ {O I S F : Type 0} (of : Meaning O I S F) (law : IsLawful of) (q : Tree
         by : (o : Option Where) → victim of given desk ≡ o → Each Written (spilled of q d first desk o)
         by None at = tt
         by (Some p) at =
-            let x = goes_of of law q d first right a c gb gs given desk p at in
+            let x = may_victim of given desk p at in
             subst (λ o. Each Written (saved_in of q d first desk p o (free_slot of first desk))) (sym x.1) (saved_by p x.0 x.2 (free_slot of first desk) refl)
 
     -- a register that is due is free then
