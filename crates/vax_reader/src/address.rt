@@ -28,13 +28,6 @@ pub fn addr(bytes: &[u8]) -> Option<(Spelled<'_>, &[u8])>
     Some((Spelled::Label(label, n), rest))
 }
 
-/// A copy of a name.
-pub fn copy_of(alloc: Global, name: &[u8]) -> Result<Name, AllocError>
-    ensures { IfOk result (λ n. n ≡ name.now) }
-{
-    Ok(Name::from_vec(Vec::from_slice(alloc, name)?))
-}
-
 /// The address with a copy of its label.
 pub fn owned(alloc: Global, a: Spelled<'_>) -> Result<Addr, AllocError>
     ensures { IfOk result (λ o. o ≡ addr_of a.entry) }
@@ -45,7 +38,7 @@ pub fn owned(alloc: Global, a: Spelled<'_>) -> Result<Addr, AllocError>
             offset: n,
         }),
         Spelled::Label(name, n) => Ok(Addr {
-            name: Some(copy_of(alloc, name)?),
+            name: Some(Name::copy_of(alloc, name)?),
             offset: n,
         }),
     }

@@ -6,7 +6,6 @@ ghost use Rattle.vax_reader.specs.Lines.{in_word, is_last, comma};
 ghost use Rattle.vax_reader.specs.Lines.{operands_front, target_front, behind_mnemonic, instr_front};
 ghost use Rattle.vax_reader.specs.Answers.{Gives};
 
-use crate::address::copy_of;
 use crate::fronts::{name, strip};
 use crate::line_fault::LineFault;
 use crate::operand::operand;
@@ -78,7 +77,7 @@ fn label(alloc: Global, target: bool, bytes: &[u8]) -> Result<(Option<Name>, &[u
     let Some((label, rest)) = name(bytes) else {
         return Err(LineFault::NotOfForm);
     };
-    Ok((Some(copy_of(alloc, label)?), rest))
+    Ok((Some(Name::copy_of(alloc, label)?), rest))
 }
 
 // What stands behind a mnemonic.

@@ -5,10 +5,11 @@ ghost use Rattle.vax_reader.specs.Fronts.{up_to, from_one};
 ghost use Rattle.vax_reader.specs.Lines.{named_front, ended, counted_front, area_front, item_front};
 ghost use Rattle.vax_reader.specs.Answers.{Gives};
 
-use crate::address::{addr, copy_of, owned};
+use crate::address::{addr, owned};
 use crate::fronts::{from_one, name, strip, up_to};
 use crate::instr::instr;
 use crate::line_fault::LineFault;
+use gg_base::Name;
 use gg_base::limits::AREA_LIMIT;
 use std::alloc::Global;
 use vax_core::{AreaItem, CodeItem};
@@ -65,7 +66,7 @@ pub fn area_line(alloc: Global, bytes: &[u8]) -> Result<(AreaItem, &[u8]), LineF
     ensures { Gives result (area_front bytes.now) }
 {
     if let Some((label, rest)) = named(b":\n", bytes) {
-        return Ok((AreaItem::Label(copy_of(alloc, label)?), rest));
+        return Ok((AreaItem::Label(Name::copy_of(alloc, label)?), rest));
     }
     if let Some(rest) = strip(b"\t.long\t", bytes) {
         let Some((a, rest)) = addr(rest) else {
@@ -80,7 +81,7 @@ pub fn area_line(alloc: Global, bytes: &[u8]) -> Result<(AreaItem, &[u8]), LineF
         let Some((label, rest)) = named(b"\n", rest) else {
             return Err(LineFault::NotOfForm);
         };
-        return Ok((AreaItem::Globl(copy_of(alloc, label)?), rest));
+        return Ok((AreaItem::Globl(Name::copy_of(alloc, label)?), rest));
     }
     match counted(bytes) {
         Some((item, rest)) => Ok((item, rest)),
@@ -94,13 +95,13 @@ pub fn code_line(alloc: Global, bytes: &[u8]) -> Result<(CodeItem, &[u8]), LineF
     ensures { Gives result (item_front bytes.now) }
 {
     if let Some((label, rest)) = named(b":\n", bytes) {
-        return Ok((CodeItem::Label(copy_of(alloc, label)?), rest));
+        return Ok((CodeItem::Label(Name::copy_of(alloc, label)?), rest));
     }
     if let Some(rest) = strip(b"\t.globl\t", bytes) {
         let Some((label, rest)) = named(b"\n", rest) else {
             return Err(LineFault::NotOfForm);
         };
-        return Ok((CodeItem::Globl(copy_of(alloc, label)?), rest));
+        return Ok((CodeItem::Globl(Name::copy_of(alloc, label)?), rest));
     }
     if let Some(rest) = strip(b"\t.word\t", bytes) {
         let Some((mask, rest)) = number_line(MASK_LIMIT, rest) else {
