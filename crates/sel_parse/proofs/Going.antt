@@ -29,6 +29,7 @@ use Rattle.lr_check.proofs.Contained.{nowhere_in}
 use Rattle.lr_check_parse.specs.Moves.{Answering, Move, Shift, Reduce, Ending, Accepts, Blocks, Loops, Refuses, Taken, taken, coming, decided_at, Parses}
 use Rattle.lr_check_parse.specs.Moves as parse
 use Rattle.lr_check_parse.specs.Attributes.{by_attributes, answered}
+use Rattle.lr_check_parse.proofs.Asked.{keeps, kept_so}
 use Rattle.lr_check_parse.proofs.Choosing.{taken_among}
 use Rattle.lr_check_parse.proofs.Bounds.{left, Marks}
 use Rattle.lr_check_parse.proofs.Existence.{shift_falls, from_here}
@@ -52,24 +53,6 @@ Err-same {X = X} a b e = ap out e
     out (Err x) = x
 
 module _ {O I S F : Type 0} (of : Meaning O I S F) (q : TreeProgram) (t : TableView) (first : ℕ) (w : List Leaf) where
-  -- questions change nothing
-  pub keeps : (ns : List ℕ) (x : Kept O I) → (taken (by_attributes (selecting of q t.content first)) t.content.rules ns x).kept ≡ x
-  keeps [] x = refl
-  keeps (n ∷ ns) x = by (slice_get t.content.rules n) (keeps ns x)
-    where
-      others : Kept O I → Taken (Kept O I)
-      others z = taken (by_attributes (selecting of q t.content first)) t.content.rules ns z
-
-      tests : (b c : Bool) → (others x).kept ≡ x
-          → (if b then record { rule = Some n; kept = x } else if c then record { rule = Some n; kept = x } else others x).kept ≡ x
-      tests true c go = refl
-      tests false true go = refl
-      tests false false go = go
-
-      by : (o : Option Rule) → (others x).kept ≡ x → (decided_at (by_attributes (selecting of q t.content first)) n o x others).kept ≡ x
-      by None go = go
-      by (Some r) go = tests (length r.restrictions == 0) (answered (selecting of q t.content first) r x) go
-
   -- the whole parse ends so
   abbrev pub End : Ending (Kept O I) → Type 0
   End e = (log : List (Move Leaf)) × Parsed of q t.content first w log e
@@ -155,9 +138,6 @@ module _ {O I S F : Type 0} (of : Meaning O I S F) (q : TreeProgram) (t : TableV
   Lost (Loops at) = Unit {0}
   Lost Refuses = ⊥
 
-  kept_so : (ws : List Leaf) (a : List Sym) (x y : Kept O I) (o : Option ℕ) → parse.Choice asked rules stmt ws a x o y → x ≡ y
-  kept_so ws a x y o c = sym (keeps of q t first w c.candidates x) ∙ ap (λ (r : Taken (Kept O I)). r.kept) c.takes
-
   none_back : (n : ℕ) → reduced_at of q t.content first n None ≡ Some None
   none_back n = by (slice_get t.content.rules n)
     where
@@ -175,11 +155,11 @@ module _ {O I S F : Type 0} (of : Meaning O I S F) (q : TreeProgram) (t : TableV
   lost (parse.accepts h s f) n = subst (λ (y : Kept O I). Lost (Accepts y)) (sym n) tt
   lost (parse.shifts {l = l} h s b g) n = lost g (ap (shifted l) n)
   lost (parse.reduces {n = m} {ws = ws} {a = a} {x = x} {y = y} {z = z} r h c there red g) n =
-      let was : y ≡ None = sym (kept_so ws a x y (Some m) c) ∙ n in
+      let was : y ≡ None = sym (kept_so (selecting of q t.content first) rules stmt ws a x y (Some m) c) ∙ n in
       let same : Some z ≡ Some None = sym red ∙ (ap (reduced_at of q t.content first m) was ∙ none_back m) in
       lost g (ap (out z) same)
   lost (parse.refuses {n = m} {ws = ws} {a = a} {x = x} {y = y} r h c there red) n =
-      let was : y ≡ None = sym (kept_so ws a x y (Some m) c) ∙ n in
+      let was : y ≡ None = sym (kept_so (selecting of q t.content first) rules stmt ws a x y (Some m) c) ∙ n in
       let same : None ≡ Some None = sym red ∙ (ap (reduced_at of q t.content first m) was ∙ none_back m) in
       unlike same
     where
@@ -388,7 +368,7 @@ module _ {O I S F : Type 0} (of : Meaning O I S F) (q : TreeProgram) (t : TableV
         no_shift = subst (λ (k : Tok). StandsBefore rules stmt g.symbols (grammar_symbol.Tok k) → ⊥) (sym same) off;
         candidates = ns;
         in_order = subst (λ (k : Tok). AreReductions rules stmt g.symbols k ns) (sym same) are;
-        takes = λ i. record { rule = f i; kept = keeps of q t first w ns (Some c.stack) i };
+        takes = λ i. record { rule = f i; kept = keeps (selecting of q t.content first) rules ns (Some c.stack) i };
       }
 
       by : (n : Option ℕ) → (taken asked rules ns (Some c.stack)).rule ≡ n → Come c (made_turn of q t first c o (option_map choice.Reduce n))

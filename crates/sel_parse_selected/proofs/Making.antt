@@ -1,6 +1,6 @@
 -- What a parse keeps is what its moves make.
-use Rattle.std.proofs.Common.{◌≡◌, ℕ, ◌==◌, List, [], ◌∷◌, Option, Some, None, Bool, true, false, length, slice_get, refl, sym, ap, ◌∙◌}
-use Rattle.std.specs.Prelude.{if◌then◌else◌, option_and_then}
+use Rattle.std.proofs.Common.{◌≡◌, ℕ, List, [], ◌∷◌, Option, Some, None, Bool, true, false, slice_get, refl, sym, ap, ◌∙◌}
+use Rattle.std.specs.Prelude.{option_and_then}
 use Rattle.std.proofs.lemmas.Bool.{true≢false}
 use Rattle.gg_base.proofs.Facts.{some_none}
 use Rattle.tree_core.specs.declared.tree.Leaf.{Leaf}
@@ -9,8 +9,9 @@ use Rattle.md_reader.specs.declared.types.Rule.{Rule}
 use Rattle.md_reader.specs.declared.types.Sym.{Sym}
 use Rattle.md_reader.specs.State.{Content}
 use Rattle.lr_tables.specs.Statements.{stmt_of}
-use Rattle.lr_check_parse.specs.Moves.{Move, Shift, Reduce, Ending, Accepts, Blocks, Loops, Refuses, Taken, taken, decided_at, Choice, Parses, loops, accepts, shifts, reduces, refuses, blocks}
-use Rattle.lr_check_parse.specs.Attributes.{by_attributes, answered}
+use Rattle.lr_check_parse.specs.Moves.{Move, Shift, Reduce, Ending, Accepts, Blocks, Loops, Refuses, Parses, loops, accepts, shifts, reduces, refuses, blocks}
+use Rattle.lr_check_parse.specs.Attributes.{by_attributes}
+use Rattle.lr_check_parse.proofs.Asked.{kept_so}
 use Rattle.lr_check_parse.proofs.OneWay.{parse_one_way}
 use Rattle.sel_target.specs.Meaning.{Meaning}
 use Rattle.sel_parse_selected.specs.Desk.{Stack, Outcome, Full, Stuck, Done}
@@ -19,28 +20,6 @@ use Rattle.sel_parse_selected.specs.Selected.{Kept, kept_of, shifted, reduced_by
 use Rattle.sel_parse_selected.specs.Claims.{IsFullBehind, HasOneCode, IsOneEnd, IsMade, IsFull}
 
 module _ {O I S F : Type 0} (of : Meaning O I S F) (q : TreeProgram) (d : Content) (first : ℕ) where
-  -- questions change nothing
-  keeps : (ns : List ℕ) (x : Kept O I) → (taken (by_attributes (selecting of q d first)) d.rules ns x).kept ≡ x
-  keeps [] x = refl
-  keeps (n ∷ ns) x = by (slice_get d.rules n) (keeps ns x)
-    where
-      others : Kept O I → Taken (Kept O I)
-      others z = taken (by_attributes (selecting of q d first)) d.rules ns z
-
-      tests : (b c : Bool) → (others x).kept ≡ x
-          → (if b then record { rule = Some n; kept = x } else if c then record { rule = Some n; kept = x } else others x).kept ≡ x
-      tests true c go = refl
-      tests false true go = refl
-      tests false false go = go
-
-      by : (o : Option Rule) → (others x).kept ≡ x → (decided_at (by_attributes (selecting of q d first)) n o x others).kept ≡ x
-      by None go = go
-      by (Some r) go = tests (length r.restrictions == 0) (answered (selecting of q d first) r x) go
-
-  kept_so : (ws : List Leaf) (a : List Sym) (x : Kept O I) (o : Option ℕ) (y : Kept O I)
-      → Choice (by_attributes (selecting of q d first)) d.rules (stmt_of d.classes) ws a x o y → x ≡ y
-  kept_so ws a x o y c = sym (keeps c.candidates x) ∙ ap (λ (t : Taken (Kept O I)). t.kept) c.takes
-
   -- a reduction that is refused found the frame full
   refused_full : (n : ℕ) (r : Rule) (x : Kept O I) → slice_get d.rules n ≡ Some r → reduced_by of q d first (Some r) x ≡ None
       → IsFullBehind of q d first [] x
@@ -86,9 +65,11 @@ module _ {O I S F : Type 0} (of : Meaning O I S F) (q : TreeProgram) (d : Conten
   making (accepts n s f) = refl
   making (shifts {l = l} {x = x} {log = log} {e = e} n s b g) = shifted_behind l log x e (making g)
   making (reduces {n = n} {ws = ws} {a = a} {x = x} {y = y} {z = z} {log = log} {e = e} r m c there red g) =
-      reduced_behind n log x z e (ap (reduced_at of q d first n) (kept_so ws a x (Some n) y c) ∙ red) (making g)
+      reduced_behind n log x z e (ap (reduced_at of q d first n) (kept_so (selecting of q d first) d.rules (stmt_of d.classes) ws a x y (Some n) c) ∙ red) (making g)
   making (refuses {n = n} {ws = ws} {a = a} {x = x} {y = y} r m c there red) =
-      refused_full n r x there (ap (λ (o : Option Rule). reduced_by of q d first o x) (sym there) ∙ ap (reduced_at of q d first n) (kept_so ws a x (Some n) y c) ∙ red)
+      refused_full n r x there
+      (ap (λ (o : Option Rule). reduced_by of q d first o x) (sym there)
+      ∙ ap (reduced_at of q d first n) (kept_so (selecting of q d first) d.rules (stmt_of d.classes) ws a x y (Some n) c) ∙ red)
   making (blocks n c) = tt
 
 module _ {O I S F : Type 0} (of : Meaning O I S F) where
