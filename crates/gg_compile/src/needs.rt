@@ -5,8 +5,8 @@ ghost use Rattle.gg_compile.specs.Needs.{AllFit, IsOver};
 
 use crate::fault::CompileFault;
 use c_typed::Program;
-use gg_base::NoMemory;
 use gg_base::limits::NEED_LIMIT;
+use gg_base::number_of;
 
 /// Refuses a program with a function that needs more than 1,024 words of its frame: the first such function.
 #[tactic(auto, using(crate::proofs::Needing::one_fits, crate::proofs::Needing::all_fit, crate::proofs::Needing::first_over))]
@@ -15,14 +15,12 @@ pub fn check_needs(source: &Program) -> Result<(), CompileFault>
     ensures over { IfErr result (IsOver (program source.now.held)) }
 {
     let count = source.plain().routines.len();
-    let mut function = 0;
-    while (function as usize) < count {
+    for number in 0..count {
+        let function = number_of(number)?;
         let need = source.need(function);
         if need > NEED_LIMIT {
             return Err(CompileFault::FrameFull { function, need });
         }
-        // More functions than 32 bits can number count as want of memory.
-        function = function.checked_add(1).ok_or(NoMemory)?;
     }
     Ok(())
 }
