@@ -1,2 +1,3 @@
 pub mod Sizes
 pub mod Claims
+pub use Rattle.c_lower_spelled

@@ -4,3 +4,5 @@ pub mod Stops
 pub mod Descriptions
 pub mod Outcome
 pub mod Exact
+pub use Rattle.lr_checked
+pub use Rattle.sel_parse

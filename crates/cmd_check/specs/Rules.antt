@@ -13,7 +13,7 @@ use Rattle.sel_target.specs.declared.fault.TemplateKind.TheVariants as template_
 use Rattle.sel_parse.specs.declared.fault.ShowFault.{ShowFault}
 use Rattle.sel_parse.specs.declared.fault.ShowFault.TheVariants as faults
 use Rattle.sel_parse.specs.Shown.{Refusal, PoolSmall, Template, Unshown, first_refusal}
-use Rattle.vax_templates.specs.Found.{found, saved_found}
+use Rattle.gg_accepted.specs.vax_templates.specs.Found.{found, saved_found}
 
 -- the first thing that stands against the rules of a description, or the lines that save and reload, on the VAX
 abbrev pub vax_refusal : Content → Option Refusal

@@ -4,3 +4,6 @@ pub mod Outcome
 pub mod Exact
 pub use Rattle.gg_compile.specs.Selecting
 pub use Rattle.gg_compile.specs.Keeping
+pub use Rattle.cmd_check
+pub use Rattle.cmd_meaning
+pub use Rattle.cmd_check.specs.lr_checked as lr_checked

@@ -11,7 +11,7 @@ use Rattle.cmd_session.specs.Telling.{IsStarved}
 use Rattle.cmd_files.specs.Stages.{OutputRefused}
 use Rattle.md_reader.specs.State.{Content}
 use Rattle.c_program.specs.Programs.{AProgram}
-use Rattle.c_typed_check.specs.Typed.{need_at}
+use Rattle.gg_load_reads.specs.c_typed_check.specs.Typed.{need_at}
 use Rattle.c_typed.specs.Sources.{Reads}
 use Rattle.c_meaning.specs.Programs.{source}
 use Rattle.vax_machine.specs.declared.loading.LoadFault.{LoadFault}

@@ -1,6 +1,6 @@
 // Generated sources and their programs.
 ghost use Rattle.std.specs.Prelude.{◌≡◌, ◌≤◌, IfOk, vec_len, length};
-ghost use Rattle.c_typed_check.specs.Views.{typed};
+ghost use Rattle.gg_load_reads.specs.c_typed_check.specs.Views.{typed};
 ghost use Rattle.gg_load.specs.Source.{source_text};
 ghost use Rattle.gg_load_program.specs.Program.{source_program};
 

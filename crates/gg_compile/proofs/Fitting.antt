@@ -14,7 +14,7 @@ use Rattle.tree_core.specs.Valid.{is_aligned, is_whole, is_placed, rounded, obje
 use Rattle.tree_core.proofs.Validity.{rounded_up}
 use Rattle.c_program.specs.Programs.{ARoutine, AProgram}
 use Rattle.c_program.specs.Need.{need_of}
-use Rattle.c_typed_check.specs.Typed.{need_at, need_in}
+use Rattle.c_lower.specs.c_typed_check.specs.Typed.{need_at, need_in}
 use Rattle.c_lower.specs.Claims.{HasParts}
 use Rattle.gg_compile.specs.Needs.{AllFit}
 

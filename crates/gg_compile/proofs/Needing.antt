@@ -3,7 +3,7 @@ use Rattle.std.proofs.Common.{◌≡◌, ℕ, ◌+◌, ◌<◌, ◌≤◌, lengt
 use Rattle.std.proofs.lemmas.List.{length-map}
 use Rattle.c_program.specs.declared.program.Program.{Program}
 use Rattle.c_program.specs.Programs.{AProgram, routine, program}
-use Rattle.c_typed_check.specs.Typed.{need_at}
+use Rattle.c_lower.specs.c_typed_check.specs.Typed.{need_at}
 use Rattle.gg_compile.specs.Needs.{FitBefore, AllFit, IsFirstOver}
 
 pub one_fits : (p : AProgram) (n function need : ℕ) → FitBefore p n → function ≡ n → need ≡ need_at p function → need ≤ 1024 → FitBefore p (n + 1)

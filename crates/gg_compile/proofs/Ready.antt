@@ -6,10 +6,10 @@ use Rattle.gg_base.proofs.Facts.{no_prop}
 use Rattle.tree_core.specs.declared.program.TreeItem.TheVariants as tree_item
 use Rattle.tree_core.specs.declared.program.TreeProgram.{TreeProgram}
 use Rattle.md_reader.specs.State.{Content}
-use Rattle.lr_checked.specs.Accepted.{NeverStops}
-use Rattle.sel_parse_effect.specs.Claims.{IsFit}
+use Rattle.gg_accepted.specs.lr_checked.specs.Accepted.{NeverStops}
+use Rattle.gg_accepted.specs.sel_parse_effect.specs.Claims.{IsFit}
 use Rattle.c_program.specs.Programs.{program}
-use Rattle.c_typed_check.specs.declared.program.Program.{Program}
+use Rattle.c_lower.specs.c_typed_check.specs.declared.program.Program.{Program}
 use Rattle.c_lower_scheme.specs.Programs.{lowered}
 use Rattle.vax_core.specs.declared.code.Code.{Code}
 use Rattle.vax_core.specs.Valid.{is_code}

@@ -1,7 +1,7 @@
 -- Which functions fit a frame.
 use Rattle.std.specs.Prelude.{◌≡◌, ℕ, ◌<◌, ◌≤◌, length}
 use Rattle.c_program.specs.Programs.{AProgram}
-use Rattle.c_typed_check.specs.Typed.{need_at}
+use Rattle.c_lower.specs.c_typed_check.specs.Typed.{need_at}
 use Rattle.gg_compile.specs.declared.fault.CompileFault.{CompileFault}
 use Rattle.gg_compile.specs.declared.fault.CompileFault.TheVariants as faults
 

@@ -17,7 +17,7 @@ use Rattle.vax_core.specs.declared.code.AreaItem.{AreaItem}
 use Rattle.vax_core.specs.declared.code.CodeItem.{CodeItem}
 use Rattle.vax_core.specs.declared.code.CodeItem.TheVariants as item_kind
 use Rattle.vax_frames.specs.Frames.{code_items, IsFrameCode}
-use Rattle.gg_compile_law.specs.Spelling.{area_of}
+use Rattle.gg_compile_area.specs.gg_compile_law.specs.Spelling.{area_of}
 use Rattle.gg_compile_code.specs.Selecting.{AreSelected, nothing, label, tree, PutsItem, IsSelectedFunction, AreSelectedFunctions, none, more, SelectedAll}
 use Rattle.gg_compile_code.proofs.Appending.{selected_append, functions_append}
 

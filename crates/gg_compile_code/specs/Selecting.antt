@@ -17,7 +17,7 @@ use Rattle.vax_core.specs.declared.code.Code.{Code}
 use Rattle.vax_core.specs.declared.code.CodeItem.{CodeItem}
 use Rattle.vax_core.specs.declared.code.CodeItem.TheVariants as item_kind
 use Rattle.vax_frames.specs.Frames.{code_items, IsFrameCode}
-use Rattle.gg_compile_law.specs.Spelling.{area_of}
+use Rattle.gg_compile_area.specs.gg_compile_law.specs.Spelling.{area_of}
 
 module _ {S F : Type 0} (of : Meaning Operand Instr S F) (d : Content) (program : TreeProgram) where
   -- The code of some of a function's items: labels stay, and each tree is its selected code. Its slots begin behind the locals. The two

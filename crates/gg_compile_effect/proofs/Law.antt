@@ -22,14 +22,14 @@ use Rattle.md_reader.specs.declared.types.Rule.{Rule}
 use Rattle.md_reader.specs.State.{Content}
 use Rattle.sel_terms.specs.Effects.{EffectShape}
 use Rattle.sel_target.specs.StatementLaws.{IsStep}
-use Rattle.sel_parse.specs.Shown.{IsShown}
+use Rattle.vax_target_places.specs.sel_parse.specs.Shown.{IsShown}
 use Rattle.sel_parse_moves.specs.Claims.{root, deed}
 use Rattle.sel_parse_moves.specs.Possible.{FitsArea, IsPossible}
 use Rattle.sel_parse_desk.specs.Selected.{tree_of}
-use Rattle.sel_parse_selected.specs.Selected.{Selected}
-use Rattle.sel_parse_effect.specs.Claims.{frame_sight, IsFit, Begins}
-use Rattle.sel_parse_effect.specs.Claims as selection
-use Rattle.sel_parse_effect.proofs.Law.{selected_has_effect}
+use Rattle.sel_parse_lines.specs.sel_parse_selected.specs.Selected.{Selected}
+use Rattle.vax_target_places.specs.sel_parse_effect.specs.Claims.{frame_sight, IsFit, Begins}
+use Rattle.vax_target_places.specs.sel_parse_effect.specs.Claims as selection
+use Rattle.vax_target_places.specs.sel_parse_effect.proofs.Law.{selected_has_effect}
 use Rattle.sel_parse_lines.proofs.Ending.{statements_have_code}
 use Rattle.vax_core.specs.declared.code.Instr.{Instr}
 use Rattle.vax_machine.specs.State.{State}

@@ -27,7 +27,7 @@ use Rattle.sel_parse_moves.specs.Claims.{root}
 use Rattle.sel_parse_moves.proofs.Covering.{AreLeaves}
 use Rattle.sel_parse_moves.proofs.Moves.{leaves_of}
 use Rattle.sel_parse_desk.specs.Selected.{tree_of}
-use Rattle.sel_parse_stands.specs.Stands.{NamedBy, Names}
+use Rattle.vax_target_places.specs.sel_parse_stands.specs.Stands.{NamedBy, Names}
 use Rattle.vax_core.specs.declared.register.Reg.TheVariants.{R0}
 use Rattle.vax_machine.specs.State.{State, reg}
 use Rattle.vax_target_meaning.specs.Vax.{vax}

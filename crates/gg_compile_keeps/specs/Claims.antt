@@ -5,7 +5,7 @@ use Rattle.gg_base.specs.Follows.{Follows}
 use Rattle.tree_core.specs.declared.program.TreeProgram.{TreeProgram}
 use Rattle.tree_meaning.specs.Meaning.{tree_run}
 use Rattle.md_reader.specs.State.{Content}
-use Rattle.sel_parse_effect.specs.Claims.{IsFit}
+use Rattle.sel_parse_joined.specs.sel_parse_effect.specs.Claims.{IsFit}
 use Rattle.vax_core.specs.declared.code.Code.{Code}
 use Rattle.vax_machine.specs.Loading.{Loads}
 use Rattle.vax_machine.specs.Running.{run}

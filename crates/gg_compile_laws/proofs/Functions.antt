@@ -12,7 +12,7 @@ use Rattle.tree_core.specs.declared.program.TreeProgram.{TreeProgram}
 use Rattle.tree_core.specs.Valid.{IsValid}
 use Rattle.tree_core.specs.Names.{function_label}
 use Rattle.md_reader.specs.State.{Content}
-use Rattle.sel_parse_effect.specs.Claims.{IsFit}
+use Rattle.sel_parse_written.specs.sel_parse_effect.specs.Claims.{IsFit}
 use Rattle.vax_core.specs.declared.code.CodeItem.{CodeItem}
 use Rattle.vax_core.specs.declared.code.Instr.{Instr}
 use Rattle.vax_core.specs.Valid.{is_long, is_name, is_instr, is_code_item}
@@ -21,7 +21,7 @@ use Rattle.vax_target_meaning.specs.Fitting.{CanWrite}
 use Rattle.vax_target_meaning.specs.Vax.{vax}
 use Rattle.gg_compile_law.specs.Names.{AreSmall, HaveSmall}
 use Rattle.gg_compile_law.proofs.Validity.{IsIn}
-use Rattle.gg_compile_code.specs.Selecting.{AreSelected, nothing, label, tree, IsSelectedFunction, AreSelectedFunctions, none, more}
+use Rattle.gg_compile_keeps.specs.gg_compile_code.specs.Selecting.{AreSelected, nothing, label, tree, IsSelectedFunction, AreSelectedFunctions, none, more}
 use Rattle.gg_compile_laws.specs.Keeping.{IsWithinLimits}
 use Rattle.gg_compile_laws.proofs.Tests.{label_spelled}
 use Rattle.gg_compile_laws.proofs.Trees.{instrs_valid, words_low}

@@ -13,14 +13,14 @@ use Rattle.c_meaning.specs.Programs.{source}
 use Rattle.c_lower_scheme.specs.Programs.{lowered}
 use Rattle.md_reader.specs.State.{Content}
 use Rattle.sel_target.specs.Spelled.{IsSpelled}
-use Rattle.sel_parse_effect.specs.Claims.{IsFit}
+use Rattle.sel_parse_written.specs.sel_parse_effect.specs.Claims.{IsFit}
 use Rattle.vax_core.specs.declared.code.Code.{Code}
 use Rattle.vax_core.specs.Valid.{is_name}
 use Rattle.vax_machine.specs.Loading.{Loads}
 use Rattle.vax_machine.specs.Running.{run}
 use Rattle.vax_target_meaning.specs.Vax.{vax}
 use Rattle.gg_compile_law.specs.Names.{HaveSmall}
-use Rattle.gg_compile_code.specs.Selecting.{SelectedAll}
+use Rattle.gg_compile_keeps.specs.gg_compile_code.specs.Selecting.{SelectedAll}
 use Rattle.gg_compile_keeps.specs.Programs.{EachTree}
 
 -- The code loads, and on every input of bytes its run follows the program's.

@@ -9,15 +9,15 @@ use Rattle.tree_core.specs.Valid.{IsValid}
 use Rattle.md_reader.specs.State.{Content}
 use Rattle.lr_tables.specs.View.{TableView}
 use Rattle.lr_tables.specs.Promises.{IsNumbered}
-use Rattle.lr_checked.specs.Accepted.{NeverStops}
+use Rattle.sel_parse_written.specs.lr_checked.specs.Accepted.{NeverStops}
 use Rattle.sel_target.specs.Spelled.{IsSpelled}
 use Rattle.sel_parse_desk.specs.Selected.{tree_of}
-use Rattle.sel_parse_effect.specs.Claims.{IsFit}
-use Rattle.sel_parse_law.specs.Claims.{HasCode}
+use Rattle.sel_parse_written.specs.sel_parse_effect.specs.Claims.{IsFit}
+use Rattle.sel_parse_written.specs.sel_parse_law.specs.Claims.{HasCode}
 use Rattle.vax_target_meaning.specs.Fitting.{CanWrite}
 use Rattle.vax_target_meaning.specs.Vax.{vax}
 use Rattle.gg_compile_keeps.specs.Programs.{EachTree}
-use Rattle.gg_compile_code.specs.Going.{ProgramGoes}
+use Rattle.gg_compile_keeps.specs.gg_compile_code.specs.Going.{ProgramGoes}
 use Rattle.gg_compile_laws.specs.Rooms.{HasRooms}
 
 -- A valid program whose trees have room, whose names can be spelled, and whose numbers, offsets and labels are longwords.

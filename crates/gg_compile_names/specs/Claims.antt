@@ -7,7 +7,7 @@ use Rattle.tree_core.specs.declared.program.TreeFn.{TreeFn}
 use Rattle.tree_core.specs.declared.program.TreeProgram.{TreeProgram}
 use Rattle.tree_core.specs.Names.{label_name, function_label}
 use Rattle.md_reader.specs.State.{Content}
-use Rattle.sel_parse_selected.specs.Selected.{Selected}
+use Rattle.sel_parse_lines.specs.sel_parse_selected.specs.Selected.{Selected}
 use Rattle.vax_core.specs.declared.code.AreaItem.{AreaItem}
 use Rattle.vax_core.specs.declared.code.CodeItem.{CodeItem}
 use Rattle.vax_core.specs.declared.code.Instr.{Instr}

@@ -2,8 +2,8 @@
 use Rattle.std.proofs.Common.{◌≡◌, ℕ, List, inl, inr, sym, subst}
 use Rattle.md_reader.specs.State.{Content}
 use Rattle.c_program.specs.Programs.{AProgram}
-use Rattle.lr_checked.specs.declared.checking.CheckFault.{CheckFault}
-use Rattle.lr_checked.specs.declared.checking.CheckFault.TheVariants as check_fault
+use Rattle.cmd_compile.specs.lr_checked.specs.declared.checking.CheckFault.{CheckFault}
+use Rattle.cmd_compile.specs.lr_checked.specs.declared.checking.CheckFault.TheVariants as check_fault
 use Rattle.sel_parse.specs.Shown.{Refusal, PoolSmall, Template, Unshown}
 use Rattle.cmd_session.specs.declared.status.Status.{Status}
 use Rattle.cmd_session.specs.declared.status.Status.TheVariants as statuses
@@ -11,10 +11,10 @@ use Rattle.cmd_session.specs.Writing.{Change}
 use Rattle.cmd_session.specs.Telling.{IsRefused, IsStarved}
 use Rattle.cmd_files.specs.Outsides.{Lookup}
 use Rattle.cmd_files.specs.Stages.{FileRefused, Unread, LongFile, WrongFile, StarvedFile, OutputRefused, CutOutput, StarvedOutput}
-use Rattle.cmd_check.specs.Rules.{refusal_status, RulesRefused, NotShown, StarvedShow}
-use Rattle.cmd_check.specs.Stops.{TellsStop}
-use Rattle.cmd_check.specs.Descriptions.{description_form, BuildRefused, TooMany, StarvedBuild, NotRead, NotBuilt, NotAccepted, NoTables, Stopped, NoRules}
-use Rattle.cmd_meaning.specs.Sources.{source_form}
+use Rattle.cmd_compile.specs.cmd_check.specs.Rules.{refusal_status, RulesRefused, NotShown, StarvedShow}
+use Rattle.cmd_compile.specs.cmd_check.specs.Stops.{TellsStop}
+use Rattle.cmd_compile.specs.cmd_check.specs.Descriptions.{description_form, BuildRefused, TooMany, StarvedBuild, NotRead, NotBuilt, NotAccepted, NoTables, Stopped, NoRules}
+use Rattle.cmd_compile.specs.cmd_meaning.specs.Sources.{source_form}
 use Rattle.cmd_compile.specs.Texts.{HasNoText, FrameIsFull, StarvedText}
 use Rattle.cmd_compile.specs.Outcome.{NoDescription, NoProgram, NoText, NotWritten, Written}
 use Rattle.gg_headline.specs.Claims.{IsRefusal, CompileEnds}

@@ -39,8 +39,8 @@ use Rattle.sel_terms.specs.Wanted.{whole, first_part}
 use Rattle.sel_terms.specs.Reading.{below, step, stack_from, effect_read}
 use Rattle.sel_terms.specs.RuleFacts.{facts_of}
 use Rattle.sel_terms_meaning.specs.Alike.{ActsAlike}
-use Rattle.sel_terms_trees.specs.Senses.{Sense, OfLeaf, OfNumber, OfPlace, IsPlace, unknown, sense_at, means_at, att_of as att_in}
-use Rattle.sel_terms_trees.specs.Effects.{Does, DoesBy}
+use Rattle.sel_parse_moves.specs.sel_terms_trees.specs.Senses.{Sense, OfLeaf, OfNumber, OfPlace, IsPlace, unknown, sense_at, means_at, att_of as att_in}
+use Rattle.sel_parse_moves.specs.sel_terms_trees.specs.Effects.{Does, DoesBy}
 use Rattle.sel_target.specs.declared.attr.Attr.{Attr}
 use Rattle.sel_target.specs.declared.attr.Attr.TheVariants as attr
 use Rattle.sel_target.specs.Meaning.{Meaning}
@@ -51,10 +51,10 @@ use Rattle.sel_target.specs.EffectTerms.{IsSignedBy}
 use Rattle.sel_target.specs.Instances.{hole, IsResult, lines_of}
 use Rattle.sel_target.specs.StatementLaws.{att_of, IsStep, DoesAct}
 use Rattle.sel_target.specs.Symbols.{branch_relation, relation_of}
-use Rattle.lr_check_parse.specs.Attributes.{attribute_at, relation_at, is_signed, holds, all_hold}
+use Rattle.sel_parse_moves.specs.lr_check_parse.specs.Attributes.{attribute_at, relation_at, is_signed, holds, all_hold}
 use Rattle.sel_parse.specs.Shown.{IsShown}
-use Rattle.sel_parse_selected.specs.Entries.{Entry, attrs}
-use Rattle.sel_parse_selected.specs.Selected.{selecting}
+use Rattle.sel_parse_stands.specs.sel_parse_selected.specs.Entries.{Entry, attrs}
+use Rattle.sel_parse_stands.specs.sel_parse_selected.specs.Selected.{selecting}
 use Rattle.sel_parse_stands.specs.Stands as stands
 use Rattle.sel_parse_stands.specs.Stands.{NamedBy, Names, SymbolIs, Sees, IsFrame, Holds}
 use Rattle.sel_parse_stands.proofs.Carrying.{AllCarried}

@@ -34,8 +34,8 @@ use Rattle.sel_target.specs.Laws.{IsLawful}
 use Rattle.sel_terms_meaning.specs.Meaning.{terms_of_act}
 use Rattle.sel_target.specs.EffectTerms.{terms_of, DividesByNone}
 use Rattle.sel_target.specs.Symbols.{token_number, constant_of, size_of_entry}
-use Rattle.sel_terms_trees.specs.Senses.{Sense}
-use Rattle.lr_check_parse.specs.Attributes.{attribute_at, all_hold}
+use Rattle.sel_parse_moves.specs.sel_terms_trees.specs.Senses.{Sense}
+use Rattle.sel_parse_moves.specs.lr_check_parse.specs.Attributes.{attribute_at, all_hold}
 use Rattle.term_core_accesses.specs.Accesses.{Safe}
 use Rattle.sel_terms_meaning.specs.Meaning.{AllSafe, SafeAct, divides_by_zero}
 use Rattle.sel_terms_meaning.specs.Alike.{TermsAlike, AllAlike, ActsAlike, EffectsAlike}
@@ -43,9 +43,9 @@ use Rattle.sel_parse_moves.specs.Told.{SameForAlike, Tells}
 use Rattle.sel_parse_moves.proofs.Told.{restrictions_tell, facts_join}
 use Rattle.sel_terms_meaning.proofs.Alike.{shown_is_alike}
 use Rattle.sel_terms_meaning.proofs.Narrow.{wanted_is_narrow}
-use Rattle.sel_parse_selected.specs.Entries.{Entry}
-use Rattle.sel_parse_selected.specs.Selected.{selecting}
-use Rattle.sel_parse_selected.specs.Entries.{spelled, same_operands}
+use Rattle.sel_parse_stands.specs.sel_parse_selected.specs.Entries.{Entry}
+use Rattle.sel_parse_stands.specs.sel_parse_selected.specs.Selected.{selecting}
+use Rattle.sel_parse_stands.specs.sel_parse_selected.specs.Entries.{spelled, same_operands}
 use Rattle.sel_parse_stands.specs.Stands.{Sees, IsFrame, SymbolIs, ClassIs}
 use Rattle.sel_parse_stands.proofs.Instances.{Hold, hs_of, symbol_by, view, symbol_at_small}
 use Rattle.sel_parse_stands.specs.Stands as stands

@@ -32,8 +32,8 @@ use Rattle.sel_terms.specs.Effects.{EffectShape}
 use Rattle.sel_terms.specs.Reading.{effect_read, stack_from}
 use Rattle.sel_terms.specs.Wanted.{first_part}
 use Rattle.sel_terms_meaning.specs.Meaning.{divides_by_zero}
-use Rattle.sel_terms_trees.specs.Senses.{Sense, OfLeaf, OfNumber, OfPlace, IsPlace, piled, StandsFor}
-use Rattle.sel_terms_trees.specs.Effects.{GivesBy, TrapsBy}
+use Rattle.sel_parse_moves.specs.sel_terms_trees.specs.Senses.{Sense, OfLeaf, OfNumber, OfPlace, IsPlace, piled, StandsFor}
+use Rattle.sel_parse_moves.specs.sel_terms_trees.specs.Effects.{GivesBy, TrapsBy}
 use Rattle.sel_target.specs.declared.attr.Attr.{Attr}
 use Rattle.sel_target.specs.declared.attr.Attr.TheVariants as attr
 use Rattle.sel_target.specs.Meaning.{Meaning}
@@ -42,14 +42,14 @@ use Rattle.sel_target.specs.Courses.{traps}
 use Rattle.sel_target.specs.Laws.{IsLawful}
 use Rattle.sel_target.specs.Instances.{IsResult}
 use Rattle.sel_target.specs.EffectTerms.{begins_with_save}
-use Rattle.lr_check_parse.specs.Attributes.{all_hold}
+use Rattle.sel_parse_moves.specs.lr_check_parse.specs.Attributes.{all_hold}
 use Rattle.sel_parse.specs.Shown.{IsShown}
 use Rattle.sel_parse_moves.specs.Interprets.{SenseFits}
-use Rattle.sel_parse_selected.specs.Entries.{attrs}
-use Rattle.sel_parse_selected.specs.Desk.{Stack, Desk, desk_of, Done}
-use Rattle.sel_parse_selected.specs.Spills.{due}
-use Rattle.sel_parse_selected.specs.Reductions.{reloaded, shaped, with_result, with_scratch, given_by, reduced}
-use Rattle.sel_parse_selected.specs.Selected.{selecting}
+use Rattle.sel_parse_stands.specs.sel_parse_selected.specs.Entries.{attrs}
+use Rattle.sel_parse_stands.specs.sel_parse_selected.specs.Desk.{Stack, Desk, desk_of, Done}
+use Rattle.sel_parse_stands.specs.sel_parse_selected.specs.Spills.{due}
+use Rattle.sel_parse_stands.specs.sel_parse_selected.specs.Reductions.{reloaded, shaped, with_result, with_scratch, given_by, reduced}
+use Rattle.sel_parse_stands.specs.sel_parse_selected.specs.Selected.{selecting}
 use Rattle.sel_parse_stands.specs.Stands.{IsFrame}
 use Rattle.sel_parse_stands.specs.Lines.{LinesSave}
 use Rattle.sel_parse_stands.proofs.Desks.{done_same}

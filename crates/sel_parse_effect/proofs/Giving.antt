@@ -43,13 +43,13 @@ use Rattle.sel_target.specs.Instances.{IsResult, Instance, lines_of}
 use Rattle.sel_target.specs.Outcomes.{Sets, Keeps}
 use Rattle.sel_target.specs.EffectTerms.{begins_with_save, DividesByNone}
 use Rattle.sel_target.specs.Courses.{traps, comes}
-use Rattle.sel_terms_trees.specs.Senses.{Sense, OfLeaf, OfNumber, OfPlace, StandsFor}
-use Rattle.lr_check_parse.specs.Attributes.{all_hold}
+use Rattle.sel_parse_moves.specs.sel_terms_trees.specs.Senses.{Sense, OfLeaf, OfNumber, OfPlace, StandsFor}
+use Rattle.sel_parse_moves.specs.lr_check_parse.specs.Attributes.{all_hold}
 use Rattle.sel_terms_meaning.specs.Meaning.{divides_by_zero, AllSafe, SafeAct}
-use Rattle.sel_terms_trees.specs.Effects.{GivesBy, TrapsBy, Gives, IsKnown}
+use Rattle.sel_parse_moves.specs.sel_terms_trees.specs.Effects.{GivesBy, TrapsBy, Gives, IsKnown}
 use Rattle.sel_terms_meaning.specs.Alike.{EffectsAlike, ActsAlike}
-use Rattle.sel_parse_selected.specs.Entries.{Entry, attrs}
-use Rattle.sel_parse_selected.specs.Selected.{selecting}
+use Rattle.sel_parse_stands.specs.sel_parse_selected.specs.Entries.{Entry, attrs}
+use Rattle.sel_parse_stands.specs.sel_parse_selected.specs.Selected.{selecting}
 use Rattle.sel_parse_stands.specs.Stands.{Sees, IsFrame, Holds, ClassIs, value as value_is, address as address_is, place as place_is}
 use Rattle.sel_target.specs.Values.{memory as memory_is}
 use Rattle.sel_parse.specs.Shown.{IsShown}

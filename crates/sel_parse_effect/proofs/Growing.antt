@@ -16,10 +16,10 @@ use Rattle.sel_target.specs.Laws.{IsLawful}
 use Rattle.sel_target.specs.Instances.{lines_of}
 use Rattle.sel_target.specs.SavingLaws.{saving, reloading}
 use Rattle.sel_target.specs.Symbols.{saving_line, reload_line}
-use Rattle.sel_parse_selected.specs.Entries.{Entry, attrs}
-use Rattle.sel_parse_selected.specs.Desk.{Stack, Desk, desk_of, Done, bind, free_register, free_slot}
-use Rattle.sel_parse_selected.specs.Spills.{Where, victim, entry_at, saved, saved_in, spilled, with_free, due_by, due}
-use Rattle.sel_parse_selected.specs.Reductions.{loaded, reloaded_by, reloaded_at, reloaded, finished, shaped, given_by, reduced}
+use Rattle.sel_parse_stands.specs.sel_parse_selected.specs.Entries.{Entry, attrs}
+use Rattle.sel_parse_stands.specs.sel_parse_selected.specs.Desk.{Stack, Desk, desk_of, Done, bind, free_register, free_slot}
+use Rattle.sel_parse_stands.specs.sel_parse_selected.specs.Spills.{Where, victim, entry_at, saved, saved_in, spilled, with_free, due_by, due}
+use Rattle.sel_parse_stands.specs.sel_parse_selected.specs.Reductions.{loaded, reloaded_by, reloaded_at, reloaded, finished, shaped, given_by, reduced}
 use Rattle.sel_parse_effect.proofs.Reducing.{bound}
 
 -- more code, and no fewer words

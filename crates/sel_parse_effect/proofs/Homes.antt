@@ -25,7 +25,7 @@ use Rattle.md_reader.specs.Restrictions.{same_size}
 use Rattle.md_reader.specs.State.{Content}
 use Rattle.term_core.specs.Facts.{same_as}
 use Rattle.sel_terms.specs.RuleFacts.{size_of_symbol, size_of_some, facts_of}
-use Rattle.sel_terms_trees.specs.Senses.{Sense, IsPlace, unknown, means, means_at}
+use Rattle.sel_parse_moves.specs.sel_terms_trees.specs.Senses.{Sense, IsPlace, unknown, means, means_at}
 use Rattle.sel_target.specs.declared.attr.Attr.{Attr}
 use Rattle.sel_target.specs.declared.attr.Attr.TheVariants as attr
 use Rattle.sel_target.specs.Meaning.{Meaning}
@@ -33,11 +33,11 @@ use Rattle.sel_target.specs.Values.{PlaceIs, local, argument, memory, token_oper
 use Rattle.sel_target.specs.Instances.{hole}
 use Rattle.sel_target.specs.Laws.{IsLawful}
 use Rattle.sel_target.specs.Symbols.{size_of_entry}
-use Rattle.lr_check_parse.specs.Attributes.{attribute_at, all_hold}
+use Rattle.sel_parse_moves.specs.lr_check_parse.specs.Attributes.{attribute_at, all_hold}
 use Rattle.sel_parse_moves.specs.Told.{SameForAlike}
 use Rattle.sel_parse_moves.proofs.Told.{facts_join}
-use Rattle.sel_parse_selected.specs.Entries.{Entry, attrs, spelled, same_operands}
-use Rattle.sel_parse_selected.specs.Selected.{selecting}
+use Rattle.sel_parse_stands.specs.sel_parse_selected.specs.Entries.{Entry, attrs, spelled, same_operands}
+use Rattle.sel_parse_stands.specs.sel_parse_selected.specs.Selected.{selecting}
 use Rattle.sel_parse_stands.specs.Stands as stands
 use Rattle.sel_parse_stands.specs.Stands.{NamedBy, ClassIs, SymbolIs, IsFrame, Holds}
 use Rattle.sel_parse_stands.proofs.Carrying.{Carried, AllCarried}

@@ -32,8 +32,8 @@ use Rattle.md_reader.specs.State.{Content}
 use Rattle.md_reader.specs.Valid.{IsRule, MayGive}
 use Rattle.term_core.specs.Value as term
 use Rattle.sel_terms.specs.Reading.{effect_read}
-use Rattle.sel_terms_trees.specs.Senses.{Sense, OfLeaf, piled, StandsFor}
-use Rattle.sel_terms_trees.specs.Effects.{GivesBy, DoesBy, TrapsBy}
+use Rattle.sel_parse_moves.specs.sel_terms_trees.specs.Senses.{Sense, OfLeaf, piled, StandsFor}
+use Rattle.sel_parse_moves.specs.sel_terms_trees.specs.Effects.{GivesBy, DoesBy, TrapsBy}
 use Rattle.sel_target.specs.declared.attr.Attr.{Attr}
 use Rattle.sel_target.specs.declared.attr.Attr.TheVariants as attr
 use Rattle.sel_target.specs.Meaning.{Meaning}
@@ -42,14 +42,14 @@ use Rattle.sel_target.specs.Laws.{IsLawful}
 use Rattle.sel_target.specs.EffectTerms.{begins_with_save}
 use Rattle.sel_target.specs.Instances.{IsResult, lines_of}
 use Rattle.sel_target.specs.StatementLaws.{IsStep}
-use Rattle.lr_check_parse.specs.Attributes.{Selecting, all_hold, answered}
+use Rattle.sel_parse_moves.specs.lr_check_parse.specs.Attributes.{Selecting, all_hold, answered}
 use Rattle.sel_parse.specs.Shown.{IsShown, AreShown}
 use Rattle.sel_parse_moves.specs.Interprets.{SenseFits, Interprets}
-use Rattle.sel_parse_selected.specs.Entries.{Entry, attrs}
-use Rattle.sel_parse_selected.specs.Desk.{Stack, Desk, desk_of, Outcome, Full, Stuck, Done, bind}
-use Rattle.sel_parse_selected.specs.Spills.{Where, holds_register, due}
-use Rattle.sel_parse_selected.specs.Reductions.{reloaded_by, reloaded_at, reloaded, with_scratch, given_by, reduced}
-use Rattle.sel_parse_selected.specs.Selected.{Kept, kept_of, shifted, reduced_by, selecting}
+use Rattle.sel_parse_stands.specs.sel_parse_selected.specs.Entries.{Entry, attrs}
+use Rattle.sel_parse_stands.specs.sel_parse_selected.specs.Desk.{Stack, Desk, desk_of, Outcome, Full, Stuck, Done, bind}
+use Rattle.sel_parse_stands.specs.sel_parse_selected.specs.Spills.{Where, holds_register, due}
+use Rattle.sel_parse_stands.specs.sel_parse_selected.specs.Reductions.{reloaded_by, reloaded_at, reloaded, with_scratch, given_by, reduced}
+use Rattle.sel_parse_stands.specs.sel_parse_selected.specs.Selected.{Kept, kept_of, shifted, reduced_by, selecting}
 use Rattle.sel_parse_stands.specs.Stands as stands
 use Rattle.sel_parse_stands.specs.Stands.{NamedBy, Names, SymbolIs, IsFrame, Holds}
 use Rattle.sel_parse_stands.specs.Lines.{LinesSave}

@@ -48,7 +48,7 @@ use Rattle.sel_parse.specs.Shown.{IsLineShown, AreLinesShown, saved_kinds, saved
 use Rattle.sel_parse_moves.specs.Claims.{root, deed, IsParsed}
 use Rattle.sel_parse_moves.specs.Interprets.{Ran}
 use Rattle.sel_parse_moves.proofs.Moves.{moves_mean_tree}
-use Rattle.sel_parse_selected.specs.Selected.{selecting, start}
+use Rattle.sel_parse_stands.specs.sel_parse_selected.specs.Selected.{selecting, start}
 use Rattle.sel_parse_stands.specs.Stands.{NamedBy, Names, IsFrame}
 use Rattle.sel_parse_stands.specs.Lines.{LinesSave}
 use Rattle.sel_parse_effect.specs.Standing.{Standing}

@@ -19,8 +19,8 @@ use Rattle.md_reader.specs.State.{Content}
 use Rattle.md_reader.specs.Valid.{IsRule}
 use Rattle.term_core.specs.Value as term
 use Rattle.sel_terms.specs.Reading.{effect_read}
-use Rattle.sel_terms_trees.specs.Senses.{Sense, OfNumber, piled, StandsFor}
-use Rattle.sel_terms_trees.specs.Effects.{GivesBy, TrapsBy}
+use Rattle.sel_parse_moves.specs.sel_terms_trees.specs.Senses.{Sense, OfNumber, piled, StandsFor}
+use Rattle.sel_parse_moves.specs.sel_terms_trees.specs.Effects.{GivesBy, TrapsBy}
 use Rattle.sel_target.specs.declared.attr.Attr.{Attr}
 use Rattle.sel_target.specs.declared.attr.Attr.TheVariants as attr
 use Rattle.sel_target.specs.Meaning.{Meaning, RegAt}
@@ -28,13 +28,13 @@ use Rattle.sel_target.specs.Courses.{Course, comes, traps, followed}
 use Rattle.sel_target.specs.Laws.{IsLawful}
 use Rattle.sel_target.specs.Instances.{IsResult, lines_of}
 use Rattle.sel_target.specs.EffectTerms.{begins_with_save}
-use Rattle.lr_check_parse.specs.Attributes.{all_hold}
+use Rattle.sel_parse_moves.specs.lr_check_parse.specs.Attributes.{all_hold}
 use Rattle.sel_parse.specs.Shown.{IsShown}
-use Rattle.sel_parse_selected.specs.Entries.{Entry, attrs}
-use Rattle.sel_parse_selected.specs.Desk.{Stack, Desk, desk_of, Outcome, Full, Stuck, Done, bind}
-use Rattle.sel_parse_selected.specs.Spills.{due}
-use Rattle.sel_parse_selected.specs.Reductions.{reloaded}
-use Rattle.sel_parse_selected.specs.Selected.{selecting}
+use Rattle.sel_parse_stands.specs.sel_parse_selected.specs.Entries.{Entry, attrs}
+use Rattle.sel_parse_stands.specs.sel_parse_selected.specs.Desk.{Stack, Desk, desk_of, Outcome, Full, Stuck, Done, bind}
+use Rattle.sel_parse_stands.specs.sel_parse_selected.specs.Spills.{due}
+use Rattle.sel_parse_stands.specs.sel_parse_selected.specs.Reductions.{reloaded}
+use Rattle.sel_parse_stands.specs.sel_parse_selected.specs.Selected.{selecting}
 use Rattle.sel_parse_stands.specs.Stands as stands
 use Rattle.sel_parse_stands.specs.Stands.{ClassIs, SymbolIs, IsFrame, Holds}
 use Rattle.sel_parse_stands.specs.Lines.{LinesSave}

@@ -40,8 +40,8 @@ use Rattle.sel_terms.specs.Wanted.{whole, first_part}
 use Rattle.sel_terms.specs.RuleFacts.{facts_of}
 use Rattle.sel_terms.proofs.Facts.{same_Value}
 use Rattle.sel_terms_meaning.specs.Alike.{ActsAlike}
-use Rattle.sel_terms_trees.specs.Senses.{Sense, OfNumber, OfPlace, IsPlace, unknown, means_at}
-use Rattle.sel_terms_trees.specs.Effects.{Gives, GivesBy}
+use Rattle.sel_parse_moves.specs.sel_terms_trees.specs.Senses.{Sense, OfNumber, OfPlace, IsPlace, unknown, means_at}
+use Rattle.sel_parse_moves.specs.sel_terms_trees.specs.Effects.{Gives, GivesBy}
 use Rattle.sel_target.specs.declared.attr.Attr.{Attr}
 use Rattle.sel_target.specs.declared.attr.Attr.TheVariants as attr
 use Rattle.sel_target.specs.Meaning.{Meaning}
@@ -49,11 +49,11 @@ use Rattle.sel_target.specs.Values.{term_state, value, worth}
 use Rattle.sel_target.specs.Laws.{IsLawful}
 use Rattle.sel_target.specs.Instances.{hole}
 use Rattle.sel_target.specs.Symbols.{first_hole}
-use Rattle.lr_check_parse.specs.Attributes.{all_hold}
+use Rattle.sel_parse_moves.specs.lr_check_parse.specs.Attributes.{all_hold}
 use Rattle.sel_parse.specs.Shown.{IsShown}
-use Rattle.sel_parse_selected.specs.Entries.{Entry, attrs}
-use Rattle.sel_parse_selected.specs.Reductions.{own_register, own_number}
-use Rattle.sel_parse_selected.specs.Selected.{selecting}
+use Rattle.sel_parse_stands.specs.sel_parse_selected.specs.Entries.{Entry, attrs}
+use Rattle.sel_parse_stands.specs.sel_parse_selected.specs.Reductions.{own_register, own_number}
+use Rattle.sel_parse_stands.specs.sel_parse_selected.specs.Selected.{selecting}
 use Rattle.sel_parse_stands.specs.Stands as stands
 use Rattle.sel_parse_stands.specs.Stands.{NamedBy, ClassIs, SymbolIs, Sees, IsFrame, Holds}
 use Rattle.sel_parse_stands.proofs.Loaded.{IsLoaded, AllLoaded}
@@ -308,7 +308,7 @@ module _ {O I S F : Type 0} (of : Meaning O I S F) (law : IsLawful of) (q : Tree
   seen_as : (j n : ℕ) (u : Sense) → slice_index_or vs j unknown ≡ u → u ≡ OfNumber n → View0.symbol (suc j) ≡ Some n
   seen_as j n u e g =
       known of law q d first f fs t s m0 frame m sees es rule.right vs (suc j) n holds
-      (ap (λ w. read s (Rattle.sel_terms_trees.specs.Senses.means q.objects s w)) (e ∙ g))
+      (ap (λ w. read s (Rattle.sel_parse_moves.specs.sel_terms_trees.specs.Senses.means q.objects s w)) (e ∙ g))
 
   pub register_given : kind_at d.classes rule.left ≡ Some kind.Reg → shape_fits d.classes rule.right (Some kind.Reg) l.pieces ≡ true
       → Result kind.Reg (own_register of q d first (hole (attrs es') (first_hole l.pieces)))

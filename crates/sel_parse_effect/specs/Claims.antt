@@ -20,7 +20,7 @@ use Rattle.sel_target.specs.StatementLaws.{IsStep}
 use Rattle.sel_parse.specs.Shown.{AreShown, AreLinesShown, saved_kinds}
 use Rattle.sel_parse_moves.specs.Claims.{root, deed}
 use Rattle.sel_parse_moves.specs.Possible.{IsPossible}
-use Rattle.sel_parse_selected.specs.Selected.{Selected}
+use Rattle.sel_parse_stands.specs.sel_parse_selected.specs.Selected.{Selected}
 use Rattle.sel_parse_stands.specs.Stands.{Names}
 use Rattle.sel_parse_effect.specs.Places.{StoresToPlaces}
 

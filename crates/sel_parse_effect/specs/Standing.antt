@@ -8,12 +8,12 @@ use Rattle.tree_meaning.specs.Values.{Sight}
 use Rattle.md_reader.specs.declared.types.Sym.{Sym}
 use Rattle.md_reader.specs.declared.types.Sym.TheVariants as grammar_symbol
 use Rattle.md_reader.specs.State.{Content}
-use Rattle.sel_terms_trees.specs.Senses.{Sense}
+use Rattle.sel_parse_moves.specs.sel_terms_trees.specs.Senses.{Sense}
 use Rattle.sel_target.specs.Courses.{comes, traps}
 use Rattle.sel_target.specs.Meaning.{Meaning}
 use Rattle.sel_target.specs.StatementLaws.{IsStep}
-use Rattle.sel_parse_selected.specs.Desk.{Stack}
-use Rattle.sel_parse_selected.specs.Selected.{Kept}
+use Rattle.sel_parse_stands.specs.sel_parse_selected.specs.Desk.{Stack}
+use Rattle.sel_parse_stands.specs.sel_parse_selected.specs.Selected.{Kept}
 use Rattle.sel_parse_stands.specs.Stands.{Sees, Holds}
 
 -- no class is among the symbols: nothing has been reduced

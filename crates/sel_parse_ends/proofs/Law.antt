@@ -21,8 +21,8 @@ use Rattle.lr_checked.proofs.Drawn.{block_done, loop_done}
 use Rattle.lr_checked.proofs.Law.{tokens_questioned}
 use Rattle.sel_target.specs.Meaning.{Meaning}
 use Rattle.sel_target.specs.Laws.{IsLawful}
-use Rattle.sel_parse_moves.specs.Claims.{root}
-use Rattle.sel_parse_selected.specs.Selected.{Kept, selecting, start, Parsed, Blocked, blocks, circles}
+use Rattle.sel_parse_slots.specs.sel_parse_moves.specs.Claims.{root}
+use Rattle.sel_parse_slots.specs.sel_parse_selected.specs.Selected.{Kept, selecting, start, Parsed, Blocked, blocks, circles}
 use Rattle.sel_parse_slots.proofs.Law.{has_room}
 use Rattle.sel_parse_ends.specs.Claims.{HasCode, IsStuck, NeverBlocks, SelectionsEnd}
 

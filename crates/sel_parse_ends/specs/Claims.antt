@@ -13,8 +13,8 @@ use Rattle.lr_tables.specs.Promises.{IsNumbered}
 use Rattle.lr_check_parse.specs.Moves.{Move, Accepts}
 use Rattle.lr_checked.specs.Accepted.{NeverStops}
 use Rattle.sel_target.specs.Meaning.{Meaning}
-use Rattle.sel_parse_moves.specs.Claims.{root}
-use Rattle.sel_parse_selected.specs.Selected.{Parsed, Selected, Blocked}
+use Rattle.sel_parse_slots.specs.sel_parse_moves.specs.Claims.{root}
+use Rattle.sel_parse_slots.specs.sel_parse_selected.specs.Selected.{Parsed, Selected, Blocked}
 use Rattle.sel_parse_slots.specs.Claims.{IsOwn, IsTaken}
 
 module _ {O I S F : Type 0} (of : Meaning O I S F) where

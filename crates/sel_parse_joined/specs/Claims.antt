@@ -8,7 +8,7 @@ use Rattle.tree_core.specs.declared.program.TreeProgram.{TreeProgram}
 use Rattle.tree_core.specs.Trees.{IsTyped}
 use Rattle.md_reader.specs.State.{Content}
 use Rattle.sel_target.specs.Meaning.{Meaning}
-use Rattle.sel_parse_moves.specs.Claims.{root}
+use Rattle.sel_parse_slots.specs.sel_parse_moves.specs.Claims.{root}
 use Rattle.sel_parse_selected.specs.Selected as selected
 use Rattle.sel_parse_desk.specs.Selected as desk
 use Rattle.sel_parse_slots.specs.Claims.{IsOwn, IsTaken}

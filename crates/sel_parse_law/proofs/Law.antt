@@ -19,34 +19,34 @@ use Rattle.md_reader.specs.State.{Content}
 use Rattle.lr_check_parse.specs.Moves.{Move, Ending, Accepts, Blocks, Loops, Refuses}
 use Rattle.lr_check_parse.specs.Attributes.{by_attributes}
 use Rattle.lr_check_parse.proofs.Existence.{parse_has_end}
-use Rattle.lr_checked.specs.Accepted.{NeverStops}
+use Rattle.sel_parse_ends.specs.lr_checked.specs.Accepted.{NeverStops}
 use Rattle.sel_regs.specs.Need.{need}
 use Rattle.sel_terms.specs.Effects.{EffectShape}
-use Rattle.sel_terms_trees.specs.Senses.{OfLeaf}
+use Rattle.sel_parse_moves.specs.sel_terms_trees.specs.Senses.{OfLeaf}
 use Rattle.sel_target.specs.declared.attr.Attr.TheVariants as attr
 use Rattle.sel_target.specs.Meaning.{Meaning}
 use Rattle.sel_target.specs.Laws.{IsLawful}
-use Rattle.sel_parse.specs.Shown.{IsShown}
+use Rattle.sel_parse_registers.specs.sel_parse.specs.Shown.{IsShown}
 use Rattle.sel_parse_moves.specs.Claims.{root}
 use Rattle.sel_parse_moves.proofs.Covering.{AreLeaves}
 use Rattle.sel_parse_moves.proofs.Moves.{leaves_of}
 use Rattle.sel_parse_moves.proofs.Piles.{leaves_before}
-use Rattle.sel_parse_selected.specs.Selected as selected
-use Rattle.sel_parse_stands.specs.Stands as stands
-use Rattle.sel_parse_stands.specs.Stands.{NamedBy, Names, Sees}
-use Rattle.sel_parse_stands.proofs.Symbols.{symbol_fits}
-use Rattle.sel_parse_effect.specs.Claims.{frame_sight, IsFit, Begins}
-use Rattle.sel_parse_effect.proofs.Law as effect
-use Rattle.sel_parse_effect.proofs.Law.{frame}
-use Rattle.sel_parse_slots.specs.Claims.{IsOwn, IsTaken}
-use Rattle.sel_parse_slots.proofs.Law as slots
+use Rattle.sel_parse_registers.specs.sel_parse_selected.specs.Selected as selected
+use Rattle.sel_parse_registers.specs.sel_parse_stands.specs.Stands as stands
+use Rattle.sel_parse_registers.specs.sel_parse_stands.specs.Stands.{NamedBy, Names, Sees}
+use Rattle.sel_parse_registers.specs.sel_parse_stands.proofs.Symbols.{symbol_fits}
+use Rattle.sel_parse_registers.specs.sel_parse_effect.specs.Claims.{frame_sight, IsFit, Begins}
+use Rattle.sel_parse_registers.specs.sel_parse_effect.proofs.Law as effect
+use Rattle.sel_parse_registers.specs.sel_parse_effect.proofs.Law.{frame}
+use Rattle.sel_parse_registers.specs.sel_parse_slots.specs.Claims.{IsOwn, IsTaken}
+use Rattle.sel_parse_registers.specs.sel_parse_slots.proofs.Law as slots
 use Rattle.sel_parse_ends.proofs.Law as ends
 use Rattle.sel_parse_registers.specs.Claims.{HasRegisters}
 use Rattle.sel_parse_registers.proofs.Law.{never_lacks}
 use Rattle.sel_parse_joined.specs.Claims.{IsSelectable}
 use Rattle.sel_parse_joined.proofs.Law.{same_code, same_full, whole, ending}
-use Rattle.sel_parse_desk.specs.Selected as desk
-use Rattle.sel_parse_desk.specs.Selected.{tree_of}
+use Rattle.sel_parse_joined.specs.sel_parse_desk.specs.Selected as desk
+use Rattle.sel_parse_joined.specs.sel_parse_desk.specs.Selected.{tree_of}
 use Rattle.sel_parse_law.specs.Claims.{EndsTree, CodeHasEffect, IsReady, UsesFewSlots, HasRoom, NeverBlocks, HasCode, TreesHaveCode}
 
 -- ---- a tree with its End

@@ -12,15 +12,15 @@ use Rattle.tree_meaning.specs.Deeds.{Traps}
 use Rattle.md_reader.specs.State.{Content}
 use Rattle.lr_tables.specs.View.{TableView}
 use Rattle.lr_tables.specs.Promises.{IsNumbered}
-use Rattle.lr_checked.specs.Accepted.{NeverStops}
+use Rattle.sel_parse_ends.specs.lr_checked.specs.Accepted.{NeverStops}
 use Rattle.sel_target.specs.Meaning.{Meaning}
 use Rattle.sel_parse_moves.specs.Claims.{root, deed}
 use Rattle.sel_parse_moves.specs.Possible.{IsPossible}
-use Rattle.sel_parse_stands.specs.Stands.{Names}
-use Rattle.sel_parse_effect.specs.Claims.{frame_sight, IsFit, Begins, HasEffect}
-use Rattle.sel_parse_effect.specs.Places.{StoresToPlaces}
-use Rattle.sel_parse_slots.specs.Claims.{IsOwn}
-use Rattle.sel_parse_desk.specs.Selected.{tree_of, Selected, FrameFull, Blocked}
+use Rattle.sel_parse_registers.specs.sel_parse_stands.specs.Stands.{Names}
+use Rattle.sel_parse_registers.specs.sel_parse_effect.specs.Claims.{frame_sight, IsFit, Begins, HasEffect}
+use Rattle.sel_parse_registers.specs.sel_parse_effect.specs.Places.{StoresToPlaces}
+use Rattle.sel_parse_registers.specs.sel_parse_slots.specs.Claims.{IsOwn}
+use Rattle.sel_parse_joined.specs.sel_parse_desk.specs.Selected.{tree_of, Selected, FrameFull, Blocked}
 
 -- A statement as a tree program has it, with an End behind its leaves: `select` is given it whole, and these laws speak of the leaves
 -- before the End.

@@ -26,9 +26,9 @@ use Rattle.sel_parse_selected.specs.Entries.{Entry}
 use Rattle.sel_parse_selected.specs.Desk.{Desk, Outcome, Full, Stuck, Done, bind, held, is_free_register, free_register, is_free_word, free_slot}
 use Rattle.sel_parse_selected.specs.Spills.{Where, Below, Among, last_that, holds_register, may_go, deepest, victim, in_slot, entry_in_slot, saved, saved_in, spilled}
 use Rattle.sel_parse_selected.specs.Spills.{with_free, due_by, due}
-use Rattle.sel_parse_stands.proofs.Desks as desks
-use Rattle.sel_parse_stands.proofs.Desks.{MayMove, may_victim}
-use Rattle.sel_parse_stands.proofs.Saving.{lowest_found, bits_none, token_none}
+use Rattle.sel_parse_slots.specs.sel_parse_stands.proofs.Desks as desks
+use Rattle.sel_parse_slots.specs.sel_parse_stands.proofs.Desks.{MayMove, may_victim}
+use Rattle.sel_parse_slots.specs.sel_parse_stands.proofs.Saving.{lowest_found, bits_none, token_none}
 use Rattle.sel_parse_slots.proofs.Counts.{tick, count, count_any, count_none, total, total_set, tick_small}
 use Rattle.sel_parse_slots.proofs.Fine as fine
 use Rattle.sel_parse_slots.proofs.Fine.{registers, register_one}

@@ -26,7 +26,7 @@ use Rattle.sel_parse_selected.specs.Entries.{Entry, attrs}
 use Rattle.sel_parse_selected.specs.Desk.{Stack, Desk, desk_of, held}
 use Rattle.sel_parse_selected.specs.Spills.{due}
 use Rattle.sel_parse_selected.specs.Reductions.{own_register, own_number, shaped, finished, with_result, with_scratch, given_by, loaded, reloaded_by, reloaded_at, reloaded, reduced}
-use Rattle.sel_parse_stands.proofs.Loaded.{AllLoaded, all_loaded}
+use Rattle.sel_parse_slots.specs.sel_parse_stands.proofs.Loaded.{AllLoaded, all_loaded}
 use Rattle.sel_parse_slots.proofs.Counts.{tick, total_set, tick_small, tick_implied}
 use Rattle.sel_parse_slots.proofs.Counting.{Counted, IsDue, due_good, one_good, fine_at, slot_kind, fine_length}
 use Rattle.sel_parse_slots.proofs.Finishing.{all_fit, right_none}

@@ -10,7 +10,7 @@ use Rattle.md_reader.specs.State.{Content}
 use Rattle.lr_check_parse.specs.Moves.{Move, Accepts}
 use Rattle.sel_regs.specs.Need.{need}
 use Rattle.sel_target.specs.Meaning.{Meaning}
-use Rattle.sel_parse_moves.specs.Claims.{root}
+use Rattle.sel_parse_slots.specs.sel_parse_moves.specs.Claims.{root}
 use Rattle.sel_parse_selected.specs.Selected.{Parsed}
 use Rattle.sel_parse_slots.specs.Claims.{IsOwn, IsTaken}
 

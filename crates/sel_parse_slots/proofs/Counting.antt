@@ -17,14 +17,14 @@ use Rattle.sel_target.specs.declared.attr.Attr.TheVariants as attr
 use Rattle.sel_target.specs.Meaning.{Meaning, WordAt}
 use Rattle.sel_target.specs.Laws.{IsLawful}
 use Rattle.sel_target.specs.Instances.{attr_touches, KindFits}
-use Rattle.sel_parse_selected.specs.Entries.{Entry}
-use Rattle.sel_parse_selected.specs.Desk.{Desk, Outcome, Full, Stuck, Done, bind, held, is_free_register, free_register, is_free_word, free_slot}
-use Rattle.sel_parse_selected.specs.Spills.{Where, victim, in_slot, entry_in_slot, saved, saved_in}
-use Rattle.sel_parse_selected.specs.Spills.{spilled, with_free, due_by, due}
-use Rattle.sel_parse_selected.specs.Reductions.{loaded, reloaded_by, reloaded_at, reloaded}
-use Rattle.sel_parse_stands.proofs.Loaded.{IsLoaded, in_slot_loaded}
-use Rattle.sel_parse_stands.proofs.Saving.{lowest_found}
-use Rattle.sel_parse_stands.proofs.Desks.{set_is, MayMove, below, among, may_victim}
+use Rattle.sel_parse_effect.specs.sel_parse_selected.specs.Entries.{Entry}
+use Rattle.sel_parse_effect.specs.sel_parse_selected.specs.Desk.{Desk, Outcome, Full, Stuck, Done, bind, held, is_free_register, free_register, is_free_word, free_slot}
+use Rattle.sel_parse_effect.specs.sel_parse_selected.specs.Spills.{Where, victim, in_slot, entry_in_slot, saved, saved_in}
+use Rattle.sel_parse_effect.specs.sel_parse_selected.specs.Spills.{spilled, with_free, due_by, due}
+use Rattle.sel_parse_effect.specs.sel_parse_selected.specs.Reductions.{loaded, reloaded_by, reloaded_at, reloaded}
+use Rattle.sel_parse_effect.specs.sel_parse_stands.proofs.Loaded.{IsLoaded, in_slot_loaded}
+use Rattle.sel_parse_effect.specs.sel_parse_stands.proofs.Saving.{lowest_found}
+use Rattle.sel_parse_effect.specs.sel_parse_stands.proofs.Desks.{set_is, MayMove, below, among, may_victim}
 use Rattle.sel_parse_slots.proofs.Counts.{count, tick, count_any, below_lowest, none_lowest, total, total_set, total_append}
 use Rattle.sel_parse_slots.proofs.Fine as fine
 use Rattle.sel_parse_slots.proofs.Fine.{words, charge, weight, weight_charge, IsFine, fine_words, slot_word_one, fine_spilled}

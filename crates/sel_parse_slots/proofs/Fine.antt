@@ -24,8 +24,8 @@ use Rattle.sel_target.specs.Values.{token_operand}
 use Rattle.sel_target.specs.Laws.{IsLawful}
 use Rattle.sel_target.specs.Instances.{some_touches, attr_touches, KindFits}
 use Rattle.sel_target.specs.Symbols.{lowest, is_register}
-use Rattle.sel_parse_selected.specs.Spills.{holds_register, in_slot}
-use Rattle.sel_parse_stands.proofs.Saving.{lowest_found, bits_none}
+use Rattle.sel_parse_effect.specs.sel_parse_selected.specs.Spills.{holds_register, in_slot}
+use Rattle.sel_parse_effect.specs.sel_parse_stands.proofs.Saving.{lowest_found, bits_none}
 use Rattle.sel_parse_slots.specs.Claims.{IsOwn}
 use Rattle.sel_parse_slots.proofs.Counts.{count, count_none, count_less, count_one, count_some, tick, unequal, tick_small}
 

@@ -34,11 +34,11 @@ use Rattle.sel_target.specs.declared.attr.Attr.TheVariants as attr
 use Rattle.sel_target.specs.Meaning.{Meaning, Spot, RegAt, WordAt, touches}
 use Rattle.sel_target.specs.Laws.{IsLawful}
 use Rattle.sel_target.specs.Instances.{hole, attr_touches, KindFits, SymFits, Fit}
-use Rattle.sel_parse_selected.specs.Entries.{Entry, attrs}
-use Rattle.sel_parse_selected.specs.Desk.{Stack, Desk, desk_of}
-use Rattle.sel_parse_selected.specs.Spills.{due}
-use Rattle.sel_parse_selected.specs.Reductions.{own_register, own_number, shaped, finished, with_result, with_scratch, given_by, reloaded, reduced}
-use Rattle.sel_parse_stands.proofs.Loaded.{IsLoaded, AllLoaded, all_loaded}
+use Rattle.sel_parse_effect.specs.sel_parse_selected.specs.Entries.{Entry, attrs}
+use Rattle.sel_parse_effect.specs.sel_parse_selected.specs.Desk.{Stack, Desk, desk_of}
+use Rattle.sel_parse_effect.specs.sel_parse_selected.specs.Spills.{due}
+use Rattle.sel_parse_effect.specs.sel_parse_selected.specs.Reductions.{own_register, own_number, shaped, finished, with_result, with_scratch, given_by, reloaded, reduced}
+use Rattle.sel_parse_effect.specs.sel_parse_stands.proofs.Loaded.{IsLoaded, AllLoaded, all_loaded}
 use Rattle.sel_parse_effect.proofs.Reducing.{reg_is, nothing_is}
 use Rattle.sel_parse_effect.proofs.Shapes.{one_hole, reg_symbol, con_symbol, IsNumeric, const_number}
 use Rattle.sel_parse_effect.proofs.Shapes as shapes

@@ -23,26 +23,26 @@ use Rattle.md_reader.specs.State.{Content}
 use Rattle.md_reader.specs.Valid.{IsRule}
 use Rattle.lr_tables.specs.Statements.{stmt_of}
 use Rattle.lr_tables.proofs.Validity.{rule_at}
-use Rattle.lr_check_parse.specs.Moves.{Move, Ending, Accepts, Blocks, Loops, Refuses, Parses}
-use Rattle.lr_check_parse.specs.Moves as parse
-use Rattle.lr_check_parse.specs.Attributes.{by_attributes}
-use Rattle.lr_check_parse.specs.Typed.{AreTyped, begins}
-use Rattle.lr_check_parse.proofs.Typing.{leaves_are_tokens}
+use Rattle.sel_parse_effect.specs.lr_check_parse.specs.Moves.{Move, Ending, Accepts, Blocks, Loops, Refuses, Parses}
+use Rattle.sel_parse_effect.specs.lr_check_parse.specs.Moves as parse
+use Rattle.sel_parse_effect.specs.lr_check_parse.specs.Attributes.{by_attributes}
+use Rattle.sel_parse_effect.specs.lr_check_parse.specs.Typed.{AreTyped, begins}
+use Rattle.sel_parse_effect.specs.lr_check_parse.proofs.Typing.{leaves_are_tokens}
 use Rattle.sel_terms.specs.Effects.{EffectShape}
-use Rattle.sel_terms_trees.specs.Senses.{piled}
+use Rattle.sel_parse_effect.specs.sel_terms_trees.specs.Senses.{piled}
 use Rattle.sel_target.specs.declared.attr.Attr.TheVariants as attr
 use Rattle.sel_target.specs.Meaning.{Meaning}
 use Rattle.sel_target.specs.Instances.{hole}
 use Rattle.sel_target.specs.Laws.{IsLawful}
 use Rattle.sel_target.specs.Symbols.{first_hole}
-use Rattle.sel_parse_moves.specs.Claims.{root}
-use Rattle.sel_parse_moves.proofs.Covering.{AreLeaves, known}
-use Rattle.sel_parse_moves.proofs.Moves.{leaves_of}
-use Rattle.sel_parse_selected.specs.Entries.{Entry, attrs}
-use Rattle.sel_parse_selected.specs.Desk.{Stack, Desk, desk_of, Outcome, Full, Stuck, Done}
-use Rattle.sel_parse_selected.specs.Reductions.{reduced}
-use Rattle.sel_parse_stands.proofs.Parting.{taken_off, left_below}
-use Rattle.sel_parse_selected.specs.Selected.{Kept, shifted, kept_of, reduced_by, selecting}
+use Rattle.sel_parse_effect.specs.sel_parse_moves.specs.Claims.{root}
+use Rattle.sel_parse_effect.specs.sel_parse_moves.proofs.Covering.{AreLeaves, known}
+use Rattle.sel_parse_effect.specs.sel_parse_moves.proofs.Moves.{leaves_of}
+use Rattle.sel_parse_effect.specs.sel_parse_selected.specs.Entries.{Entry, attrs}
+use Rattle.sel_parse_effect.specs.sel_parse_selected.specs.Desk.{Stack, Desk, desk_of, Outcome, Full, Stuck, Done}
+use Rattle.sel_parse_effect.specs.sel_parse_selected.specs.Reductions.{reduced}
+use Rattle.sel_parse_effect.specs.sel_parse_stands.proofs.Parting.{taken_off, left_below}
+use Rattle.sel_parse_effect.specs.sel_parse_selected.specs.Selected.{Kept, shifted, kept_of, reduced_by, selecting}
 use Rattle.sel_parse_slots.specs.Claims.{IsOwn, IsTaken, UsesFewSlots, HasRoom}
 use Rattle.sel_parse_slots.proofs.Counts.{total}
 use Rattle.sel_parse_slots.proofs.Fine as fine

@@ -8,7 +8,7 @@ use Rattle.tree_core_forks.specs.Forks.{fork}
 use Rattle.md_reader.specs.declared.types.Sym.{Sym}
 use Rattle.md_reader.specs.declared.types.Sym.TheVariants as grammar_symbol
 use Rattle.md_reader.specs.Patterns.{kids_of, Trees, no_tree, node, onto}
-use Rattle.sel_terms_trees.specs.Senses.{piled}
+use Rattle.sel_parse_effect.specs.sel_terms_trees.specs.Senses.{piled}
 use Rattle.sel_parse_slots.proofs.Counts.{total}
 use Rattle.sel_parse_slots.proofs.Counting.{sum}
 

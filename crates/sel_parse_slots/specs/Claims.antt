@@ -17,8 +17,8 @@ use Rattle.sel_terms.specs.Effects.{EffectShape}
 use Rattle.sel_target.specs.Meaning.{Meaning}
 use Rattle.sel_target.specs.Instances.{InFrame}
 use Rattle.sel_target.specs.Spelled.{IsSpelled}
-use Rattle.sel_parse_moves.specs.Claims.{root}
-use Rattle.sel_parse_selected.specs.Selected.{Selected, FrameFull}
+use Rattle.sel_parse_effect.specs.sel_parse_moves.specs.Claims.{root}
+use Rattle.sel_parse_effect.specs.sel_parse_selected.specs.Selected.{Selected, FrameFull}
 
 -- A leaf of a function whose locals lie before the first slot: a local that it names is one of these, operands name its local or its
 -- argument, its number, offset or label is a longword, and its object is the program's.

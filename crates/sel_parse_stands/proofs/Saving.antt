@@ -42,14 +42,14 @@ use Rattle.sel_target.specs.Instances.{some_touches, attr_touches, IsWhole}
 use Rattle.sel_target.specs.StatementLaws.{att_of}
 use Rattle.sel_target.specs.Laws.{IsLawful}
 use Rattle.sel_target.specs.SavingLaws.{Saves, Reloads, operand as is_operand, register as a_register, IsSet, IsSlot, saving, reloading}
-use Rattle.sel_terms_meaning.specs.Alike.{IsNarrowAct}
+use Rattle.sel_terms_trees.specs.sel_terms_meaning.specs.Alike.{IsNarrowAct}
 use Rattle.sel_target.specs.Outcomes.{Keeps}
 use Rattle.sel_target.specs.Courses.{comes}
 use Rattle.sel_target.proofs.Facts.{low_is}
 use Rattle.sel_target.specs.Symbols.{lowest, saving_line, is_register}
 use Rattle.sel_terms_trees.specs.Senses.{Sense, OfNumber, OfPlace}
 use Rattle.term_core_accesses.specs.Keeping.{IsNarrow}
-use Rattle.sel_terms_meaning.proofs.Alike.{shown_is_alike}
+use Rattle.sel_terms_trees.specs.sel_terms_meaning.proofs.Alike.{shown_is_alike}
 use Rattle.sel_parse_stands.specs.Stands as stands
 use Rattle.sel_parse_stands.specs.Lines.{LinesSave}
 use Rattle.sel_parse_stands.specs.Stands.{ClassIs, SymbolIs, Sees, IsFrame}

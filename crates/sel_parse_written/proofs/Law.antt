@@ -19,23 +19,23 @@ use Rattle.sel_terms.specs.Effects.{EffectShape}
 use Rattle.sel_terms_trees.specs.Senses.{piled}
 use Rattle.sel_target.specs.Meaning.{Meaning}
 use Rattle.sel_target.specs.Laws.{IsLawful}
-use Rattle.sel_parse.specs.Shown.{IsShown}
-use Rattle.sel_parse_moves.proofs.Covering.{known}
-use Rattle.sel_parse_desk.specs.Selected as desk
+use Rattle.sel_parse_law.specs.sel_parse.specs.Shown.{IsShown}
+use Rattle.sel_parse_lines.specs.sel_parse_moves.proofs.Covering.{known}
+use Rattle.sel_parse_law.specs.sel_parse_desk.specs.Selected as desk
 use Rattle.sel_parse_selected.specs.Entries.{Entry}
 use Rattle.sel_parse_selected.specs.Desk.{Stack, Outcome, Full, Stuck, Done}
 use Rattle.sel_parse_selected.specs.Reductions.{reduced}
 use Rattle.sel_parse_selected.specs.Selected.{Selected, Kept, kept_of, reduced_by, selecting, shifted}
-use Rattle.sel_parse_stands.specs.Lines.{LinesSave}
-use Rattle.sel_parse_stands.proofs.Parting.{taken_off, left_below}
-use Rattle.sel_parse_effect.specs.Claims.{IsFit}
-use Rattle.sel_parse_effect.proofs.Law.{lines_save}
+use Rattle.sel_parse_law.specs.sel_parse_stands.specs.Lines.{LinesSave}
+use Rattle.sel_parse_law.specs.sel_parse_stands.proofs.Parting.{taken_off, left_below}
+use Rattle.sel_parse_law.specs.sel_parse_effect.specs.Claims.{IsFit}
+use Rattle.sel_parse_law.specs.sel_parse_effect.proofs.Law.{lines_save}
 use Rattle.sel_parse_lines.proofs.Each.{Each}
 use Rattle.sel_parse_lines.proofs.Words.{selections_use_few_words}
-use Rattle.sel_parse_slots.specs.Claims as slots
-use Rattle.sel_parse_slots.proofs.Prefixes.{gamma}
-use Rattle.sel_parse_slots.proofs.Law as walk
-use Rattle.sel_parse_joined.proofs.Law.{same_code}
+use Rattle.sel_parse_law.specs.sel_parse_slots.specs.Claims as slots
+use Rattle.sel_parse_law.specs.sel_parse_slots.proofs.Prefixes.{gamma}
+use Rattle.sel_parse_law.specs.sel_parse_slots.proofs.Law as walk
+use Rattle.sel_parse_law.specs.sel_parse_joined.proofs.Law.{same_code}
 use Rattle.sel_parse_law.specs.Claims.{IsReady}
 use Rattle.sel_parse_written.specs.Claims.{LinesPass, SelectionsPass, SelectionsAreWritten, SelectionsUseLowWords}
 use Rattle.sel_parse_written.proofs.Classes.{AllKinds, kinds_parted}

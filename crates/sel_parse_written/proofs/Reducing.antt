@@ -24,12 +24,12 @@ use Rattle.sel_parse_selected.specs.Entries.{Entry, attrs}
 use Rattle.sel_parse_selected.specs.Desk.{Stack, Desk, desk_of, held, is_free_register}
 use Rattle.sel_parse_selected.specs.Spills.{due}
 use Rattle.sel_parse_selected.specs.Reductions.{reloaded, finished, shaped, with_result, with_scratch, given_by, reduced}
-use Rattle.sel_parse_stands.specs.Lines.{LinesSave}
-use Rattle.sel_parse_stands.proofs.Loaded.{all_loaded}
+use Rattle.sel_parse_law.specs.sel_parse_stands.specs.Lines.{LinesSave}
+use Rattle.sel_parse_law.specs.sel_parse_stands.proofs.Loaded.{all_loaded}
 use Rattle.sel_parse_lines.proofs.Each.{Each, each_bind}
-use Rattle.sel_parse_slots.proofs.Fine as fine
-use Rattle.sel_parse_slots.proofs.Counting.{Counted, fine_length}
-use Rattle.sel_parse_slots.proofs.Finishing.{all_fit, all_spelled}
+use Rattle.sel_parse_law.specs.sel_parse_slots.proofs.Fine as fine
+use Rattle.sel_parse_law.specs.sel_parse_slots.proofs.Counting.{Counted, fine_length}
+use Rattle.sel_parse_law.specs.sel_parse_slots.proofs.Finishing.{all_fit, all_spelled}
 use Rattle.sel_parse_written.specs.Claims.{LinesPass}
 use Rattle.sel_parse_written.proofs.Rights.{right_none}
 use Rattle.sel_parse_written.proofs.Classes.{AllKinds}

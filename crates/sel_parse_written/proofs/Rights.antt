@@ -13,7 +13,7 @@ use Rattle.md_reader.specs.Patterns.{kind_at, Trees, no_tree, node, onto, sorted
 use Rattle.md_reader.specs.Restrictions.{is_nothing}
 use Rattle.md_reader.specs.Rows.{is_bare}
 use Rattle.md_reader.specs.Valid.{IsRule}
-use Rattle.sel_parse_slots.proofs.Finishing.{IsNoStatement, none_onto}
+use Rattle.sel_parse_law.specs.sel_parse_slots.proofs.Finishing.{IsNoStatement, none_onto}
 
 no_nothing : (k : Option Kind) → is_nothing k ≡ false → k ≡ Some kind.Nothing → ⊥
 no_nothing k e is = true_or_false (is_nothing k) (ap is_nothing is) e

@@ -21,14 +21,14 @@ use Rattle.sel_parse_selected.specs.Entries.{Entry}
 use Rattle.sel_parse_selected.specs.Desk.{Desk, Outcome, Full, Stuck, Done, is_free_register, free_register, is_free_word, free_slot}
 use Rattle.sel_parse_selected.specs.Spills.{Where, holds_register, victim, entry_in_slot, saved, saved_in, spilled, with_free, due_by, due}
 use Rattle.sel_parse_selected.specs.Reductions.{loaded, reloaded_by, reloaded_at, reloaded}
-use Rattle.sel_parse_stands.specs.Lines.{LinesSave}
-use Rattle.sel_parse_stands.proofs.Desks as desks
-use Rattle.sel_parse_stands.proofs.Desks.{MayMove, may_victim}
-use Rattle.sel_parse_stands.proofs.Saving.{lowest_found, slot_holds_none}
+use Rattle.sel_parse_law.specs.sel_parse_stands.specs.Lines.{LinesSave}
+use Rattle.sel_parse_law.specs.sel_parse_stands.proofs.Desks as desks
+use Rattle.sel_parse_law.specs.sel_parse_stands.proofs.Desks.{MayMove, may_victim}
+use Rattle.sel_parse_law.specs.sel_parse_stands.proofs.Saving.{lowest_found, slot_holds_none}
 use Rattle.sel_parse_lines.proofs.Each.{Each, each_bind}
-use Rattle.sel_parse_slots.proofs.Fine as fine
-use Rattle.sel_parse_slots.proofs.Fine.{charge, IsFine, fine_spilled}
-use Rattle.sel_parse_slots.proofs.Counting.{Good, fine_at, slot_kind, Counted, IsDue, due_good, one_good}
+use Rattle.sel_parse_law.specs.sel_parse_slots.proofs.Fine as fine
+use Rattle.sel_parse_law.specs.sel_parse_slots.proofs.Fine.{charge, IsFine, fine_spilled}
+use Rattle.sel_parse_law.specs.sel_parse_slots.proofs.Counting.{Good, fine_at, slot_kind, Counted, IsDue, due_good, one_good}
 use Rattle.sel_parse_written.specs.Claims.{LinesPass}
 use Rattle.sel_parse_written.proofs.Classes.{KindIs, AllKinds, kind_there, kinds_set}
 

@@ -16,7 +16,7 @@ use Rattle.sel_target.specs.Meaning.{Meaning}
 use Rattle.sel_target.specs.Instances.{Fit, IsResult, lines_of}
 use Rattle.sel_target.specs.Spelled.{AreSpelled}
 use Rattle.sel_target.specs.SavingLaws.{Saves, Reloads, IsValue}
-use Rattle.sel_parse_desk.specs.Selected.{Selected}
+use Rattle.sel_parse_law.specs.sel_parse_desk.specs.Selected.{Selected}
 use Rattle.sel_parse_law.specs.Claims.{IsReady}
 
 module _ {O I S F : Type 0} (of : Meaning O I S F) (q : TreeProgram) (d : Content) where

@@ -11,7 +11,7 @@ use Rattle.gg_base.specs.declared.size.Size.TheVariants.{Byte, Word, Long}
 use Rattle.gg_base.specs.Sizes.{bytes_of}
 use Rattle.gg_base.specs.LittleEndian.{number_in}
 use Rattle.tree_core.specs.Area.{is_inside, fetched}
-use Rattle.term_core.specs.Value.{memory_at}
+use Rattle.sel_terms_meaning.specs.term_core.specs.Value.{memory_at}
 use Rattle.sel_target.specs.Values.{View, term_state}
 
 abbrev pub Bytes : List ℕ → Type 0

@@ -8,7 +8,7 @@ use Rattle.md_reader.specs.declared.types.Sym.{Sym}
 use Rattle.md_reader.specs.declared.types.Sym.TheVariants as grammar_symbol
 use Rattle.md_reader.specs.declared.types.Restriction.{Restriction}
 use Rattle.md_reader.specs.declared.types.Restriction.TheVariants as restriction
-use Rattle.term_core.specs.Shape.{Shape}
+use Rattle.sel_terms_meaning.specs.term_core.specs.Shape.{Shape}
 use Rattle.sel_terms.specs.Effects.{EffectShape}
 use Rattle.sel_terms_meaning.specs.Meaning.{terms_of_act}
 use Rattle.sel_target.specs.Values.{View, value}

@@ -13,3 +13,8 @@ pub mod StatementLaws
 pub mod Symbols
 pub mod TemplateLaws
 pub mod Values
+pub use Rattle.sel_terms_meaning
+pub use Rattle.md_reader
+pub use Rattle.sel_terms
+pub use Rattle.md_reader_pieces
+pub use Rattle.tree_meaning

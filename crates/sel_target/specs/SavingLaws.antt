@@ -9,8 +9,8 @@ use Rattle.md_reader_pieces.specs.declared.piece.Line.{Line}
 use Rattle.md_reader.specs.declared.types.Kind.{Kind}
 use Rattle.md_reader.specs.declared.types.Kind.TheVariants as kind
 use Rattle.md_reader.specs.Valid.{IsSpill}
-use Rattle.term_core.specs.Shape.{Shape, Symbol}
-use Rattle.term_core.specs.Norm.{norm}
+use Rattle.sel_terms_meaning.specs.term_core.specs.Shape.{Shape, Symbol}
+use Rattle.sel_terms_meaning.specs.term_core.specs.Norm.{norm}
 use Rattle.sel_terms.specs.Effects.{EffectShape, Value, StoreHome}
 use Rattle.sel_terms.specs.RuleFacts.{saved_facts, size_of_saved}
 use Rattle.sel_terms_meaning.specs.Alike.{IsNarrowEffect}

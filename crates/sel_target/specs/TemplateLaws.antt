@@ -13,7 +13,7 @@ use Rattle.md_reader.specs.declared.types.Give.TheVariants as give
 use Rattle.md_reader.specs.declared.types.Rule.{Rule}
 use Rattle.md_reader.specs.Patterns.{kind_at}
 use Rattle.md_reader.specs.Valid.{IsRule}
-use Rattle.term_core.specs.Shape.{Shape, Symbol}
+use Rattle.sel_terms_meaning.specs.term_core.specs.Shape.{Shape, Symbol}
 use Rattle.sel_terms.specs.Effects.{EffectShape, Value, Number, Address, PlaceHome, PlaceAt}
 use Rattle.sel_terms_meaning.specs.Alike.{IsNarrowEffect}
 use Rattle.sel_target.specs.declared.attr.Attr.{Attr}

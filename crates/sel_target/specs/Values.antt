@@ -15,9 +15,9 @@ use Rattle.tree_core.specs.declared.program.TreeProgram.{TreeProgram}
 use Rattle.tree_meaning.specs.State.{State, Extent}
 use Rattle.tree_meaning.specs.declared.value.Meaning.TheVariants as meaning
 use Rattle.tree_meaning.specs.declared.value.Meaning.{Meaning as Place}
-use Rattle.term_core.specs.Shape.{Shape}
-use Rattle.term_core.specs.Value as term
-use Rattle.term_core_accesses.specs.Accesses.{Safe}
+use Rattle.sel_terms_meaning.specs.term_core.specs.Shape.{Shape}
+use Rattle.sel_terms_meaning.specs.term_core.specs.Value as term
+use Rattle.sel_terms_meaning.specs.term_core_accesses.specs.Accesses.{Safe}
 use Rattle.sel_target.specs.declared.attr.Attr.{Attr}
 use Rattle.sel_target.specs.declared.attr.Attr.TheVariants as attr
 use Rattle.sel_target.specs.Meaning.{Meaning}

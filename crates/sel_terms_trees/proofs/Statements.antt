@@ -28,7 +28,7 @@ use Rattle.sel_terms.specs.Reading.{below, step}
 use Rattle.tree_meaning.specs.Deeds.{Deed, Puts, Branches, Pushes, Returns, Traps, Strays, given, assigned, branched, deed_of}
 use Rattle.sel_terms_trees.specs.Senses.{Sense, OfLeaf, sense_at, att_of}
 use Rattle.sel_terms_trees.specs.Effects.{IsKnown, DoesBy, TrapsBy}
-use Rattle.term_core_accesses.specs.Accesses.{Safe}
+use Rattle.sel_terms_meaning.specs.term_core_accesses.specs.Accesses.{Safe}
 use Rattle.sel_terms_meaning.specs.Meaning.{AllSafe, divides_by_zero}
 use Rattle.sel_terms_trees.proofs.Worths.{none_joined, some_first, some_second, safe_joined, weak, all_weak}
 use Rattle.sel_terms_trees.proofs.Tokens.{IsOf, IsSpot, IsZeroSpot, IsAtSome, Each}

@@ -44,7 +44,7 @@ use Rattle.sel_terms_trees.specs.Senses.{Sense, OfLeaf, IsPlace, sense_at, means
 use Rattle.tree_meaning_tame.specs.Tame.{IsTame}
 use Rattle.tree_meaning_tame.proofs.Sorts.{sort_tame}
 use Rattle.sel_terms_trees.specs.Effects.{IsKnown}
-use Rattle.term_core_accesses.specs.Accesses.{divides_well, Safe}
+use Rattle.sel_terms_meaning.specs.term_core_accesses.specs.Accesses.{divides_well, Safe}
 use Rattle.sel_terms_meaning.specs.Meaning.{AllSafe, divides_by_zero}
 use Rattle.sel_terms_trees.proofs.Worths.{ill_left, ill_right, none_joined, some_first, some_second, safe_joined, weak, all_weak, div_none, div_some, left_shift, right_shift}
 use mathlib.Core.Bool.{or-false}

@@ -9,7 +9,7 @@ use Rattle.gg_base.proofs.Words.{low_count}
 use Rattle.term_core.specs.declared.operator.BinaryOp.{BinaryOp}
 use Rattle.term_core.specs.Shape.{Shape, Constant, Symbol, LastResult, Memory as Fetch, Unary, Binary}
 use Rattle.term_core.specs.Value.{State, value}
-use Rattle.term_core_accesses.specs.Accesses.{divides_well, is_division, Safe}
+use Rattle.sel_terms_meaning.specs.term_core_accesses.specs.Accesses.{divides_well, is_division, Safe}
 use Rattle.sel_terms_meaning.specs.Meaning.{AllSafe, divides_by_zero}
 
 count_small : (y : ℕ) → y % 32 < 32

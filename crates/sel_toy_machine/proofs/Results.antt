@@ -24,7 +24,7 @@ use Rattle.term_core.specs.Shape.{Shape, Symbol, Memory, Binary}
 use Rattle.term_core.proofs.Values.{small as term_small}
 use Rattle.sel_terms.specs.Effects.{ActShape, EffectShape, Value, Number, Address, PlaceHome, PlaceAt, StoreHome, StoreAt, Branch, Push, Call, Save, Return, Jump}
 use Rattle.sel_terms.proofs.Facts.{same_Value}
-use Rattle.sel_terms_meaning.specs.Alike.{IsNarrowEffect}
+use Rattle.sel_target.specs.sel_terms_meaning.specs.Alike.{IsNarrowEffect}
 use Rattle.sel_target.specs.declared.attr.Attr.{Attr}
 use Rattle.sel_target.specs.declared.attr.Attr.TheVariants as attr
 use Rattle.sel_target.specs.Courses.{comes, traps, followed}

@@ -2,3 +2,7 @@
 pub mod Stack
 pub mod Agreeing
 pub mod Sentences
+pub use Rattle.vax_machine_lists
+pub use Rattle.tree_meaning
+pub use Rattle.vax_machine_live
+pub use Rattle.vax_machine

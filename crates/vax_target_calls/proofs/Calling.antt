@@ -39,11 +39,11 @@ use Rattle.vax_machine_lists.specs.Instructions as lists
 use Rattle.vax_states.specs.Agreeing.{HasRoom}
 use Rattle.vax_states.proofs.Standing.{register_kept}
 use Rattle.vax_states.proofs.Popping.{put_acts, set_up, agrees_result, sp_high, agrees_popped, top_read}
-use Rattle.vax_templates.specs.FilledLines.{callee_in, callee_of_att, callee_among, function_name, call_of}
-use Rattle.vax_target_meaning.specs.Running.{course_of}
-use Rattle.vax_target_meaning.specs.Vax.{vax, stands}
-use Rattle.vax_target_lines.specs.Lines.{DoesDeed}
-use Rattle.vax_target_runs.specs.Runs.{EndsIn}
+use Rattle.vax_target_statements.specs.vax_templates.specs.FilledLines.{callee_in, callee_of_att, callee_among, function_name, call_of}
+use Rattle.vax_target_statements.specs.vax_target_meaning.specs.Running.{course_of}
+use Rattle.vax_target_statements.specs.vax_target_meaning.specs.Vax.{vax, stands}
+use Rattle.vax_target_statements.specs.vax_target_lines.specs.Lines.{DoesDeed}
+use Rattle.vax_target_statements.specs.vax_target_runs.specs.Runs.{EndsIn}
 use Rattle.vax_target_statements.proofs.LastLines.{c, did, IsDeed, statement_ends, agrees_there, room_there, live_there, codes_agree}
 use Rattle.vax_target_statements.proofs.Deeds.{Steps}
 use Rattle.vax_target_statements.proofs.Controls.{token_is}

@@ -15,7 +15,7 @@ use Rattle.vax_machine_lists.specs.Sound.{AllBelow}
 use Rattle.vax_machine_lists.specs.Instructions.{Comes, Calls, ends, comes, course_of, performed}
 use Rattle.vax_states.specs.Agreeing.{Agrees}
 use Rattle.vax_states.proofs.Standing.{rebuilt}
-use Rattle.vax_templates.specs.Filled.{alone, addr_number}
+use Rattle.vax_target_statements.specs.vax_templates.specs.Filled.{alone, addr_number}
 
 -- ---- the instruction
 

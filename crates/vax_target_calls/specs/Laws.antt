@@ -13,7 +13,7 @@ use Rattle.sel_target.specs.Instances.{lines_of, Ready}
 use Rattle.sel_target.specs.StatementLaws.{IsStep, DoesAct, DoesStatements}
 use Rattle.vax_core.specs.declared.operand.Operand.{Operand}
 use Rattle.vax_machine.specs.State.{State}
-use Rattle.vax_target_meaning.specs.Vax.{vax}
+use Rattle.vax_target_statements.specs.vax_target_meaning.specs.Vax.{vax}
 
 -- the lines of a statement that calls do its deed
 abbrev pub CallsDo : Type 0

@@ -39,7 +39,7 @@ use Rattle.vax_templates.specs.Deeds.{is_relation, branches, computed, acted}
 use Rattle.vax_templates.specs.Judging.{is_disordered, in_order, with_reads, checked, operated, instruction_did}
 use Rattle.vax_templates.specs.Judging.{did_behind, read, line_did}
 use Rattle.vax_templates.specs.Progress.{Progress, start, kept_or_put, at_line, kept, judged, lines_judged}
-use Rattle.vax_target_writing.proofs.Each.{EachOk, bind_each, always_ok, if_ok, of_ok}
+use Rattle.vax_target_shapes.specs.vax_target_writing.proofs.Each.{EachOk, bind_each, always_ok, if_ok, of_ok}
 
 -- nothing is put, and the codes at most are left
 abbrev pub IsIdle : Last → Type 0

@@ -28,7 +28,7 @@ use Rattle.md_reader.specs.Patterns.{kind_at}
 use Rattle.md_reader.specs.Restrictions.{is_nothing}
 use Rattle.term_core.specs.Shape.{Shape}
 use Rattle.sel_terms.specs.Effects.{ActShape, EffectShape, Value, Number, Address, PlaceAt}
-use Rattle.sel_terms_meaning.specs.Meaning.{terms_of_act}
+use Rattle.sel_target.specs.sel_terms_meaning.specs.Meaning.{terms_of_act}
 use Rattle.sel_target.specs.declared.attr.Attr.{Attr}
 use Rattle.sel_target.specs.declared.attr.Attr.TheVariants as attr
 use Rattle.sel_target.specs.Courses.{comes}
@@ -50,14 +50,14 @@ use Rattle.vax_templates.specs.Standing.{◌>>=◌}
 use Rattle.vax_templates.specs.GiveLines.{number_given, shape_given, shape_read, given_shape, given_by}
 use Rattle.vax_templates.specs.Filled.{attr_at, addr_in, filled_or_spare}
 use Rattle.vax_templates.proofs.Judgements.{hole_front_is}
-use Rattle.vax_target_meaning.specs.Running.{course_of}
-use Rattle.vax_target_meaning.specs.Vax.{vax}
-use Rattle.vax_target_operands.specs.Scenes.{Scene, Sees}
-use Rattle.vax_target_operands.proofs.Binds.{chained}
-use Rattle.vax_target_operands.proofs.Holes.{constant_known}
-use Rattle.vax_target_lines.proofs.Short.{shape_short}
-use Rattle.vax_target_runs.specs.Runs.{line_of}
-use Rattle.vax_target_runs.proofs.Kept.{codes_are_kept}
+use Rattle.vax_target_rules.specs.vax_target_meaning.specs.Running.{course_of}
+use Rattle.vax_target_rules.specs.vax_target_meaning.specs.Vax.{vax}
+use Rattle.vax_target_shapes.specs.vax_target_operands.specs.Scenes.{Scene, Sees}
+use Rattle.vax_target_shapes.specs.vax_target_operands.proofs.Binds.{chained}
+use Rattle.vax_target_shapes.specs.vax_target_operands.proofs.Holes.{constant_known}
+use Rattle.vax_target_rules.specs.vax_target_lines.proofs.Short.{shape_short}
+use Rattle.vax_target_rules.specs.vax_target_runs.specs.Runs.{line_of}
+use Rattle.vax_target_rules.specs.vax_target_runs.proofs.Kept.{codes_are_kept}
 use Rattle.vax_target_rules.specs.Scene.{scene_of}
 use Rattle.vax_target_rules.proofs.Founds.{IsFound, rule_is, front_safe}
 use Rattle.vax_target_rules.proofs.Instances.{instances_are_seen}

@@ -1,21 +1,21 @@
 -- The laws of a target, from the laws of the crates below, as one record.
 use Rattle.std.proofs.Common.{◌≡◌, true, List, [], ◌∷◌}
 use Rattle.std.specs.List.{AllByRecursion}
-use Rattle.sel_target.specs.Laws.{IsLawful}
-use Rattle.sel_target.specs.OperandLaws.{SpellsItself}
-use Rattle.sel_target.specs.TemplateLaws.{DoesTemplates}
-use Rattle.sel_target.specs.Instances.{lines_of}
+use Rattle.vax_target_traps.specs.sel_target.specs.Laws.{IsLawful}
+use Rattle.vax_target_traps.specs.sel_target.specs.OperandLaws.{SpellsItself}
+use Rattle.vax_target_traps.specs.sel_target.specs.TemplateLaws.{DoesTemplates}
+use Rattle.vax_target_traps.specs.sel_target.specs.Instances.{lines_of}
 use Rattle.vax_core.specs.declared.code.Instr.{Instr}
 use Rattle.vax_core.specs.Valid.{is_instr}
-use Rattle.vax_target_meaning.specs.Vax.{vax}
+use Rattle.vax_target_order.specs.vax_target_meaning.specs.Vax.{vax}
 use Rattle.vax_target_order.proofs.Running.{instructions_run}
 use Rattle.vax_target_order.proofs.Dividing.{rules_divide_once, statements_have_lines}
-use Rattle.vax_target_spelling.proofs.Law.{alike_are_equal, registers_spell, words_spell, shapes_touch, holes_are_themselves}
-use Rattle.vax_target_writing.proofs.Given.{shapes_fit}
-use Rattle.vax_target_writing.proofs.Spilling.{lines_are_written, slots_fit}
-use Rattle.vax_target_reading.proofs.Law.{operands_read}
-use Rattle.vax_target_narrow.proofs.Law.{effects_are_narrow}
-use Rattle.vax_target_rules.proofs.Law.{results_are_left}
+use Rattle.vax_target_saving.specs.vax_target_spelling.proofs.Law.{alike_are_equal, registers_spell, words_spell, shapes_touch, holes_are_themselves}
+use Rattle.vax_target_order.specs.vax_target_writing.proofs.Given.{shapes_fit}
+use Rattle.vax_target_order.specs.vax_target_writing.proofs.Spilling.{lines_are_written, slots_fit}
+use Rattle.vax_target_given.specs.vax_target_reading.proofs.Law.{operands_read}
+use Rattle.vax_target_saving.specs.vax_target_narrow.proofs.Law.{effects_are_narrow}
+use Rattle.vax_target_traps.specs.vax_target_rules.proofs.Law.{results_are_left}
 use Rattle.vax_target_traps.proofs.Law.{zero_divisors_trap}
 use Rattle.vax_target_given.proofs.Law.{shapes_are_given}
 use Rattle.vax_target_saving.proofs.Law.{written, target_saves}

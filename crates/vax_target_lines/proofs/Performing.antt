@@ -9,10 +9,10 @@ use Rattle.gg_base.specs.declared.size.Size.TheVariants.{Long}
 use Rattle.gg_base.proofs.Facts.{err_ok, ok_same, second_false, second_true, first_true, first_false, head_same}
 use Rattle.md_reader_pieces.specs.declared.piece.Piece.{Piece}
 use Rattle.term_core.specs.Shape.{Shape, Constant, Symbol, LastResult, Memory, Unary, Binary}
-use Rattle.sel_terms.specs.Effects.{ActShape}
-use Rattle.sel_terms.specs.Effects as act
-use Rattle.sel_target.specs.declared.fault.TemplateKind.TheVariants.{NotInstr, WrongSize, Order}
-use Rattle.sel_target.specs.declared.attr.Attr.TheVariants as attr
+use Rattle.vax_templates.specs.sel_terms.specs.Effects.{ActShape}
+use Rattle.vax_templates.specs.sel_terms.specs.Effects as act
+use Rattle.vax_templates.specs.sel_target.specs.declared.fault.TemplateKind.TheVariants.{NotInstr, WrongSize, Order}
+use Rattle.vax_templates.specs.sel_target.specs.declared.attr.Attr.TheVariants as attr
 use Rattle.vax_core.specs.declared.register.Reg.{Reg}
 use Rattle.vax_core.specs.declared.register.Reg.TheVariants.{R0}
 use Rattle.vax_core.specs.Registers.{reg_number}
@@ -38,7 +38,7 @@ use Rattle.vax_machine.specs.Memory.{register_set}
 use Rattle.vax_machine.specs.Functions.{action_of, applied}
 use Rattle.vax_machine.specs.Operands as machine
 use Rattle.vax_machine.specs.Step.{finished, pushing}
-use Rattle.vax_machine_lists.specs.Instructions.{Course, Stops, Returns, ends, comes, course_of, alone, evaluated_then, performed}
+use Rattle.vax_target_operands.specs.vax_machine_lists.specs.Instructions.{Course, Stops, Returns, ends, comes, course_of, alone, evaluated_then, performed}
 use Rattle.vax_templates.specs.declared.form.Form.{Form}
 use Rattle.vax_templates.specs.declared.setting.Hole.{Hole}
 use Rattle.vax_templates.specs.declared.setting.Hole.TheVariants as hole_kind

@@ -9,13 +9,13 @@ use Rattle.gg_base.specs.declared.size.Size.TheVariants.{Byte, Word, Long}
 use Rattle.gg_base.proofs.Facts.{first_false, second_false, err_ok, ok_same}
 use Rattle.gg_base.specs.Sizes.{low}
 use Rattle.term_core.specs.Shape.{Shape, Constant, Symbol, LastResult, Memory}
-use Rattle.sel_terms.specs.Same.{same_size}
-use Rattle.sel_terms.proofs.Alike.{equal_sizes}
-use Rattle.sel_target.specs.declared.fault.TemplateKind.{TemplateKind}
-use Rattle.sel_target.specs.declared.fault.TemplateKind.TheVariants.{NotInstr}
+use Rattle.vax_templates.specs.sel_terms.specs.Same.{same_size}
+use Rattle.vax_templates.specs.sel_terms.proofs.Alike.{equal_sizes}
+use Rattle.vax_templates.specs.sel_target.specs.declared.fault.TemplateKind.{TemplateKind}
+use Rattle.vax_templates.specs.sel_target.specs.declared.fault.TemplateKind.TheVariants.{NotInstr}
 use Rattle.term_core.proofs.Values.{small}
-use Rattle.sel_target.specs.Values.{IsRead, term_state}
-use Rattle.sel_target.proofs.AreaBytes.{number_small}
+use Rattle.vax_templates.specs.sel_target.specs.Values.{IsRead, term_state}
+use Rattle.vax_templates.specs.sel_target.proofs.AreaBytes.{number_small}
 use Rattle.vax_core.specs.declared.register.Reg.{Reg}
 use Rattle.vax_core.specs.declared.register.Reg.TheVariants.{R0}
 use Rattle.vax_core.specs.declared.op.Access.{Access}
@@ -33,9 +33,9 @@ use Rattle.vax_machine.specs.State.{State, reg}
 use Rattle.vax_machine.specs.State as state
 use Rattle.vax_machine.specs.Memory.{read, touched, number_at}
 use Rattle.vax_machine.specs.Operands as machine
-use Rattle.vax_machine_lists.specs.Sound.{IsSound}
-use Rattle.vax_machine_lists.proofs.Longwords.{all_bytes}
-use Rattle.vax_states.proofs.Keeping.{reg_small}
+use Rattle.vax_target_operands.specs.vax_machine_lists.specs.Sound.{IsSound}
+use Rattle.vax_target_operands.specs.vax_machine_lists.proofs.Longwords.{all_bytes}
+use Rattle.vax_target_operands.specs.vax_states.proofs.Keeping.{reg_small}
 use Rattle.vax_templates.specs.declared.form.Number.{Number}
 use Rattle.vax_templates.specs.declared.form.Base.{Base}
 use Rattle.vax_templates.specs.declared.form.Base.TheVariants as base

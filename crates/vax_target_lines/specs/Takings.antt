@@ -4,7 +4,7 @@ use Rattle.std.specs.List.{AllByRecursion}
 use Rattle.gg_base.specs.declared.size.Size.{Size}
 use Rattle.gg_base.specs.declared.size.Size.TheVariants.{Long}
 use Rattle.term_core.specs.Shape.{Shape}
-use Rattle.sel_target.specs.Values.{IsRead}
+use Rattle.vax_templates.specs.sel_target.specs.Values.{IsRead}
 use Rattle.vax_core.specs.declared.register.Reg.TheVariants.{R0}
 use Rattle.vax_core.specs.declared.op.Access.{Access}
 use Rattle.vax_core.specs.declared.op.Access.TheVariants as accesses

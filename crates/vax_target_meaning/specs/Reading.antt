@@ -15,10 +15,10 @@ use Rattle.vax_core.specs.declared.operand.Addr.{Addr}
 use Rattle.vax_core.specs.declared.operand.Base.{Base}
 use Rattle.vax_core.specs.declared.operand.Base.TheVariants as bases
 use Rattle.vax_core.specs.declared.operand.Operand.{Operand}
-use Rattle.vax_machine.specs.declared.turn.Stop.{Stop}
-use Rattle.vax_machine.specs.State.{State, reg}
-use Rattle.vax_machine.specs.Area.{resolved}
-use Rattle.vax_machine.specs.Memory.{read}
+use Rattle.vax_states.specs.vax_machine.specs.declared.turn.Stop.{Stop}
+use Rattle.vax_states.specs.vax_machine.specs.State.{State, reg}
+use Rattle.vax_states.specs.vax_machine.specs.Area.{resolved}
+use Rattle.vax_states.specs.vax_machine.specs.Memory.{read}
 use Rattle.vax_templates.specs.FrameWords.{word_with_name}
 
 -- `4i(ap)` for argument i, from 1 to 255

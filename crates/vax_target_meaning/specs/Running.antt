@@ -1,12 +1,12 @@
 -- What lists of instructions do, as a target says it.
 use Rattle.std.specs.Prelude.{ℕ, List}
 use Rattle.vax_core.specs.declared.code.Instr.{Instr}
-use Rattle.vax_machine.specs.declared.turn.Stop.{Stop}
-use Rattle.vax_machine.specs.declared.turn.Stop.TheVariants as stops
-use Rattle.vax_machine.specs.State.{State}
-use Rattle.vax_machine_lists.specs.Instructions.{exec}
-use Rattle.vax_machine_lists.specs.Instructions as lists
-use Rattle.sel_target.specs.Courses.{Course, Ending, Comes, Goes, Calls, Returns, Traps, Breaks}
+use Rattle.vax_states.specs.vax_machine.specs.declared.turn.Stop.{Stop}
+use Rattle.vax_states.specs.vax_machine.specs.declared.turn.Stop.TheVariants as stops
+use Rattle.vax_states.specs.vax_machine.specs.State.{State}
+use Rattle.vax_states.specs.vax_machine_lists.specs.Instructions.{exec}
+use Rattle.vax_states.specs.vax_machine_lists.specs.Instructions as lists
+use Rattle.vax_templates.specs.sel_target.specs.Courses.{Course, Ending, Comes, Goes, Calls, Returns, Traps, Breaks}
 
 -- instructions end no run by themselves: a return is left to be done
 abbrev pub stop_of : Stop → Ending Instr State

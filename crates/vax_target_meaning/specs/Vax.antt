@@ -2,8 +2,8 @@
 use Rattle.std.specs.Prelude.{List}
 use Rattle.tree_core.specs.declared.token.Tok.TheVariants as tok
 use Rattle.tree_core.specs.declared.program.TreeProgram.{TreeProgram}
-use Rattle.tree_meaning.specs.State.{State as Trees, Extent}
-use Rattle.sel_target.specs.Meaning.{Meaning}
+use Rattle.vax_states.specs.tree_meaning.specs.State.{State as Trees, Extent}
+use Rattle.vax_templates.specs.sel_target.specs.Meaning.{Meaning}
 use Rattle.vax_core.specs.declared.register.Reg.TheVariants.{R0}
 use Rattle.vax_core.specs.declared.operand.Base.TheVariants as bases
 use Rattle.vax_core.specs.declared.operand.Operand.{Operand}
@@ -11,8 +11,8 @@ use Rattle.vax_core.specs.declared.code.Instr.{Instr}
 use Rattle.vax_core.specs.Homes.{home, at_home}
 use Rattle.vax_core.specs.Registers.{operand_bits}
 use Rattle.vax_core.specs.Same.{same_operand}
-use Rattle.vax_machine_live.specs.declared.frame.Frame.{Frame}
-use Rattle.vax_machine.specs.State.{State, reg}
+use Rattle.vax_states.specs.vax_machine_live.specs.declared.frame.Frame.{Frame}
+use Rattle.vax_states.specs.vax_machine.specs.State.{State, reg}
 use Rattle.vax_states.specs.Agreeing.{Agrees, HasRoom}
 use Rattle.vax_templates.specs.Filled.{alone, numbered, word_operand, slot_operand, filled_operand}
 use Rattle.vax_templates.specs.FilledLines.{filled_line}

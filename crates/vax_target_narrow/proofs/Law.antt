@@ -21,11 +21,11 @@ use Rattle.md_reader.specs.Patterns.{kind_at}
 use Rattle.term_core.specs.Shape.{Shape, Constant, LastResult}
 use Rattle.term_core_accesses.specs.Keeping.{IsNarrow}
 use Rattle.sel_terms.specs.Effects.{ActShape, EffectShape, Value, PlaceHome, Branch, Push, Call, Save, Jump}
-use Rattle.sel_terms_meaning.specs.Alike.{AllNarrow, IsNarrowAct, IsNarrowEffect}
-use Rattle.sel_terms_meaning.proofs.Narrow.{joined_narrow}
+use Rattle.vax_templates.specs.sel_terms_meaning.specs.Alike.{AllNarrow, IsNarrowAct, IsNarrowEffect}
+use Rattle.vax_templates.specs.sel_terms_meaning.proofs.Narrow.{joined_narrow}
 use Rattle.sel_terms.specs.Same.{same_size}
-use Rattle.sel_target.specs.declared.fault.TemplateKind.{TemplateKind}
-use Rattle.sel_target.specs.declared.fault.TemplateKind.TheVariants.{NotInstr, WrongSize, Order}
+use Rattle.vax_templates.specs.sel_target.specs.declared.fault.TemplateKind.{TemplateKind}
+use Rattle.vax_templates.specs.sel_target.specs.declared.fault.TemplateKind.TheVariants.{NotInstr, WrongSize, Order}
 use Rattle.vax_core.specs.declared.op.Op.{Op}
 use Rattle.vax_core.specs.declared.op.Access.{Access}
 use Rattle.vax_core.specs.declared.op.Access.TheVariants as accesses

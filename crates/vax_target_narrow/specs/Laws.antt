@@ -5,8 +5,8 @@ use Rattle.md_reader.specs.declared.types.Kind.{Kind}
 use Rattle.md_reader.specs.declared.types.Class.{Class}
 use Rattle.md_reader.specs.declared.types.Rule.{Rule}
 use Rattle.sel_terms.specs.Effects.{EffectShape}
-use Rattle.sel_terms_meaning.specs.Alike.{IsNarrowEffect}
-use Rattle.vax_target_meaning.specs.Vax.{vax}
+use Rattle.vax_templates.specs.sel_terms_meaning.specs.Alike.{IsNarrowEffect}
+use Rattle.vax_target_writing.specs.vax_target_meaning.specs.Vax.{vax}
 
 -- of a rule's effect, and of the effect of a line that saves or reloads
 pub record EffectsAreNarrow : Type 0 where

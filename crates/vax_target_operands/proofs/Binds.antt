@@ -1,7 +1,7 @@
 -- What is left where parts of a judgement are chained.
 use Rattle.std.proofs.Common.{◌≡◌, ℕ, Bool, true, false, cond, Result, Ok, Err, refl, ap}
 use Rattle.gg_base.proofs.Facts.{err_ok, ok_same}
-use Rattle.vax_templates.specs.Standing.{◌>>=◌}
+use Rattle.vax_target_meaning.specs.vax_templates.specs.Standing.{◌>>=◌}
 
 -- the first part gives something, and the second what is given
 pub record Chained {A B E : Type 0} (r : Result A E) (f : A → Result B E) (y : B) : Type 0 where

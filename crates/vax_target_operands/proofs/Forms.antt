@@ -6,8 +6,8 @@ use Rattle.gg_base.specs.Sizes.{bytes_of}
 use Rattle.gg_base.specs.Arithmetic.{add32, mul32, neg32}
 use Rattle.gg_base.proofs.Facts.{first_false, second_false, err_ok, ok_same}
 use Rattle.term_core.specs.Shape.{Shape, Symbol, Memory}
-use Rattle.sel_target.specs.declared.fault.TemplateKind.{TemplateKind}
-use Rattle.sel_target.specs.Values.{IsRead}
+use Rattle.vax_target_meaning.specs.sel_target.specs.declared.fault.TemplateKind.{TemplateKind}
+use Rattle.vax_target_meaning.specs.sel_target.specs.Values.{IsRead}
 use Rattle.vax_core.specs.declared.register.Reg.{Reg}
 use Rattle.vax_core.specs.declared.register.Reg.TheVariants.{R0}
 use Rattle.vax_core.specs.declared.operand.Addr.{Addr}
@@ -18,23 +18,23 @@ use Rattle.vax_machine.specs.declared.operands.Location.TheVariants as locations
 use Rattle.vax_machine.specs.State.{State, reg}
 use Rattle.vax_machine.specs.Area.{resolved}
 use Rattle.vax_machine.specs.Operands.{located, indexed, deferred}
-use Rattle.vax_templates.specs.declared.form.Number.{Number}
-use Rattle.vax_templates.specs.declared.form.Base.{Base}
-use Rattle.vax_templates.specs.declared.form.Base.TheVariants as base
-use Rattle.vax_templates.specs.declared.form.Form.{Form}
-use Rattle.vax_templates.specs.declared.setting.Hole.{Hole}
-use Rattle.vax_templates.specs.declared.setting.Hole.TheVariants as hole_kind
-use Rattle.vax_templates.specs.declared.setting.Own.{Own}
-use Rattle.vax_templates.specs.declared.setting.Own.TheVariants as own
-use Rattle.vax_templates.specs.declared.setting.Opening.{Opening}
-use Rattle.vax_templates.specs.declared.setting.Opening.TheVariants as opening
-use Rattle.vax_templates.specs.Judging.{is_operand, base_spells, index_is_operand, spells_symbol}
-use Rattle.vax_templates.specs.Standing.{Where, Immediate, Register, OwnRegister, RegisterZero, Value, Place, Local}
-use Rattle.vax_templates.specs.Standing.{SavedPlace, Saved, At, where_own, where_hole, where_zero, through}
-use Rattle.vax_templates.specs.Standing.{where_deferred, at, sum, displaced, pointed, negated, itself, where_base}
-use Rattle.vax_templates.specs.Standing.{scaled, moved, where_indexed, form_where, ◌>>=◌}
-use Rattle.vax_templates.specs.HoleTerms.{constant_of, absolute_term, number_term, register_term}
-use Rattle.vax_templates.specs.Filled.{alone, addr_number, register_in, addr_in, number_addr, operand_in, deferred_in, filled_base, with_index, filled}
+use Rattle.vax_target_meaning.specs.vax_templates.specs.declared.form.Number.{Number}
+use Rattle.vax_target_meaning.specs.vax_templates.specs.declared.form.Base.{Base}
+use Rattle.vax_target_meaning.specs.vax_templates.specs.declared.form.Base.TheVariants as base
+use Rattle.vax_target_meaning.specs.vax_templates.specs.declared.form.Form.{Form}
+use Rattle.vax_target_meaning.specs.vax_templates.specs.declared.setting.Hole.{Hole}
+use Rattle.vax_target_meaning.specs.vax_templates.specs.declared.setting.Hole.TheVariants as hole_kind
+use Rattle.vax_target_meaning.specs.vax_templates.specs.declared.setting.Own.{Own}
+use Rattle.vax_target_meaning.specs.vax_templates.specs.declared.setting.Own.TheVariants as own
+use Rattle.vax_target_meaning.specs.vax_templates.specs.declared.setting.Opening.{Opening}
+use Rattle.vax_target_meaning.specs.vax_templates.specs.declared.setting.Opening.TheVariants as opening
+use Rattle.vax_target_meaning.specs.vax_templates.specs.Judging.{is_operand, base_spells, index_is_operand, spells_symbol}
+use Rattle.vax_target_meaning.specs.vax_templates.specs.Standing.{Where, Immediate, Register, OwnRegister, RegisterZero, Value, Place, Local}
+use Rattle.vax_target_meaning.specs.vax_templates.specs.Standing.{SavedPlace, Saved, At, where_own, where_hole, where_zero, through}
+use Rattle.vax_target_meaning.specs.vax_templates.specs.Standing.{where_deferred, at, sum, displaced, pointed, negated, itself, where_base}
+use Rattle.vax_target_meaning.specs.vax_templates.specs.Standing.{scaled, moved, where_indexed, form_where, ◌>>=◌}
+use Rattle.vax_target_meaning.specs.vax_templates.specs.HoleTerms.{constant_of, absolute_term, number_term, register_term}
+use Rattle.vax_target_meaning.specs.vax_templates.specs.Filled.{alone, addr_number, register_in, addr_in, number_addr, operand_in, deferred_in, filled_base, with_index, filled}
 use Rattle.vax_target_operands.specs.Scenes.{Scene, worth, role_at, filling_at, is_lost, Means, Sees}
 use Rattle.vax_target_operands.specs.Places.{StandsAt, IsWhere, IsReadIfAny, CanStand, Stands, BaseIsShort, MayBeRead, OperandsStand}
 use Rattle.vax_target_operands.proofs.Binds.{Chained, chained}

@@ -7,11 +7,11 @@ use Rattle.gg_base.specs.declared.size.Size.TheVariants.{Long}
 use Rattle.gg_base.proofs.Facts.{err_ok, ok_same}
 use Rattle.tree_core.specs.Area as trees
 use Rattle.term_core.specs.Shape.{Shape, Constant, Symbol, Memory}
-use Rattle.sel_target.specs.declared.fault.TemplateKind.TheVariants.{NotInstr}
-use Rattle.sel_target.specs.declared.attr.Attr.{Attr}
-use Rattle.sel_target.specs.declared.attr.Attr.TheVariants as attr
-use Rattle.sel_target.specs.Values.{IsRead}
-use Rattle.sel_target.proofs.AreaBytes.{fetched_is}
+use Rattle.vax_target_meaning.specs.sel_target.specs.declared.fault.TemplateKind.TheVariants.{NotInstr}
+use Rattle.vax_target_meaning.specs.sel_target.specs.declared.attr.Attr.{Attr}
+use Rattle.vax_target_meaning.specs.sel_target.specs.declared.attr.Attr.TheVariants as attr
+use Rattle.vax_target_meaning.specs.sel_target.specs.Values.{IsRead}
+use Rattle.vax_target_meaning.specs.sel_target.proofs.AreaBytes.{fetched_is}
 use Rattle.vax_core.specs.declared.operand.Addr.{Addr}
 use Rattle.vax_core.specs.declared.operand.Base.{Base as MachineBase}
 use Rattle.vax_core.specs.declared.operand.Base.TheVariants as bases
@@ -23,20 +23,20 @@ use Rattle.vax_machine.specs.State.{State, reg, ◌>>=◌}
 use Rattle.vax_machine.specs.Area.{resolved, resolved_of}
 use Rattle.vax_machine.specs.Memory.{read}
 use Rattle.vax_machine.specs.Operands.{located, indexed, fetched, deferred}
-use Rattle.vax_machine_lists.proofs.Longwords.{all_bytes}
-use Rattle.vax_templates.specs.declared.form.Number.{Number}
-use Rattle.vax_templates.specs.declared.form.Number.TheVariants as number
-use Rattle.vax_templates.specs.declared.setting.Hole.{Hole}
-use Rattle.vax_templates.specs.declared.setting.Hole.TheVariants as hole_kind
-use Rattle.vax_templates.specs.declared.setting.Own.{Own}
-use Rattle.vax_templates.specs.declared.setting.Own.TheVariants as own
-use Rattle.vax_templates.specs.Settings.{hole_or_other}
-use Rattle.vax_templates.specs.Judging.{is_operand}
-use Rattle.vax_templates.specs.Standing.{Where, Register, OwnRegister, Value, Place, Local, SavedPlace, Saved, At}
-use Rattle.vax_templates.specs.Standing.{where_own, where_hole, where_deferred}
-use Rattle.vax_templates.specs.HoleTerms.{constant_of, address_of, absolute_term, number_term, own_value, register_of}
-use Rattle.vax_templates.specs.HoleTerms.{register_term}
-use Rattle.vax_templates.specs.Filled.{alone, addr_number, numbered, register_in, addr_in, number_addr, operand_in, deferred_in}
+use Rattle.vax_target_meaning.specs.vax_machine_lists.proofs.Longwords.{all_bytes}
+use Rattle.vax_target_meaning.specs.vax_templates.specs.declared.form.Number.{Number}
+use Rattle.vax_target_meaning.specs.vax_templates.specs.declared.form.Number.TheVariants as number
+use Rattle.vax_target_meaning.specs.vax_templates.specs.declared.setting.Hole.{Hole}
+use Rattle.vax_target_meaning.specs.vax_templates.specs.declared.setting.Hole.TheVariants as hole_kind
+use Rattle.vax_target_meaning.specs.vax_templates.specs.declared.setting.Own.{Own}
+use Rattle.vax_target_meaning.specs.vax_templates.specs.declared.setting.Own.TheVariants as own
+use Rattle.vax_target_meaning.specs.vax_templates.specs.Settings.{hole_or_other}
+use Rattle.vax_target_meaning.specs.vax_templates.specs.Judging.{is_operand}
+use Rattle.vax_target_meaning.specs.vax_templates.specs.Standing.{Where, Register, OwnRegister, Value, Place, Local, SavedPlace, Saved, At}
+use Rattle.vax_target_meaning.specs.vax_templates.specs.Standing.{where_own, where_hole, where_deferred}
+use Rattle.vax_target_meaning.specs.vax_templates.specs.HoleTerms.{constant_of, address_of, absolute_term, number_term, own_value, register_of}
+use Rattle.vax_target_meaning.specs.vax_templates.specs.HoleTerms.{register_term}
+use Rattle.vax_target_meaning.specs.vax_templates.specs.Filled.{alone, addr_number, numbered, register_in, addr_in, number_addr, operand_in, deferred_in}
 use Rattle.vax_core.specs.declared.register.Reg.TheVariants.{Fp}
 use Rattle.vax_core.specs.Homes.{home, word_addr}
 use Rattle.vax_target_meaning.specs.Reading.{named, names, reads, displaced}

@@ -22,7 +22,7 @@ use Rattle.vax_machine.specs.State.{State, reg, ◌>>=◌}
 use Rattle.vax_machine.specs.Area.{resolved}
 use Rattle.vax_machine.specs.Memory.{read}
 use Rattle.vax_machine.specs.Operands.{located, indexed, moved, fetched, deferred}
-use Rattle.vax_states.proofs.Touching.{area_read}
+use Rattle.vax_target_meaning.specs.vax_states.proofs.Touching.{area_read}
 use Rattle.vax_target_meaning.specs.Reading.{is_own, is_own_place, number_of, number_at, longword, displaced, named, names, at_place, in_memory, reads_by, reads}
 use Rattle.vax_target_meaning.specs.Reading as reading
 use Rattle.vax_target_operands.specs.Places.{StandsAt}

@@ -8,13 +8,13 @@ use Rattle.gg_base.proofs.Words.{some_quotient}
 use Rattle.term_core.specs.declared.operator.BinaryOp.TheVariants.{And}
 use Rattle.term_core.specs.Shape.{Shape, Binary}
 use Rattle.term_core.proofs.Values.{small}
-use Rattle.sel_target.specs.Values.{term_state}
+use Rattle.vax_target_meaning.specs.sel_target.specs.Values.{term_state}
 use Rattle.vax_machine.specs.declared.function.Computed.{Computed}
 use Rattle.vax_machine.specs.declared.function.Function.TheVariants as functions
 use Rattle.vax_machine.specs.Functions.{valued, quotient, applied}
 use Rattle.vax_machine.specs.Functions as machine
 use Rattle.gg_base.specs.Sizes.{low}
-use Rattle.vax_templates.specs.Giving.{given, extended, truncated}
+use Rattle.vax_target_meaning.specs.vax_templates.specs.Giving.{given, extended, truncated}
 use Rattle.vax_target_operands.specs.Scenes.{Scene, worth}
 use Rattle.vax_target_operands.specs.Conditions.{Gets, Quotient, IsGiven, AreNarrow, FunctionsMean}
 use Rattle.vax_target_operands.proofs.Codes.{compare_says, compare_zero_says, test_says}

@@ -6,9 +6,9 @@ use Rattle.gg_base.specs.Sizes.{bytes_of, low}
 use Rattle.gg_base.specs.Arithmetic.{mul32}
 use Rattle.term_core.specs.Shape.{Shape}
 use Rattle.term_core.proofs.Values.{small}
-use Rattle.sel_target.specs.Values.{term_state}
-use Rattle.vax_templates.specs.Standing.{scaled}
-use Rattle.vax_templates.specs.Giving.{truncated}
+use Rattle.vax_target_meaning.specs.sel_target.specs.Values.{term_state}
+use Rattle.vax_target_meaning.specs.vax_templates.specs.Standing.{scaled}
+use Rattle.vax_target_meaning.specs.vax_templates.specs.Giving.{truncated}
 use Rattle.vax_target_operands.specs.Scenes.{Scene, worth}
 
 pub worth_small : (c : Scene) (t : Shape) → worth c t < 2 ^ 32

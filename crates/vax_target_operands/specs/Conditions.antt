@@ -13,7 +13,7 @@ use Rattle.vax_machine.specs.declared.function.Function.TheVariants as functions
 use Rattle.vax_machine.specs.declared.function.Test.{Test}
 use Rattle.vax_machine.specs.declared.function.Test.TheVariants as test
 use Rattle.vax_machine.specs.Functions.{passes, applied}
-use Rattle.vax_templates.specs.Giving.{Given, Computes, Divides, Compares, Tests, given}
+use Rattle.vax_target_meaning.specs.vax_templates.specs.Giving.{Given, Computes, Divides, Compares, Tests, given}
 use Rattle.vax_target_operands.specs.Scenes.{Scene, worth}
 
 -- the test by which the branch of a relation goes

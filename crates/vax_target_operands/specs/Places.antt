@@ -3,7 +3,7 @@ use Rattle.std.specs.Prelude.{◌≡◌, ℕ, ◌^◌, ◌<◌, true, false, Opt
 use Rattle.gg_base.specs.declared.size.Size.{Size}
 use Rattle.gg_base.specs.declared.size.Size.TheVariants.{Long}
 use Rattle.term_core.specs.Shape.{Shape, Symbol}
-use Rattle.sel_target.specs.Values.{IsRead}
+use Rattle.vax_target_meaning.specs.sel_target.specs.Values.{IsRead}
 use Rattle.vax_core.specs.declared.register.Reg.{Reg}
 use Rattle.vax_core.specs.declared.register.Reg.TheVariants.{R0}
 use Rattle.vax_core.specs.declared.operand.Operand.{Operand}
@@ -11,16 +11,16 @@ use Rattle.vax_machine.specs.declared.operands.Location.{Location}
 use Rattle.vax_machine.specs.declared.operands.Location.TheVariants as locations
 use Rattle.vax_machine.specs.State.{State, reg}
 use Rattle.vax_machine.specs.Operands.{located, indexed, fetched}
-use Rattle.vax_templates.specs.declared.form.Number.{Number}
-use Rattle.vax_templates.specs.declared.form.Number.TheVariants as number
-use Rattle.vax_templates.specs.declared.form.Base.{Base}
-use Rattle.vax_templates.specs.declared.form.Base.TheVariants as base
-use Rattle.vax_templates.specs.declared.form.Form.{Form}
-use Rattle.vax_templates.specs.Filled.{operand_in, filled}
-use Rattle.vax_templates.specs.Standing.{Where, Immediate, Register, OwnRegister, RegisterZero, Value, Place, Local}
-use Rattle.vax_templates.specs.Standing.{SavedPlace, Saved, At, form_where}
+use Rattle.vax_target_meaning.specs.vax_templates.specs.declared.form.Number.{Number}
+use Rattle.vax_target_meaning.specs.vax_templates.specs.declared.form.Number.TheVariants as number
+use Rattle.vax_target_meaning.specs.vax_templates.specs.declared.form.Base.{Base}
+use Rattle.vax_target_meaning.specs.vax_templates.specs.declared.form.Base.TheVariants as base
+use Rattle.vax_target_meaning.specs.vax_templates.specs.declared.form.Form.{Form}
+use Rattle.vax_target_meaning.specs.vax_templates.specs.Filled.{operand_in, filled}
+use Rattle.vax_target_meaning.specs.vax_templates.specs.Standing.{Where, Immediate, Register, OwnRegister, RegisterZero, Value, Place, Local}
+use Rattle.vax_target_meaning.specs.vax_templates.specs.Standing.{SavedPlace, Saved, At, form_where}
 use Rattle.vax_target_meaning.specs.Reading.{names}
-use Rattle.vax_templates.specs.Judging.{spells_symbol}
+use Rattle.vax_target_meaning.specs.vax_templates.specs.Judging.{spells_symbol}
 use Rattle.vax_target_operands.specs.Scenes.{Scene, worth, filling_at, IsSavedLocal, is_lost, Sees}
 
 -- the machine finds the operand's place there, and nothing changes by that

@@ -4,25 +4,25 @@ use Rattle.gg_base.specs.declared.size.Size.{Size}
 use Rattle.gg_base.specs.declared.size.Size.TheVariants.{Long}
 use Rattle.tree_core.specs.declared.program.TreeProgram.{TreeProgram}
 use Rattle.term_core.specs.Shape.{Shape, Symbol, LastResult}
-use Rattle.sel_target.specs.declared.attr.Attr.{Attr}
-use Rattle.sel_target.specs.declared.attr.Attr.TheVariants as attr
-use Rattle.sel_target.specs.Values.{View, value}
+use Rattle.vax_target_meaning.specs.sel_target.specs.declared.attr.Attr.{Attr}
+use Rattle.vax_target_meaning.specs.sel_target.specs.declared.attr.Attr.TheVariants as attr
+use Rattle.vax_target_meaning.specs.sel_target.specs.Values.{View, value}
 use Rattle.vax_core.specs.declared.register.Reg.TheVariants.{R0}
 use Rattle.vax_core.specs.declared.operand.Base.TheVariants as bases
 use Rattle.vax_core.specs.declared.operand.Operand.{Operand}
 use Rattle.vax_core.specs.Homes.{home}
 use Rattle.vax_machine.specs.State.{State, reg}
 use Rattle.vax_machine.specs.Area.{resolved}
-use Rattle.vax_machine_lists.specs.Sound.{IsSound}
-use Rattle.vax_templates.specs.declared.setting.Hole.{Hole}
-use Rattle.vax_templates.specs.declared.setting.Hole.TheVariants as hole_kind
-use Rattle.vax_templates.specs.declared.setting.Own.{Own}
-use Rattle.vax_templates.specs.declared.setting.Own.TheVariants as own
-use Rattle.vax_templates.specs.declared.setting.Opening.TheVariants as opening
-use Rattle.vax_templates.specs.declared.setting.Setting.{Setting}
-use Rattle.vax_templates.specs.Settings.{hole_at}
-use Rattle.vax_templates.specs.Judging.{is_operand}
-use Rattle.vax_templates.specs.Filled.{alone, attr_at, numbered, register_in, addr_in, operand_in, deferred_in}
+use Rattle.vax_target_meaning.specs.vax_machine_lists.specs.Sound.{IsSound}
+use Rattle.vax_target_meaning.specs.vax_templates.specs.declared.setting.Hole.{Hole}
+use Rattle.vax_target_meaning.specs.vax_templates.specs.declared.setting.Hole.TheVariants as hole_kind
+use Rattle.vax_target_meaning.specs.vax_templates.specs.declared.setting.Own.{Own}
+use Rattle.vax_target_meaning.specs.vax_templates.specs.declared.setting.Own.TheVariants as own
+use Rattle.vax_target_meaning.specs.vax_templates.specs.declared.setting.Opening.TheVariants as opening
+use Rattle.vax_target_meaning.specs.vax_templates.specs.declared.setting.Setting.{Setting}
+use Rattle.vax_target_meaning.specs.vax_templates.specs.Settings.{hole_at}
+use Rattle.vax_target_meaning.specs.vax_templates.specs.Judging.{is_operand}
+use Rattle.vax_target_meaning.specs.vax_templates.specs.Filled.{alone, attr_at, numbered, register_in, addr_in, operand_in, deferred_in}
 use Rattle.vax_target_meaning.specs.Reading.{named, names, reads}
 
 -- the program, what the lines may do, what each hole stands for, what fills it, what fills `%0`, and what the symbols are worth

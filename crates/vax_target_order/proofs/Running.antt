@@ -7,8 +7,8 @@ use Rattle.vax_machine.specs.State.{State}
 use Rattle.vax_machine_lists.specs.Instructions.{exec}
 use Rattle.vax_machine_lists.specs.Instructions as lists
 use Rattle.vax_machine_lists.proofs.Joining.{one_after_another}
-use Rattle.sel_target.specs.Courses as courses
-use Rattle.vax_target_meaning.specs.Running.{course_of}
+use Rattle.vax_templates.specs.sel_target.specs.Courses as courses
+use Rattle.vax_target_writing.specs.vax_target_meaning.specs.Running.{course_of}
 use Rattle.vax_target_order.specs.Laws.{InstructionsRun}
 
 stopped : (written : List ℕ) (e : Stop) (is : List Instr) (go : State → lists.Course) →

@@ -5,8 +5,8 @@ use Rattle.md_reader.specs.declared.types.Class.{Class}
 use Rattle.md_reader.specs.declared.types.Rule.{Rule}
 use Rattle.md_reader.specs.Patterns.{kind_at}
 use Rattle.sel_terms.specs.Effects.{EffectShape}
-use Rattle.sel_target.specs.TemplateLaws.{RunsInOrder}
-use Rattle.vax_target_meaning.specs.Vax.{vax}
+use Rattle.vax_templates.specs.sel_target.specs.TemplateLaws.{RunsInOrder}
+use Rattle.vax_target_writing.specs.vax_target_meaning.specs.Vax.{vax}
 
 -- instructions are done one after another
 abbrev pub InstructionsRun : Type 0

@@ -25,7 +25,7 @@ use Rattle.vax_templates.specs.declared.setting.Hole.TheVariants as hole_kind
 use Rattle.vax_templates.specs.Settings.{hole_of_token, hole_of_kind, hole_of, holes_of, hole_or_other, hole_at, setting_of}
 use Rattle.vax_templates.specs.Progress.{Progress, start, lines_judged}
 use Rattle.vax_templates.specs.GiveLines.{given_by}
-use Rattle.vax_target_meaning.specs.Vax.{vax}
+use Rattle.vax_target_writing.specs.vax_target_meaning.specs.Vax.{vax}
 use Rattle.vax_target_writing.proofs.Each.{of_ok}
 use Rattle.vax_target_rules.proofs.Founds.{rule_is}
 use Rattle.sel_parse_effect.specs.Places.{StoresToPlaces}

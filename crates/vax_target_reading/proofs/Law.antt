@@ -7,7 +7,7 @@ use Rattle.std.proofs.lemmas.Option.{slice_get_within}
 use Rattle.vax_machine_lists.proofs.Longwords.{all_bytes}
 use Rattle.gg_base.specs.Sizes.{bytes_of}
 use Rattle.gg_base.proofs.Facts.{slice_some}
-use Rattle.vax_target_meaning.specs.Reading.{is_own_place, names, reads}
+use Rattle.vax_target_spelling.specs.vax_target_meaning.specs.Reading.{is_own_place, names, reads}
 use Rattle.vax_target_reading.specs.Laws.{OperandsRead}
 use Rattle.vax_target_reading.proofs.Small.{below, names_below, reads_below}
 use Rattle.vax_target_reading.proofs.Places.{by_names, of_names, own_spells_none, word_is_read, local_is_read, argument_is_read, argument_is_named, word_is_named, area_is_read, area_is_read_back}

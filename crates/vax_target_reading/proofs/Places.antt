@@ -26,8 +26,8 @@ use Rattle.vax_states.specs.Agreeing.{Agrees}
 use Rattle.vax_states.proofs.Keeping.{reg_small}
 use Rattle.vax_states.proofs.Law.{word_address}
 use Rattle.vax_states.proofs.Standing.{high_top, word_read, local_read, argument_read, area_read_so}
-use Rattle.vax_templates.specs.Filled.{spare, word_operand, slot_operand}
-use Rattle.vax_target_meaning.specs.Reading.{is_own, is_own_base, is_own_place, number_of, number_at, named, names, at_place, reads}
+use Rattle.vax_target_spelling.specs.vax_templates.specs.Filled.{spare, word_operand, slot_operand}
+use Rattle.vax_target_spelling.specs.vax_target_meaning.specs.Reading.{is_own, is_own_base, is_own_place, number_of, number_at, named, names, at_place, reads}
 use Rattle.vax_target_spelling.proofs.Own.{home_word, local_is}
 
 -- ---- operands that name an address read there

@@ -8,7 +8,7 @@ use Rattle.gg_base.specs.declared.size.Size.TheVariants.{Byte, Word, Long}
 use Rattle.gg_base.specs.Arithmetic.{add32, mul32}
 use Rattle.gg_base.specs.Sizes.{bytes_of, low}
 use Rattle.gg_base.specs.LittleEndian.{number_in}
-use Rattle.sel_target.proofs.AreaBytes.{number_small}
+use Rattle.vax_target_spelling.specs.sel_target.proofs.AreaBytes.{number_small}
 use Rattle.vax_core.specs.declared.register.Reg.{Reg}
 use Rattle.vax_core.specs.declared.operand.Base.{Base}
 use Rattle.vax_core.specs.declared.operand.Base.TheVariants as bases
@@ -23,8 +23,8 @@ use Rattle.vax_machine_lists.specs.Sound.{IsSound}
 use Rattle.vax_machine_lists.proofs.Longwords.{all_bytes}
 use Rattle.vax_states.proofs.Keeping.{reg_small}
 use Rattle.tree_core.specs.Area.{fetched, is_inside}
-use Rattle.vax_target_meaning.specs.Reading as reading
-use Rattle.vax_target_meaning.specs.Reading.{number_of, longword, displaced, named, is_own, is_own_place, moved, names, at_place, in_memory, reads_by, reads}
+use Rattle.vax_target_spelling.specs.vax_target_meaning.specs.Reading as reading
+use Rattle.vax_target_spelling.specs.vax_target_meaning.specs.Reading.{number_of, longword, displaced, named, is_own, is_own_place, moved, names, at_place, in_memory, reads_by, reads}
 
 -- what is below a bound, where there is something
 abbrev pub Below : ℕ → Option ℕ → Type 0

@@ -7,31 +7,31 @@ use Rattle.md_reader_pieces.specs.declared.piece.Piece.{Piece}
 use Rattle.term_core.specs.Shape.{Shape, Constant}
 use Rattle.sel_terms.specs.Effects.{ActShape}
 use Rattle.sel_terms.specs.Effects as act
-use Rattle.sel_target.specs.declared.fault.TemplateKind.{TemplateKind}
-use Rattle.sel_target.specs.declared.fault.TemplateKind.TheVariants.{NotInstr, WrongSize, Order}
+use Rattle.vax_target_runs.specs.sel_target.specs.declared.fault.TemplateKind.{TemplateKind}
+use Rattle.vax_target_runs.specs.sel_target.specs.declared.fault.TemplateKind.TheVariants.{NotInstr, WrongSize, Order}
 use Rattle.vax_core.specs.declared.op.Op.{Op}
 use Rattle.vax_core.specs.Ops.{shape}
 use Rattle.vax_machine.specs.declared.function.Action.{Action}
 use Rattle.vax_machine.specs.declared.function.Action.TheVariants as action
 use Rattle.vax_machine.specs.Functions.{action_of}
-use Rattle.vax_templates.specs.declared.form.Form.{Form}
-use Rattle.vax_templates.specs.declared.setting.Hole.{Hole}
-use Rattle.vax_templates.specs.declared.setting.Setting.{Setting}
-use Rattle.vax_templates.specs.Settings.{hole_at}
-use Rattle.vax_templates.specs.Instructions.{Instruction, Relation, Jump, Calls, Ret, Operates, instruction_of}
-use Rattle.vax_templates.specs.Standing.{◌>>=◌}
-use Rattle.vax_templates.specs.Targets.{Target, ToOwn, ToSlot, ToHome, ToMemory, ToZero, ToSaved}
-use Rattle.vax_templates.specs.Taking.{Arguments, all_evaluated}
-use Rattle.vax_templates.specs.Giving.{Given, Computes, Divides, Compares, Tests, given}
-use Rattle.vax_templates.specs.Deeds.{Last, Plain, Compared, Tested, Returning, Ended, Deed, leaves, ends_statement}
-use Rattle.vax_templates.specs.Deeds.{is_relation, branches, is_movl, is_last_result, puts, put, divided, computed}
-use Rattle.vax_templates.specs.Deeds.{acted}
-use Rattle.vax_templates.specs.Judging.{has_some, is_disordered, in_order, with_reads, checked, operated}
-use Rattle.vax_templates.specs.Judging.{instruction_did, returned, did_behind, line_did}
-use Rattle.vax_templates.specs.Deeds as deeds
-use Rattle.vax_templates.specs.Judging as judging
-use Rattle.vax_templates.specs.Progress.{Progress, judged, lines_judged}
-use Rattle.vax_target_operands.proofs.Binds.{Chained, chained, cond_ok}
+use Rattle.vax_target_runs.specs.vax_templates.specs.declared.form.Form.{Form}
+use Rattle.vax_target_runs.specs.vax_templates.specs.declared.setting.Hole.{Hole}
+use Rattle.vax_target_runs.specs.vax_templates.specs.declared.setting.Setting.{Setting}
+use Rattle.vax_target_runs.specs.vax_templates.specs.Settings.{hole_at}
+use Rattle.vax_target_runs.specs.vax_templates.specs.Instructions.{Instruction, Relation, Jump, Calls, Ret, Operates, instruction_of}
+use Rattle.vax_target_runs.specs.vax_templates.specs.Standing.{◌>>=◌}
+use Rattle.vax_target_runs.specs.vax_templates.specs.Targets.{Target, ToOwn, ToSlot, ToHome, ToMemory, ToZero, ToSaved}
+use Rattle.vax_target_runs.specs.vax_templates.specs.Taking.{Arguments, all_evaluated}
+use Rattle.vax_target_runs.specs.vax_templates.specs.Giving.{Given, Computes, Divides, Compares, Tests, given}
+use Rattle.vax_target_runs.specs.vax_templates.specs.Deeds.{Last, Plain, Compared, Tested, Returning, Ended, Deed, leaves, ends_statement}
+use Rattle.vax_target_runs.specs.vax_templates.specs.Deeds.{is_relation, branches, is_movl, is_last_result, puts, put, divided, computed}
+use Rattle.vax_target_runs.specs.vax_templates.specs.Deeds.{acted}
+use Rattle.vax_target_runs.specs.vax_templates.specs.Judging.{has_some, is_disordered, in_order, with_reads, checked, operated}
+use Rattle.vax_target_runs.specs.vax_templates.specs.Judging.{instruction_did, returned, did_behind, line_did}
+use Rattle.vax_target_runs.specs.vax_templates.specs.Deeds as deeds
+use Rattle.vax_target_runs.specs.vax_templates.specs.Judging as judging
+use Rattle.vax_target_runs.specs.vax_templates.specs.Progress.{Progress, judged, lines_judged}
+use Rattle.vax_target_runs.specs.vax_target_operands.proofs.Binds.{Chained, chained, cond_ok}
 use Rattle.vax_target_runs.proofs.Law.{IsJudged, judged_is}
 
 abbrev IsFew : List Shape → Type 0

@@ -15,17 +15,17 @@ use Rattle.term_core.specs.Order.{same_term}
 use Rattle.term_core.proofs.Alike.{term_same}
 use Rattle.sel_terms.specs.Effects.{ActShape, EffectShape}
 use Rattle.sel_terms.specs.Effects as act
-use Rattle.sel_terms_meaning.specs.Meaning.{terms_of_act}
-use Rattle.sel_target.specs.Values.{View, IsReadWhere}
-use Rattle.sel_target.specs.EffectTerms.{terms_of}
-use Rattle.vax_templates.specs.declared.setting.Hole.{Hole}
-use Rattle.vax_templates.specs.declared.setting.Setting.{Setting}
-use Rattle.vax_templates.specs.Settings.{holes_of, setting_of}
-use Rattle.vax_templates.specs.Progress.{Progress, start, at_line, lines_judged}
-use Rattle.vax_templates.specs.GiveLines.{given_by, given_line}
-use Rattle.vax_templates.specs.Dropped.{contains, act_contains, effect_contains, first_dropped, none_dropped}
-use Rattle.vax_templates.specs.Found.{with_divisors, checked, ended, template_found, found}
-use Rattle.vax_target_operands.proofs.Binds.{chained}
+use Rattle.vax_target_runs.specs.sel_terms_meaning.specs.Meaning.{terms_of_act}
+use Rattle.vax_target_runs.specs.sel_target.specs.Values.{View, IsReadWhere}
+use Rattle.vax_target_runs.specs.sel_target.specs.EffectTerms.{terms_of}
+use Rattle.vax_target_runs.specs.vax_templates.specs.declared.setting.Hole.{Hole}
+use Rattle.vax_target_runs.specs.vax_templates.specs.declared.setting.Setting.{Setting}
+use Rattle.vax_target_runs.specs.vax_templates.specs.Settings.{holes_of, setting_of}
+use Rattle.vax_target_runs.specs.vax_templates.specs.Progress.{Progress, start, at_line, lines_judged}
+use Rattle.vax_target_runs.specs.vax_templates.specs.GiveLines.{given_by, given_line}
+use Rattle.vax_target_runs.specs.vax_templates.specs.Dropped.{contains, act_contains, effect_contains, first_dropped, none_dropped}
+use Rattle.vax_target_runs.specs.vax_templates.specs.Found.{with_divisors, checked, ended, template_found, found}
+use Rattle.vax_target_runs.specs.vax_target_operands.proofs.Binds.{chained}
 use Rattle.vax_target_runs.proofs.Law.{at_line_is}
 
 -- how a template was judged

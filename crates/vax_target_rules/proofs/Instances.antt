@@ -31,12 +31,12 @@ use Rattle.term_core.specs.Shape.{Symbol}
 use Rattle.sel_terms.specs.Effects.{EffectShape}
 use Rattle.sel_terms.specs.RuleFacts.{size_of_kind, size_of_symbol, size_of_some, size_at}
 use Rattle.sel_terms.proofs.Facts.{size_behind}
-use Rattle.sel_target.specs.declared.attr.Attr.{Attr}
-use Rattle.sel_target.specs.declared.attr.Attr.TheVariants as attr
-use Rattle.sel_target.specs.Values.{View, address_of, own_operand, token_operand, token_worth}
-use Rattle.sel_target.specs.Values as target
-use Rattle.sel_target.specs.EffectTerms.{begins_with_save}
-use Rattle.sel_target.specs.Instances.{hole, InFrame, TokenIsWhole, IsWhole, KindFits, SymFits, Fit, IsResult, Instance}
+use Rattle.vax_target_runs.specs.sel_target.specs.declared.attr.Attr.{Attr}
+use Rattle.vax_target_runs.specs.sel_target.specs.declared.attr.Attr.TheVariants as attr
+use Rattle.vax_target_runs.specs.sel_target.specs.Values.{View, address_of, own_operand, token_operand, token_worth}
+use Rattle.vax_target_runs.specs.sel_target.specs.Values as target
+use Rattle.vax_target_runs.specs.sel_target.specs.EffectTerms.{begins_with_save}
+use Rattle.vax_target_runs.specs.sel_target.specs.Instances.{hole, InFrame, TokenIsWhole, IsWhole, KindFits, SymFits, Fit, IsResult, Instance}
 use Rattle.vax_core.specs.declared.register.Reg.{Reg}
 use Rattle.vax_core.specs.declared.register.Reg.TheVariants.{R0}
 use Rattle.vax_core.specs.declared.operand.Base.TheVariants as bases
@@ -44,18 +44,18 @@ use Rattle.vax_core.specs.declared.operand.Operand.{Operand}
 use Rattle.vax_core.specs.Homes.{home, at_home, argument_home}
 use Rattle.vax_machine.specs.State.{State, reg}
 use Rattle.vax_machine.specs.Area.{resolved_of}
-use Rattle.vax_states.specs.Agreeing.{AreLabelled}
-use Rattle.vax_states.proofs.Keeping.{reg_small}
-use Rattle.vax_templates.specs.declared.setting.Hole.TheVariants as hole_kind
-use Rattle.vax_templates.specs.declared.setting.Own.TheVariants as own
-use Rattle.vax_templates.specs.declared.setting.Opening.TheVariants as opening
-use Rattle.vax_templates.specs.Settings.{hole_of_token, hole_of_kind, hole_of, hole_or_other, own_of, opening_of, opening_by}
-use Rattle.vax_templates.specs.Filled.{spare, numbered, label_of, word_operand, slot_operand, argument_deferred}
-use Rattle.vax_target_meaning.specs.Reading.{named, moved, names, reads}
-use Rattle.vax_target_meaning.specs.Vax.{vax}
-use Rattle.vax_target_operands.specs.Scenes.{Scene, worth, role_at, filling_at, IsLocal, Names, IsNumber, IsObject, IsSavedLocal, Means, OwnIs, Sees}
-use Rattle.vax_target_operands.proofs.Machine.{mapped}
-use Rattle.vax_target_operands.proofs.Worths.{worth_small}
+use Rattle.vax_target_runs.specs.vax_states.specs.Agreeing.{AreLabelled}
+use Rattle.vax_target_runs.specs.vax_states.proofs.Keeping.{reg_small}
+use Rattle.vax_target_runs.specs.vax_templates.specs.declared.setting.Hole.TheVariants as hole_kind
+use Rattle.vax_target_runs.specs.vax_templates.specs.declared.setting.Own.TheVariants as own
+use Rattle.vax_target_runs.specs.vax_templates.specs.declared.setting.Opening.TheVariants as opening
+use Rattle.vax_target_runs.specs.vax_templates.specs.Settings.{hole_of_token, hole_of_kind, hole_of, hole_or_other, own_of, opening_of, opening_by}
+use Rattle.vax_target_runs.specs.vax_templates.specs.Filled.{spare, numbered, label_of, word_operand, slot_operand, argument_deferred}
+use Rattle.vax_target_runs.specs.vax_target_meaning.specs.Reading.{named, moved, names, reads}
+use Rattle.vax_target_runs.specs.vax_target_meaning.specs.Vax.{vax}
+use Rattle.vax_target_runs.specs.vax_target_operands.specs.Scenes.{Scene, worth, role_at, filling_at, IsLocal, Names, IsNumber, IsObject, IsSavedLocal, Means, OwnIs, Sees}
+use Rattle.vax_target_runs.specs.vax_target_operands.proofs.Machine.{mapped}
+use Rattle.vax_target_runs.specs.vax_target_operands.proofs.Worths.{worth_small}
 use Rattle.vax_target_rules.specs.Scene.{scene_of, InstancesAreSeen}
 
 -- ---- a symbol and what fills it

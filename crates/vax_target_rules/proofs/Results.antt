@@ -21,29 +21,29 @@ use Rattle.md_reader.specs.Rows.{plain_fits}
 use Rattle.md_reader.specs.Valid.{MayGive}
 use Rattle.term_core.specs.Shape.{Shape}
 use Rattle.sel_terms.specs.Effects.{ActShape, EffectShape, Value}
-use Rattle.sel_target.specs.declared.attr.Attr.{Attr}
-use Rattle.sel_target.specs.declared.attr.Attr.TheVariants as attr
-use Rattle.sel_target.specs.Meaning.{Spot, RegAt}
-use Rattle.sel_terms_meaning.specs.Meaning.{terms_of_act}
-use Rattle.sel_target.specs.Values.{View, value}
-use Rattle.sel_target.specs.Instances.{attr_touches, Avoids, IsResult, lines_of, Ready}
-use Rattle.sel_target.specs.Outcomes.{Sets}
+use Rattle.vax_target_runs.specs.sel_target.specs.declared.attr.Attr.{Attr}
+use Rattle.vax_target_runs.specs.sel_target.specs.declared.attr.Attr.TheVariants as attr
+use Rattle.vax_target_runs.specs.sel_target.specs.Meaning.{Spot, RegAt}
+use Rattle.vax_target_runs.specs.sel_terms_meaning.specs.Meaning.{terms_of_act}
+use Rattle.vax_target_runs.specs.sel_target.specs.Values.{View, value}
+use Rattle.vax_target_runs.specs.sel_target.specs.Instances.{attr_touches, Avoids, IsResult, lines_of, Ready}
+use Rattle.vax_target_runs.specs.sel_target.specs.Outcomes.{Sets}
 use Rattle.vax_core.specs.declared.operand.Operand.{Operand}
 use Rattle.vax_core.specs.Registers.{reg_number}
 use Rattle.vax_machine.specs.State.{State}
-use Rattle.vax_machine_lists.specs.Instructions.{Course, comes, exec}
-use Rattle.vax_templates.specs.declared.setting.Own.TheVariants as own
-use Rattle.vax_templates.specs.declared.setting.Hole.TheVariants as hole_kind
-use Rattle.vax_templates.specs.Settings.{holes_of, setting_of, own_of, is_reuse, hole_of, hole_or_other}
-use Rattle.vax_templates.specs.Deeds.{Last, Plain, Compared, Tested, Returning, Ended}
-use Rattle.vax_templates.specs.Judging.{is_operand}
-use Rattle.vax_templates.specs.GiveLines.{left_value, last_deed, given_by}
-use Rattle.vax_templates.specs.Filled.{register_in}
-use Rattle.vax_target_meaning.specs.Running.{course_of}
-use Rattle.vax_target_meaning.specs.Vax.{vax}
-use Rattle.vax_target_operands.specs.Scenes.{Scene, role_at, filling_at, Sees}
-use Rattle.vax_target_lines.specs.Lines.{NoneIsZero, EndIsRead, MayEnd}
-use Rattle.vax_target_lines.proofs.Performing.{number_is}
+use Rattle.vax_target_runs.specs.vax_machine_lists.specs.Instructions.{Course, comes, exec}
+use Rattle.vax_target_runs.specs.vax_templates.specs.declared.setting.Own.TheVariants as own
+use Rattle.vax_target_runs.specs.vax_templates.specs.declared.setting.Hole.TheVariants as hole_kind
+use Rattle.vax_target_runs.specs.vax_templates.specs.Settings.{holes_of, setting_of, own_of, is_reuse, hole_of, hole_or_other}
+use Rattle.vax_target_runs.specs.vax_templates.specs.Deeds.{Last, Plain, Compared, Tested, Returning, Ended}
+use Rattle.vax_target_runs.specs.vax_templates.specs.Judging.{is_operand}
+use Rattle.vax_target_runs.specs.vax_templates.specs.GiveLines.{left_value, last_deed, given_by}
+use Rattle.vax_target_runs.specs.vax_templates.specs.Filled.{register_in}
+use Rattle.vax_target_runs.specs.vax_target_meaning.specs.Running.{course_of}
+use Rattle.vax_target_runs.specs.vax_target_meaning.specs.Vax.{vax}
+use Rattle.vax_target_runs.specs.vax_target_operands.specs.Scenes.{Scene, role_at, filling_at, Sees}
+use Rattle.vax_target_runs.specs.vax_target_lines.specs.Lines.{NoneIsZero, EndIsRead, MayEnd}
+use Rattle.vax_target_runs.specs.vax_target_lines.proofs.Performing.{number_is}
 use Rattle.vax_target_runs.specs.Kept.{Differs}
 use Rattle.vax_target_runs.specs.Runs.{OwnChanged, Changed, EndsIn, RunsTo, IsApart, line_of, IsCalm}
 use Rattle.vax_target_runs.proofs.Kept.{registers_are_kept}

@@ -7,15 +7,15 @@ use Rattle.md_reader.specs.declared.types.Class.{Class}
 use Rattle.md_reader.specs.declared.types.Rule.{Rule}
 use Rattle.term_core.specs.Shape.{Shape}
 use Rattle.sel_terms.specs.Effects.{EffectShape, Value}
-use Rattle.sel_target.specs.declared.attr.Attr.{Attr}
-use Rattle.sel_target.specs.declared.attr.Attr.TheVariants as attr
-use Rattle.sel_target.specs.Meaning.{RegAt}
-use Rattle.sel_target.specs.Values.{View, value}
-use Rattle.sel_target.specs.Instances.{lines_of, Ready}
-use Rattle.sel_target.specs.Outcomes.{Sets}
+use Rattle.vax_target_runs.specs.sel_target.specs.declared.attr.Attr.{Attr}
+use Rattle.vax_target_runs.specs.sel_target.specs.declared.attr.Attr.TheVariants as attr
+use Rattle.vax_target_runs.specs.sel_target.specs.Meaning.{RegAt}
+use Rattle.vax_target_runs.specs.sel_target.specs.Values.{View, value}
+use Rattle.vax_target_runs.specs.sel_target.specs.Instances.{lines_of, Ready}
+use Rattle.vax_target_runs.specs.sel_target.specs.Outcomes.{Sets}
 use Rattle.vax_core.specs.declared.operand.Operand.{Operand}
 use Rattle.vax_machine.specs.State.{State}
-use Rattle.vax_target_meaning.specs.Vax.{vax}
+use Rattle.vax_target_runs.specs.vax_target_meaning.specs.Vax.{vax}
 
 -- the result of a rule is in its register, and all else is kept
 abbrev pub ResultsAreLeft : Type 0

@@ -5,14 +5,14 @@ use Rattle.tree_meaning.specs.State.{Extent}
 use Rattle.md_reader.specs.declared.types.Class.{Class}
 use Rattle.md_reader.specs.declared.types.Rule.{Rule}
 use Rattle.sel_terms.specs.Effects.{EffectShape}
-use Rattle.sel_target.specs.declared.attr.Attr.{Attr}
-use Rattle.sel_target.specs.Values.{View}
-use Rattle.sel_target.specs.Instances.{IsResult, Instance}
+use Rattle.vax_target_runs.specs.sel_target.specs.declared.attr.Attr.{Attr}
+use Rattle.vax_target_runs.specs.sel_target.specs.Values.{View}
+use Rattle.vax_target_runs.specs.sel_target.specs.Instances.{IsResult, Instance}
 use Rattle.vax_core.specs.declared.operand.Operand.{Operand}
 use Rattle.vax_machine.specs.State.{State}
-use Rattle.vax_templates.specs.Settings.{holes_of, setting_of}
-use Rattle.vax_target_meaning.specs.Vax.{vax}
-use Rattle.vax_target_operands.specs.Scenes.{Scene, Sees}
+use Rattle.vax_target_runs.specs.vax_templates.specs.Settings.{holes_of, setting_of}
+use Rattle.vax_target_runs.specs.vax_target_meaning.specs.Vax.{vax}
+use Rattle.vax_target_runs.specs.vax_target_operands.specs.Scenes.{Scene, Sees}
 
 abbrev pub scene_of : TreeProgram → List Class → Rule → List (Attr Operand) → Attr Operand → View → Scene
 scene_of q classes rule hs res v = record {

@@ -9,9 +9,9 @@ use Rattle.gg_base.specs.declared.size.Size.TheVariants.{Long}
 use Rattle.gg_base.specs.Sizes.{bytes_of, low}
 use Rattle.gg_base.specs.Arithmetic.{add32, mul32}
 use Rattle.tree_core.specs.declared.program.TreeProgram.{TreeProgram}
-use Rattle.tree_meaning.specs.State.{State as Trees, Extent}
-use Rattle.sel_target.specs.Meaning.{Spot, RegAt}
-use Rattle.sel_target.specs.Outcomes.{Untouched, Keeps}
+use Rattle.vax_target_lines.specs.tree_meaning.specs.State.{State as Trees, Extent}
+use Rattle.vax_target_lines.specs.sel_target.specs.Meaning.{Spot, RegAt}
+use Rattle.vax_target_lines.specs.sel_target.specs.Outcomes.{Untouched, Keeps}
 use Rattle.vax_core.specs.declared.register.Reg.{Reg}
 use Rattle.vax_core.specs.declared.register.Reg.TheVariants.{Fp, Ap, Sp}
 use Rattle.vax_core.specs.declared.operand.Base.{Base}
@@ -23,11 +23,11 @@ use Rattle.vax_machine.specs.declared.function.Conditions.{Conditions}
 use Rattle.vax_machine.specs.State.{State, reg}
 use Rattle.vax_machine.specs.Area.{resolved}
 use Rattle.vax_machine.specs.Memory.{read, touched}
-use Rattle.vax_states.specs.Stack.{long_at}
-use Rattle.vax_states.specs.Agreeing.{HasRoom}
-use Rattle.vax_states.proofs.Standing.{kept}
-use Rattle.vax_target_meaning.specs.Reading.{is_own, is_own_place, number_of, number_at, displaced, named, moved, names, at_place, in_memory, reads_by, reads}
-use Rattle.vax_target_meaning.specs.Vax.{vax, stands}
+use Rattle.vax_target_lines.specs.vax_states.specs.Stack.{long_at}
+use Rattle.vax_target_lines.specs.vax_states.specs.Agreeing.{HasRoom}
+use Rattle.vax_target_lines.specs.vax_states.proofs.Standing.{kept}
+use Rattle.vax_target_lines.specs.vax_target_meaning.specs.Reading.{is_own, is_own_place, number_of, number_at, displaced, named, moved, names, at_place, in_memory, reads_by, reads}
+use Rattle.vax_target_lines.specs.vax_target_meaning.specs.Vax.{vax, stands}
 use Rattle.vax_target_runs.specs.Kept.{Differs, RegistersAreKept, CodesAreKept}
 
 module _ (m : State) (rs : List ℕ) (k : Conditions) where

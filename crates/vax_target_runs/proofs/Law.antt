@@ -7,13 +7,13 @@ use Rattle.gg_base.proofs.Facts.{err_ok, ok_same}
 use Rattle.md_reader_pieces.specs.declared.piece.Line.{Line}
 use Rattle.md_reader_pieces.specs.declared.piece.Piece.{Piece}
 use Rattle.term_core.specs.Shape.{Shape}
-use Rattle.sel_terms.specs.Effects.{ActShape, Return}
-use Rattle.sel_target.specs.declared.fault.TemplateKind.{TemplateKind}
-use Rattle.sel_target.specs.declared.fault.TemplateKind.TheVariants.{NotInstr}
-use Rattle.sel_target.specs.declared.attr.Attr.{Attr}
-use Rattle.sel_target.specs.declared.attr.Attr.TheVariants as attr
-use Rattle.sel_target.specs.Meaning.{Fault, RegAt, touches}
-use Rattle.sel_target.specs.Instances.{attr_touches}
+use Rattle.vax_target_lines.specs.sel_terms.specs.Effects.{ActShape, Return}
+use Rattle.vax_target_lines.specs.sel_target.specs.declared.fault.TemplateKind.{TemplateKind}
+use Rattle.vax_target_lines.specs.sel_target.specs.declared.fault.TemplateKind.TheVariants.{NotInstr}
+use Rattle.vax_target_lines.specs.sel_target.specs.declared.attr.Attr.{Attr}
+use Rattle.vax_target_lines.specs.sel_target.specs.declared.attr.Attr.TheVariants as attr
+use Rattle.vax_target_lines.specs.sel_target.specs.Meaning.{Fault, RegAt, touches}
+use Rattle.vax_target_lines.specs.sel_target.specs.Instances.{attr_touches}
 use Rattle.vax_core.specs.declared.register.Reg.{Reg}
 use Rattle.vax_core.specs.declared.register.Reg.TheVariants.{R0}
 use Rattle.vax_core.specs.declared.operand.Operand.{Operand}
@@ -21,30 +21,30 @@ use Rattle.vax_core.specs.Registers.{reg_number, operand_bits, base_register}
 use Rattle.vax_core.specs.declared.code.Instr.{Instr}
 use Rattle.vax_machine.specs.declared.function.Conditions.{Conditions}
 use Rattle.vax_machine.specs.State.{State, reg, with_reg, with_conditions}
-use Rattle.vax_machine_lists.specs.Sound.{IsSound}
-use Rattle.vax_machine_lists.specs.Instructions.{Course, Ending, Comes, Goes, Calls, Returns, Stops, ends, comes, followed, bytes_first, performed, exec}
-use Rattle.vax_machine_lists.proofs.Soundness.{conditions_sound}
-use Rattle.vax_states.proofs.Keeping.{sound_register}
-use Rattle.vax_templates.specs.declared.setting.Hole.{Hole}
-use Rattle.vax_templates.specs.declared.setting.Hole.TheVariants as hole_kind
-use Rattle.vax_templates.specs.declared.setting.Own.{Own}
-use Rattle.vax_templates.specs.declared.setting.Own.TheVariants as own
-use Rattle.vax_templates.specs.declared.setting.Opening.TheVariants as opening
-use Rattle.vax_templates.specs.declared.setting.Setting.{Setting}
-use Rattle.vax_templates.specs.Standing.{◌>>=◌}
-use Rattle.vax_templates.specs.Instructions.{Instruction, Relation, Jump, Calls as CallsLine, Ret, Operates, instruction_of}
-use Rattle.vax_templates.specs.Deeds.{Last, Plain, Compared, Tested, Returning, Ended, Deed, leaves}
-use Rattle.vax_templates.specs.Judging.{returned, did_behind, line_did, is_operand}
-use Rattle.vax_templates.specs.Judging as judging
-use Rattle.vax_templates.specs.Progress.{Progress, start, kept_or_put, progressed, at_line, kept, judged}
-use Rattle.vax_templates.specs.Progress.{lines_judged}
-use Rattle.vax_templates.specs.Filled.{register_in, operand_in, deferred_in}
-use Rattle.vax_templates.specs.FilledLines.{filled_instruction, filled_line}
-use Rattle.vax_templates.proofs.Judgements.{read_is}
-use Rattle.vax_target_meaning.specs.Vax.{vax}
-use Rattle.vax_target_operands.specs.Scenes.{Scene, worth, role_at, filling_at, is_lost, Means, OwnIs, Holds, Sees}
-use Rattle.vax_target_operands.proofs.Binds.{Chained, chained}
-use Rattle.vax_target_operands.proofs.Worths.{worth_small}
+use Rattle.vax_target_lines.specs.vax_machine_lists.specs.Sound.{IsSound}
+use Rattle.vax_target_lines.specs.vax_machine_lists.specs.Instructions.{Course, Ending, Comes, Goes, Calls, Returns, Stops, ends, comes, followed, bytes_first, performed, exec}
+use Rattle.vax_target_lines.specs.vax_machine_lists.proofs.Soundness.{conditions_sound}
+use Rattle.vax_target_lines.specs.vax_states.proofs.Keeping.{sound_register}
+use Rattle.vax_target_lines.specs.vax_templates.specs.declared.setting.Hole.{Hole}
+use Rattle.vax_target_lines.specs.vax_templates.specs.declared.setting.Hole.TheVariants as hole_kind
+use Rattle.vax_target_lines.specs.vax_templates.specs.declared.setting.Own.{Own}
+use Rattle.vax_target_lines.specs.vax_templates.specs.declared.setting.Own.TheVariants as own
+use Rattle.vax_target_lines.specs.vax_templates.specs.declared.setting.Opening.TheVariants as opening
+use Rattle.vax_target_lines.specs.vax_templates.specs.declared.setting.Setting.{Setting}
+use Rattle.vax_target_lines.specs.vax_templates.specs.Standing.{◌>>=◌}
+use Rattle.vax_target_lines.specs.vax_templates.specs.Instructions.{Instruction, Relation, Jump, Calls as CallsLine, Ret, Operates, instruction_of}
+use Rattle.vax_target_lines.specs.vax_templates.specs.Deeds.{Last, Plain, Compared, Tested, Returning, Ended, Deed, leaves}
+use Rattle.vax_target_lines.specs.vax_templates.specs.Judging.{returned, did_behind, line_did, is_operand}
+use Rattle.vax_target_lines.specs.vax_templates.specs.Judging as judging
+use Rattle.vax_target_lines.specs.vax_templates.specs.Progress.{Progress, start, kept_or_put, progressed, at_line, kept, judged}
+use Rattle.vax_target_lines.specs.vax_templates.specs.Progress.{lines_judged}
+use Rattle.vax_target_lines.specs.vax_templates.specs.Filled.{register_in, operand_in, deferred_in}
+use Rattle.vax_target_lines.specs.vax_templates.specs.FilledLines.{filled_instruction, filled_line}
+use Rattle.vax_target_lines.specs.vax_templates.proofs.Judgements.{read_is}
+use Rattle.vax_target_lines.specs.vax_target_meaning.specs.Vax.{vax}
+use Rattle.vax_target_lines.specs.vax_target_operands.specs.Scenes.{Scene, worth, role_at, filling_at, is_lost, Means, OwnIs, Holds, Sees}
+use Rattle.vax_target_lines.specs.vax_target_operands.proofs.Binds.{Chained, chained}
+use Rattle.vax_target_lines.specs.vax_target_operands.proofs.Worths.{worth_small}
 use Rattle.vax_target_lines.specs.Takings.{AreRead}
 use Rattle.vax_target_lines.specs.Lines.{CodesMean, ZeroHolds, DoesDeed, with_own, with_last, MayHold, GoesOn, DoesLine, EndIsRead, NoneIsZero}
 use Rattle.vax_target_lines.proofs.Performing.{lines_do, returns_so}

@@ -10,10 +10,10 @@ use Rattle.tree_core.specs.declared.tree.Att.{Att}
 use Rattle.tree_core.specs.declared.tree.Att.TheVariants as att
 use Rattle.tree_core.specs.declared.program.TreeProgram.{TreeProgram}
 use Rattle.term_core.specs.Shape.{Shape, Symbol}
-use Rattle.sel_target.specs.declared.attr.Attr.{Attr}
-use Rattle.sel_target.specs.declared.attr.Attr.TheVariants as attr
-use Rattle.sel_target.specs.Meaning.{RegAt}
-use Rattle.sel_target.specs.Instances.{attr_touches}
+use Rattle.vax_target_lines.specs.sel_target.specs.declared.attr.Attr.{Attr}
+use Rattle.vax_target_lines.specs.sel_target.specs.declared.attr.Attr.TheVariants as attr
+use Rattle.vax_target_lines.specs.sel_target.specs.Meaning.{RegAt}
+use Rattle.vax_target_lines.specs.sel_target.specs.Instances.{attr_touches}
 use Rattle.vax_core.specs.declared.register.Reg.{Reg}
 use Rattle.vax_core.specs.declared.operand.Operand.{Operand}
 use Rattle.vax_core.specs.Homes.{at_home}
@@ -21,13 +21,13 @@ use Rattle.vax_core.specs.Registers.{reg_number, base_register, operand_bits, bi
 use Rattle.vax_core.proofs.RegisterLaws.{none_named}
 use Rattle.vax_machine.specs.State.{State}
 use Rattle.vax_machine.specs.Area.{resolved}
-use Rattle.vax_templates.specs.declared.setting.Hole.{Hole}
-use Rattle.vax_templates.specs.declared.setting.Hole.TheVariants as hole_kind
-use Rattle.vax_templates.specs.Judging.{is_operand}
-use Rattle.vax_templates.specs.Filled.{spare, numbered, addr_in, word_operand, slot_operand, argument_deferred, slot_deferred, leaf_operand, operand_in, leaf_deferred, deferred_in}
-use Rattle.vax_templates.proofs.Homes.{local_bits, argument_bits}
-use Rattle.vax_target_meaning.specs.Vax.{vax}
-use Rattle.vax_target_operands.specs.Scenes.{Scene, worth, Means, IsRegister, IsPlace, IsLocal, Names, IsNumber, IsObject, IsSavedLocal}
+use Rattle.vax_target_lines.specs.vax_templates.specs.declared.setting.Hole.{Hole}
+use Rattle.vax_target_lines.specs.vax_templates.specs.declared.setting.Hole.TheVariants as hole_kind
+use Rattle.vax_target_lines.specs.vax_templates.specs.Judging.{is_operand}
+use Rattle.vax_target_lines.specs.vax_templates.specs.Filled.{spare, numbered, addr_in, word_operand, slot_operand, argument_deferred, slot_deferred, leaf_operand, operand_in, leaf_deferred, deferred_in}
+use Rattle.vax_target_lines.specs.vax_templates.proofs.Homes.{local_bits, argument_bits}
+use Rattle.vax_target_lines.specs.vax_target_meaning.specs.Vax.{vax}
+use Rattle.vax_target_lines.specs.vax_target_operands.specs.Scenes.{Scene, worth, Means, IsRegister, IsPlace, IsLocal, Names, IsNumber, IsObject, IsSavedLocal}
 use Rattle.vax_target_runs.specs.Kept.{Differs}
 use Rattle.vax_target_runs.proofs.Kept.{base_untouched, index_untouched, Away, reads_same, names_same, named_same, register_same}
 

@@ -1,11 +1,11 @@
 -- What a change of registers and condition codes leaves as it was.
 use Rattle.std.specs.Prelude.{◌≡◌, ℕ, ◌<◌, List, slice_index, [], ◌∷◌}
-use Rattle.sel_target.specs.Meaning.{RegAt}
-use Rattle.sel_target.specs.Outcomes.{Keeps}
+use Rattle.vax_target_lines.specs.sel_target.specs.Meaning.{RegAt}
+use Rattle.vax_target_lines.specs.sel_target.specs.Outcomes.{Keeps}
 use Rattle.vax_machine.specs.declared.function.Conditions.{Conditions}
 use Rattle.vax_machine.specs.State.{State}
-use Rattle.vax_machine_lists.specs.Sound.{IsSound}
-use Rattle.vax_target_meaning.specs.Vax.{vax}
+use Rattle.vax_target_lines.specs.vax_machine_lists.specs.Sound.{IsSound}
+use Rattle.vax_target_lines.specs.vax_target_meaning.specs.Vax.{vax}
 
 -- two states differ in condition codes and registers that may have changed
 pub record Differs (changed : ℕ → Type 0) (m n : State) : Type 0 where

@@ -7,9 +7,9 @@ use Rattle.vax_core.specs.declared.code.Instr.{Instr}
 use Rattle.vax_core.specs.Ops.{shape}
 use Rattle.vax_core.specs.Valid.{are_operands, is_target}
 use Rattle.vax_core.specs.Valid as core
-use Rattle.vax_target_meaning.specs.Fitting.{is_instr, goes_to_label}
-use Rattle.vax_target_meaning.specs.Vax.{vax}
-use Rattle.vax_target_writing.proofs.Spilling.{spills_are_written}
+use Rattle.vax_target_spelling.specs.vax_target_meaning.specs.Fitting.{is_instr, goes_to_label}
+use Rattle.vax_target_spelling.specs.vax_target_meaning.specs.Vax.{vax}
+use Rattle.vax_target_spelling.specs.vax_target_writing.proofs.Spilling.{spills_are_written}
 use Rattle.vax_target_narrow.proofs.Law.{effects_are_narrow}
 use Rattle.vax_target_saving.proofs.Saving.{lines_save}
 use Rattle.vax_target_saving.proofs.Reloading.{lines_reload}

@@ -29,13 +29,13 @@ use Rattle.vax_states.specs.Stack.{word_of}
 use Rattle.vax_templates.specs.Settings.{saved_hole, saved_setting, is_reload}
 use Rattle.vax_templates.specs.Deeds.{Last, Plain, Ended}
 use Rattle.vax_templates.specs.Found.{saved_found, template_found}
-use Rattle.vax_target_meaning.specs.Reading.{displaced, names}
-use Rattle.vax_target_meaning.specs.Running as running
-use Rattle.vax_target_meaning.specs.Vax.{vax}
-use Rattle.vax_target_operands.specs.Scenes.{Scene, worth, Sees}
-use Rattle.vax_target_operands.specs.Places.{StandsAt}
-use Rattle.vax_target_lines.specs.Lines.{IsStored, putting, DoesDeed, DoesLine, terms_of_last}
-use Rattle.vax_target_lines.proofs.Performing.{lines_do}
+use Rattle.vax_target_spelling.specs.vax_target_meaning.specs.Reading.{displaced, names}
+use Rattle.vax_target_spelling.specs.vax_target_meaning.specs.Running as running
+use Rattle.vax_target_spelling.specs.vax_target_meaning.specs.Vax.{vax}
+use Rattle.vax_target_runs.specs.vax_target_operands.specs.Scenes.{Scene, worth, Sees}
+use Rattle.vax_target_runs.specs.vax_target_operands.specs.Places.{StandsAt}
+use Rattle.vax_target_runs.specs.vax_target_lines.specs.Lines.{IsStored, putting, DoesDeed, DoesLine, terms_of_last}
+use Rattle.vax_target_runs.specs.vax_target_lines.proofs.Performing.{lines_do}
 use Rattle.vax_target_saving.specs.Laws.{with_word}
 use Rattle.vax_target_saving.proofs.Words.{IsFrameWord, is_written}
 use Rattle.vax_target_saving.proofs.Storing.{slot_address}

@@ -25,7 +25,7 @@ use Rattle.vax_templates.specs.Deeds.{ends_statement, is_relation, branches, is_
 use Rattle.vax_templates.specs.Deeds.{computed, acted}
 use Rattle.vax_templates.specs.Judging.{is_disordered, in_order, with_reads, checked, operated, instruction_did}
 use Rattle.vax_templates.specs.Judging.{returned, did_behind, read, line_did}
-use Rattle.vax_target_writing.proofs.Each.{EachOk, bind_each, always_ok, if_ok, of_ok}
+use Rattle.vax_target_spelling.specs.vax_target_writing.proofs.Each.{EachOk, bind_each, always_ok, if_ok, of_ok}
 
 abbrev pub IsPlain : Deed → Type 0
 IsPlain d = (t : Shape) → d.own ≡ Some t → d.last ≡ Plain

@@ -23,10 +23,10 @@ use Rattle.vax_templates.specs.Settings.{saved_setting}
 use Rattle.vax_templates.specs.Deeds.{Last, Plain}
 use Rattle.vax_templates.specs.Found.{saved_found}
 use Rattle.vax_templates.specs.Filled.{numbered}
-use Rattle.vax_target_meaning.specs.Vax.{vax}
-use Rattle.vax_target_operands.specs.Scenes.{worth}
-use Rattle.vax_target_lines.specs.Lines.{DoesLine, terms_of_last}
-use Rattle.vax_target_lines.proofs.Performing.{lines_do, number_is}
+use Rattle.vax_target_spelling.specs.vax_target_meaning.specs.Vax.{vax}
+use Rattle.vax_target_runs.specs.vax_target_operands.specs.Scenes.{worth}
+use Rattle.vax_target_runs.specs.vax_target_lines.specs.Lines.{DoesLine, terms_of_last}
+use Rattle.vax_target_runs.specs.vax_target_lines.proofs.Performing.{lines_do, number_is}
 use Rattle.vax_target_runs.specs.Kept.{Differs}
 use Rattle.vax_target_runs.proofs.Kept.{registers_are_kept}
 use Rattle.vax_target_saving.specs.Laws.{LinesReload}

@@ -23,8 +23,8 @@ use Rattle.vax_core.specs.Homes.{at_home}
 use Rattle.vax_machine.specs.State.{State, reg}
 use Rattle.vax_machine.specs.Memory.{read}
 use Rattle.vax_states.specs.Stack.{word_of}
-use Rattle.vax_target_meaning.specs.Reading.{number_of, number_at, named, moved, names}
-use Rattle.vax_target_meaning.specs.Vax.{vax}
+use Rattle.vax_target_spelling.specs.vax_target_meaning.specs.Reading.{number_of, number_at, named, moved, names}
+use Rattle.vax_target_spelling.specs.vax_target_meaning.specs.Vax.{vax}
 use Rattle.vax_target_spelling.proofs.Own.{home_word}
 use Rattle.vax_target_saving.specs.Laws.{with_word, LinesSave}
 use Rattle.vax_target_saving.proofs.Words.{IsFrameWord, frame_word, read_there}

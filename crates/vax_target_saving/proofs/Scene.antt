@@ -22,10 +22,10 @@ use Rattle.vax_templates.specs.declared.setting.Hole.{Hole}
 use Rattle.vax_templates.specs.declared.setting.Hole.TheVariants as hole_kind
 use Rattle.vax_templates.specs.Settings.{hole_or_other, hole_at, saved_hole, saved_setting}
 use Rattle.vax_templates.specs.Filled.{attr_at}
-use Rattle.vax_target_meaning.specs.Fitting.{fits, is_place}
-use Rattle.vax_target_meaning.specs.Reading.{named, moved, names}
-use Rattle.vax_target_meaning.specs.Vax.{vax}
-use Rattle.vax_target_operands.specs.Scenes.{Scene, Means, OwnIs, Sees}
+use Rattle.vax_target_spelling.specs.vax_target_meaning.specs.Fitting.{fits, is_place}
+use Rattle.vax_target_spelling.specs.vax_target_meaning.specs.Reading.{named, moved, names}
+use Rattle.vax_target_spelling.specs.vax_target_meaning.specs.Vax.{vax}
+use Rattle.vax_target_runs.specs.vax_target_operands.specs.Scenes.{Scene, Means, OwnIs, Sees}
 
 -- the scene of a line that saves what is of a kind, or reloads
 abbrev pub scene : TreeProgram → Kind → Attr Operand → Attr Operand → View → Scene

@@ -37,8 +37,8 @@ use Rattle.vax_states.proofs.Pieces.{word_low, word_high, words_free}
 use Rattle.vax_states.proofs.Standing.{high_top, fp_high_is, word_written}
 use Rattle.vax_templates.specs.FrameWords.{word_below, word_with_name, word_behind}
 use Rattle.vax_templates.specs.FrameWords as words
-use Rattle.vax_target_meaning.specs.Reading as reading
-use Rattle.vax_target_meaning.specs.Reading.{is_argument, is_own, is_own_base, is_own_place, number_of, displaced, named, moved, names, in_memory, reads}
+use Rattle.vax_target_spelling.specs.vax_target_meaning.specs.Reading as reading
+use Rattle.vax_target_spelling.specs.vax_target_meaning.specs.Reading.{is_argument, is_own, is_own_base, is_own_place, number_of, displaced, named, moved, names, in_memory, reads}
 use Rattle.vax_target_saving.proofs.Bytes.{number_outside, number_there, merged_long, as_long}
 
 -- where word w of the innermost frame lies

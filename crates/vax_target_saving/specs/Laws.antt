@@ -20,7 +20,7 @@ use Rattle.vax_machine.specs.declared.function.Conditions.{Conditions}
 use Rattle.vax_machine.specs.State.{State, reg, with_conditions}
 use Rattle.vax_machine.specs.Memory.{written}
 use Rattle.vax_states.specs.Stack.{word_of}
-use Rattle.vax_target_meaning.specs.Vax.{vax}
+use Rattle.vax_target_spelling.specs.vax_target_meaning.specs.Vax.{vax}
 
 -- a number of a size stored in word w of the innermost frame, with new condition codes
 abbrev pub with_word : State → ℕ → Size → ℕ → Conditions → State

@@ -1,7 +1,7 @@
 -- A symbol's own place keeps its operand, and a register that is given is a symbol's own.
 use Rattle.std.proofs.Common.{◌≡◌, ℕ, zero, suc, ◌-◌, ◌==◌, Bool, true, false, cond, Option, Some, None, Result, Ok, Err, List, [], ◌∷◌, refl, sym, ap, subst, ◌∙◌, slice_get}
 use Rattle.std.specs.Prelude.{is_none, unwrap_or}
-use Rattle.vax_target_spelling.proofs.Shapes.{nth_is}
+use Rattle.vax_target_reading.specs.vax_target_spelling.proofs.Shapes.{nth_is}
 use Rattle.gg_base.specs.declared.size.Size.{Size}
 use Rattle.gg_base.specs.declared.size.Size.TheVariants.{Byte, Long}
 use Rattle.tree_core.specs.declared.token.Tok.{Tok}
@@ -56,8 +56,8 @@ use Rattle.vax_templates.specs.Dropped.{first_dropped, none_dropped}
 use Rattle.vax_templates.specs.Found.{with_divisors, checked, ended, template_found, found}
 use Rattle.vax_templates.specs.Filled.{attr_at, operand_in, filled_base, with_index, filled, filled_or_spare, filled_operand}
 use Rattle.vax_templates.proofs.Judgements.{hole_front_is}
-use Rattle.vax_target_meaning.specs.Vax.{vax}
-use Rattle.vax_target_writing.proofs.Each.{EachOk, bind_each, if_ok, of_ok}
+use Rattle.vax_target_operands.specs.vax_target_meaning.specs.Vax.{vax}
+use Rattle.vax_target_reading.specs.vax_target_writing.proofs.Each.{EachOk, bind_each, if_ok, of_ok}
 use Rattle.vax_target_shapes.specs.Laws.{HomesStay, RegistersStay}
 
 -- ---- what is given is the effect's act

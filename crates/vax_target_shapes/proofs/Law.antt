@@ -21,7 +21,7 @@ use Rattle.vax_templates.specs.Taking.{fetched}
 use Rattle.vax_templates.specs.GiveLines.{value_given, home_given, place_given, address_given, without_index}
 use Rattle.vax_templates.specs.GiveLines.{shape_given}
 use Rattle.vax_templates.specs.Filled.{filled}
-use Rattle.vax_target_meaning.specs.Reading.{names, reads}
+use Rattle.vax_target_operands.specs.vax_target_meaning.specs.Reading.{names, reads}
 use Rattle.vax_target_operands.specs.Scenes.{Scene, worth, Sees}
 use Rattle.vax_target_operands.specs.Places.{BaseIsShort}
 use Rattle.vax_target_operands.proofs.Binds.{chained}

@@ -33,8 +33,8 @@ use Rattle.vax_templates.specs.Standing.{moved, where_indexed, form_where, ◌>>
 use Rattle.vax_templates.specs.HoleTerms.{constant_of, number_term, absolute_term, register_term}
 use Rattle.vax_templates.specs.Judging.{is_operand}
 use Rattle.vax_templates.specs.Filled.{register_in, addr_in, number_addr, operand_in, deferred_in, filled_base, with_index, filled}
-use Rattle.vax_target_meaning.specs.Reading as reading
-use Rattle.vax_target_meaning.specs.Reading.{longword, displaced as displaced_by, is_own, named, names}
+use Rattle.vax_target_operands.specs.vax_target_meaning.specs.Reading as reading
+use Rattle.vax_target_operands.specs.vax_target_meaning.specs.Reading.{longword, displaced as displaced_by, is_own, named, names}
 use Rattle.vax_target_operands.specs.Scenes.{Scene, worth, role_at, filling_at, Means, Sees}
 use Rattle.vax_target_operands.specs.Places.{BaseIsShort}
 use Rattle.vax_target_operands.proofs.Binds.{chained}

@@ -41,8 +41,8 @@ use Rattle.vax_templates.specs.Taking.{last_result, fetched}
 use Rattle.vax_templates.specs.GiveLines.{value_given}
 use Rattle.vax_templates.specs.Filled.{alone, numbered, addr_in, addr_number, number_addr, operand_in, filled_base, with_index, filled}
 use Rattle.vax_templates.specs.Giving.{truncated}
-use Rattle.vax_target_meaning.specs.Reading as reading
-use Rattle.vax_target_meaning.specs.Reading.{longword, is_own_place, number_at, names, reads}
+use Rattle.vax_target_operands.specs.vax_target_meaning.specs.Reading as reading
+use Rattle.vax_target_operands.specs.vax_target_meaning.specs.Reading.{longword, is_own_place, number_at, names, reads}
 use Rattle.vax_target_operands.specs.Scenes.{Scene, worth, role_at, filling_at, Means, Sees}
 use Rattle.vax_target_operands.specs.Places.{BaseIsShort}
 use Rattle.vax_target_operands.proofs.Binds.{chained}

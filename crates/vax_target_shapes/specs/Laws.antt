@@ -19,7 +19,7 @@ use Rattle.vax_machine.specs.State.{State}
 use Rattle.vax_templates.specs.declared.form.Form.{Form}
 use Rattle.vax_templates.specs.Filled.{filled}
 use Rattle.vax_templates.specs.GiveLines.{shape_given}
-use Rattle.vax_target_meaning.specs.Vax.{vax}
+use Rattle.vax_target_operands.specs.vax_target_meaning.specs.Vax.{vax}
 use Rattle.vax_target_operands.specs.Scenes.{Scene, worth, Sees}
 use Rattle.vax_target_operands.specs.Places.{BaseIsShort}
 

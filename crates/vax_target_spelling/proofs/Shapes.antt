@@ -25,13 +25,13 @@ use Rattle.md_reader.specs.declared.types.Give.TheVariants as give
 use Rattle.md_reader.specs.declared.types.Rule.{Rule}
 use Rattle.md_reader.specs.Patterns.{kind_at}
 use Rattle.term_core.specs.Shape.{Shape}
-use Rattle.sel_terms.specs.Effects.{ActShape, EffectShape}
-use Rattle.sel_target.specs.declared.attr.Attr.{Attr}
-use Rattle.sel_target.specs.declared.attr.Attr.TheVariants as attr
-use Rattle.sel_target.specs.declared.fault.TemplateKind.{TemplateKind}
-use Rattle.sel_target.specs.Meaning.{Fault, Spot, RegAt, WordAt, touches, is_word}
-use Rattle.sel_target.specs.Values.{own_operand}
-use Rattle.sel_target.specs.Instances.{hole, attr_touches, KindFits, SymFits, Fit}
+use Rattle.vax_templates.specs.sel_terms.specs.Effects.{ActShape, EffectShape}
+use Rattle.vax_templates.specs.sel_target.specs.declared.attr.Attr.{Attr}
+use Rattle.vax_templates.specs.sel_target.specs.declared.attr.Attr.TheVariants as attr
+use Rattle.vax_templates.specs.sel_target.specs.declared.fault.TemplateKind.{TemplateKind}
+use Rattle.vax_templates.specs.sel_target.specs.Meaning.{Fault, Spot, RegAt, WordAt, touches, is_word}
+use Rattle.vax_templates.specs.sel_target.specs.Values.{own_operand}
+use Rattle.vax_templates.specs.sel_target.specs.Instances.{hole, attr_touches, KindFits, SymFits, Fit}
 use Rattle.vax_core.specs.declared.register.Reg.{Reg}
 use Rattle.vax_core.specs.declared.operand.Addr.{Addr}
 use Rattle.vax_core.specs.declared.operand.Base.TheVariants as bases
@@ -64,8 +64,8 @@ use Rattle.vax_templates.specs.GiveLines.{given_shape}
 use Rattle.vax_templates.specs.Found.{ended, template_found, checked, with_divisors, found}
 use Rattle.vax_templates.specs.Filled.{alone, spare, numbered, register_in, attr_at, addr_in, addr_number, number_addr, object_addr, word_operand, slot_operand}
 use Rattle.vax_templates.specs.Filled.{slot_deferred, argument_deferred, operand_in, deferred_in, filled_base, with_index, filled, filled_or_spare, filled_operand}
-use Rattle.vax_target_meaning.specs.Vax.{vax}
-use Rattle.vax_target_meaning.proofs.Own.{attr_alone}
+use Rattle.vax_target_writing.specs.vax_target_meaning.specs.Vax.{vax}
+use Rattle.vax_target_writing.specs.vax_target_meaning.proofs.Own.{attr_alone}
 use Rattle.vax_target_writing.proofs.Each.{EachOk, bind_each, always_ok, still_ok, of_ok}
 use Rattle.vax_target_writing.proofs.Given.{at_its_line}
 use Rattle.vax_target_spelling.proofs.Own.{names_at, base_at, touches_is}

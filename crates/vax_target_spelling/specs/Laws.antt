@@ -7,13 +7,13 @@ use Rattle.md_reader_pieces.specs.declared.piece.Piece.TheVariants as piece
 use Rattle.md_reader.specs.declared.types.Class.{Class}
 use Rattle.md_reader.specs.declared.types.Give.TheVariants as give
 use Rattle.md_reader.specs.declared.types.Rule.{Rule}
-use Rattle.sel_terms.specs.Effects.{EffectShape}
-use Rattle.sel_target.specs.declared.attr.Attr.{Attr}
-use Rattle.sel_target.specs.Meaning.{Spot, touches}
-use Rattle.sel_target.specs.Values.{own_operand}
-use Rattle.sel_target.specs.Instances.{hole, attr_touches, Fit}
+use Rattle.vax_templates.specs.sel_terms.specs.Effects.{EffectShape}
+use Rattle.vax_templates.specs.sel_target.specs.declared.attr.Attr.{Attr}
+use Rattle.vax_templates.specs.sel_target.specs.Meaning.{Spot, touches}
+use Rattle.vax_templates.specs.sel_target.specs.Values.{own_operand}
+use Rattle.vax_templates.specs.sel_target.specs.Instances.{hole, attr_touches, Fit}
 use Rattle.vax_core.specs.declared.operand.Operand.{Operand}
-use Rattle.vax_target_meaning.specs.Vax.{vax}
+use Rattle.vax_target_writing.specs.vax_target_meaning.specs.Vax.{vax}
 
 -- operands that are spelled alike are equal
 abbrev pub AlikeAreEqual : Type 0

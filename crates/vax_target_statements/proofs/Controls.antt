@@ -38,12 +38,12 @@ use Rattle.vax_machine.specs.State.{State}
 use Rattle.vax_machine_lists.specs.Instructions.{Course, Goes, ends, branching, performed}
 use Rattle.vax_templates.specs.Settings.{is_signed}
 use Rattle.vax_templates.specs.FilledLines.{op_of_relation, op_of_att, op_in, label_of_att, label_in, label_among, branch_to}
-use Rattle.vax_target_meaning.specs.Running.{course_of}
-use Rattle.vax_target_meaning.specs.Vax.{vax, stands}
-use Rattle.vax_target_operands.specs.Scenes.{Scene, worth, filling_at}
-use Rattle.vax_target_operands.specs.Conditions.{test_of}
-use Rattle.vax_target_lines.specs.Lines.{IsMet}
-use Rattle.vax_target_runs.specs.Runs.{EndsIn}
+use Rattle.vax_target_rules.specs.vax_target_meaning.specs.Running.{course_of}
+use Rattle.vax_target_rules.specs.vax_target_meaning.specs.Vax.{vax, stands}
+use Rattle.vax_target_rules.specs.vax_target_operands.specs.Scenes.{Scene, worth, filling_at}
+use Rattle.vax_target_rules.specs.vax_target_operands.specs.Conditions.{test_of}
+use Rattle.vax_target_rules.specs.vax_target_lines.specs.Lines.{IsMet}
+use Rattle.vax_target_rules.specs.vax_target_runs.specs.Runs.{EndsIn}
 use Rattle.vax_target_statements.proofs.LastLines.{c, did, agrees_there, live_there}
 use Rattle.vax_target_statements.proofs.Deeds.{filled_hole, Steps}
 use Rattle.vax_target_statements.proofs.Firsts.{rest_of, branch_first, branch_hole}

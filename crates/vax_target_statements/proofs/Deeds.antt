@@ -33,11 +33,11 @@ use Rattle.vax_machine.specs.Step.{pushing}
 use Rattle.vax_machine_lists.specs.Instructions as lists
 use Rattle.vax_machine_lists.specs.Instructions.{Course, exec}
 use Rattle.vax_states.proofs.Standing.{area_written_so, push_written}
-use Rattle.vax_target_meaning.specs.Running.{course_of}
-use Rattle.vax_target_meaning.specs.Vax.{vax, stands}
-use Rattle.vax_target_operands.specs.Scenes.{Scene, worth, filling_at}
-use Rattle.vax_target_lines.specs.Lines.{putting, Puts}
-use Rattle.vax_target_runs.specs.Runs.{EndsIn}
+use Rattle.vax_target_rules.specs.vax_target_meaning.specs.Running.{course_of}
+use Rattle.vax_target_rules.specs.vax_target_meaning.specs.Vax.{vax, stands}
+use Rattle.vax_target_rules.specs.vax_target_operands.specs.Scenes.{Scene, worth, filling_at}
+use Rattle.vax_target_rules.specs.vax_target_lines.specs.Lines.{putting, Puts}
+use Rattle.vax_target_rules.specs.vax_target_runs.specs.Runs.{EndsIn}
 use Rattle.vax_target_rules.proofs.Instances.{filling_is}
 use Rattle.vax_target_statements.proofs.LastLines.{c, did, agrees_there, room_there, live_there, codes_agree}
 

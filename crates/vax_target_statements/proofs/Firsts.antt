@@ -24,7 +24,7 @@ use Rattle.sel_target.specs.declared.attr.Attr.TheVariants as attr
 use Rattle.sel_target.specs.Instances.{SymFits, Fit}
 use Rattle.sel_target.proofs.Facts.{no_token}
 use Rattle.vax_core.specs.declared.operand.Operand.{Operand}
-use Rattle.vax_target_meaning.specs.Vax.{vax}
+use Rattle.vax_target_rules.specs.vax_target_meaning.specs.Vax.{vax}
 
 abbrev is_statement : Sort → Bool
 is_statement sort.Stmt = true

@@ -45,14 +45,14 @@ use Rattle.vax_templates.specs.declared.setting.Own.TheVariants as own
 use Rattle.vax_templates.specs.Settings.{holes_of, setting_of, own_of, is_reuse}
 use Rattle.vax_templates.specs.GiveLines.{given_by}
 use Rattle.vax_templates.specs.Filled.{spare, word_operand, slot_operand, operand_in, register_in}
-use Rattle.vax_target_meaning.specs.Reading.{names, displaced}
-use Rattle.vax_target_meaning.specs.Vax.{vax, stands}
-use Rattle.vax_target_meaning.proofs.Own.{attr_alone}
-use Rattle.vax_target_operands.specs.Scenes.{Scene, worth, filling_at}
-use Rattle.vax_target_lines.specs.Lines.{MayHold, IsStored, putting, Puts}
-use Rattle.vax_target_lines.proofs.Performing.{number_is}
-use Rattle.vax_target_runs.specs.Runs.{OwnChanged, ZeroChanged, Changed, IsReturn, EndsIn}
-use Rattle.vax_target_runs.proofs.Kept.{base_untouched, index_untouched, names_same}
+use Rattle.vax_target_rules.specs.vax_target_meaning.specs.Reading.{names, displaced}
+use Rattle.vax_target_rules.specs.vax_target_meaning.specs.Vax.{vax, stands}
+use Rattle.vax_target_rules.specs.vax_target_meaning.proofs.Own.{attr_alone}
+use Rattle.vax_target_rules.specs.vax_target_operands.specs.Scenes.{Scene, worth, filling_at}
+use Rattle.vax_target_rules.specs.vax_target_lines.specs.Lines.{MayHold, IsStored, putting, Puts}
+use Rattle.vax_target_rules.specs.vax_target_lines.proofs.Performing.{number_is}
+use Rattle.vax_target_rules.specs.vax_target_runs.specs.Runs.{OwnChanged, ZeroChanged, Changed, IsReturn, EndsIn}
+use Rattle.vax_target_rules.specs.vax_target_runs.proofs.Kept.{base_untouched, index_untouched, names_same}
 use Rattle.vax_target_rules.proofs.Founds.{IsFound}
 use Rattle.vax_target_rules.proofs.Instances.{register_result}
 use Rattle.vax_target_rules.proofs.Results.{found_so, low, avoids_at, avoided}

@@ -40,11 +40,11 @@ use Rattle.vax_templates.specs.Taking.{fetched}
 use Rattle.vax_templates.specs.Deeds.{Last, Plain, Compared, Tested, Returning, Ended}
 use Rattle.vax_templates.specs.GiveLines.{left_value, last_deed, register_given, number_given, base_number}
 use Rattle.vax_templates.specs.GiveLines.{address_given, value_given, place_given, shape_given, shape_read, given_by}
-use Rattle.vax_target_meaning.specs.Vax.{vax, stands}
-use Rattle.vax_target_operands.specs.Scenes.{Scene}
-use Rattle.vax_target_operands.proofs.Binds.{chained}
-use Rattle.vax_target_runs.specs.Runs.{OwnChanged, ZeroChanged, Changed, EndsIn, line_of}
-use Rattle.vax_target_runs.proofs.Kept.{agrees_same, room_same}
+use Rattle.vax_target_rules.specs.vax_target_meaning.specs.Vax.{vax, stands}
+use Rattle.vax_target_rules.specs.vax_target_operands.specs.Scenes.{Scene}
+use Rattle.vax_target_rules.specs.vax_target_operands.proofs.Binds.{chained}
+use Rattle.vax_target_rules.specs.vax_target_runs.specs.Runs.{OwnChanged, ZeroChanged, Changed, EndsIn, line_of}
+use Rattle.vax_target_rules.specs.vax_target_runs.proofs.Kept.{agrees_same, room_same}
 use Rattle.vax_target_rules.proofs.Founds.{IsFound}
 use Rattle.vax_target_rules.proofs.Results.{scene, found_so, low, ends_in}
 

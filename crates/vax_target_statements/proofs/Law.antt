@@ -15,9 +15,9 @@ use Rattle.sel_target.specs.Instances.{Ready}
 use Rattle.sel_target.specs.StatementLaws.{DoesAct}
 use Rattle.vax_core.specs.declared.operand.Operand.{Operand}
 use Rattle.vax_machine.specs.State.{State}
-use Rattle.vax_target_meaning.specs.Vax.{vax}
-use Rattle.vax_target_lines.specs.Lines.{DoesDeed}
-use Rattle.vax_target_runs.specs.Runs.{IsReturn, EndsIn}
+use Rattle.vax_target_rules.specs.vax_target_meaning.specs.Vax.{vax}
+use Rattle.vax_target_rules.specs.vax_target_lines.specs.Lines.{DoesDeed}
+use Rattle.vax_target_rules.specs.vax_target_runs.specs.Runs.{IsReturn, EndsIn}
 use Rattle.vax_target_statements.specs.Laws.{IsOrdinary, StatementsDo}
 use Rattle.vax_target_statements.proofs.LastLines.{c, did, IsDeed, statement_ends}
 use Rattle.vax_target_statements.proofs.Deeds.{Steps, at_goes, pushes, leaves}

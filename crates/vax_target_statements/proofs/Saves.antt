@@ -55,14 +55,14 @@ use Rattle.vax_target_rules.proofs.Founds.{IsFound}
 use Rattle.vax_target_rules.proofs.Instances.{mapped_at, role_is}
 use Rattle.vax_target_rules.proofs.Results.{found_so}
 use Rattle.vax_templates.specs.Filled.{spare, word_operand, slot_operand, leaf_operand, operand_in}
-use Rattle.vax_target_meaning.specs.Reading.{displaced}
-use Rattle.vax_target_meaning.specs.Vax.{vax, stands}
-use Rattle.vax_target_operands.specs.Scenes.{Scene, worth, filling_at, IsSavedLocal}
-use Rattle.vax_target_operands.specs.Places.{StandsAt}
-use Rattle.vax_target_operands.proofs.Machine.{names_stand}
-use Rattle.vax_target_operands.proofs.Holes.{stands_same}
-use Rattle.vax_target_lines.specs.Lines.{putting, Puts}
-use Rattle.vax_target_runs.specs.Runs.{EndsIn}
+use Rattle.vax_target_rules.specs.vax_target_meaning.specs.Reading.{displaced}
+use Rattle.vax_target_rules.specs.vax_target_meaning.specs.Vax.{vax, stands}
+use Rattle.vax_target_rules.specs.vax_target_operands.specs.Scenes.{Scene, worth, filling_at, IsSavedLocal}
+use Rattle.vax_target_rules.specs.vax_target_operands.specs.Places.{StandsAt}
+use Rattle.vax_target_rules.specs.vax_target_operands.proofs.Machine.{names_stand}
+use Rattle.vax_target_rules.specs.vax_target_operands.proofs.Holes.{stands_same}
+use Rattle.vax_target_rules.specs.vax_target_lines.specs.Lines.{putting, Puts}
+use Rattle.vax_target_rules.specs.vax_target_runs.specs.Runs.{EndsIn}
 use Rattle.vax_target_statements.proofs.LastLines.{c, did, last_given, agrees_there, live_there}
 use Rattle.vax_target_statements.proofs.Deeds.{filled_hole, Steps, goes}
 use Rattle.vax_target_statements.proofs.Firsts.{rest_of, is_root, root_first, symbol_of}

@@ -51,8 +51,8 @@ use Rattle.vax_templates.specs.Deeds as deeds
 use Rattle.vax_templates.specs.Judging as judging
 use Rattle.vax_templates.specs.Progress.{Progress, judged, lines_judged}
 use Rattle.vax_templates.proofs.Judgements.{statement_of, sized_plain, ok_plain, addressed_plain, in_order_is}
-use Rattle.vax_target_operands.proofs.Binds.{chained, cond_ok}
-use Rattle.vax_target_runs.proofs.Law.{judged_is}
+use Rattle.vax_target_rules.specs.vax_target_operands.proofs.Binds.{chained, cond_ok}
+use Rattle.vax_target_rules.specs.vax_target_runs.proofs.Law.{judged_is}
 
 module _ (s : Setting) (roles : List Hole) (held : Option Shape) where
   -- the place of a saved result is that token's

@@ -13,7 +13,7 @@ use Rattle.sel_target.specs.Instances.{lines_of, Ready}
 use Rattle.sel_target.specs.StatementLaws.{IsStep, DoesAct}
 use Rattle.vax_core.specs.declared.operand.Operand.{Operand}
 use Rattle.vax_machine.specs.State.{State}
-use Rattle.vax_target_meaning.specs.Vax.{vax}
+use Rattle.vax_target_rules.specs.vax_target_meaning.specs.Vax.{vax}
 
 -- a store, a branch, a push, a saved result, a return or a jump
 abbrev pub IsOrdinary : ActShape → Type 0

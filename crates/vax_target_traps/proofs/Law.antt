@@ -18,7 +18,7 @@ use Rattle.md_reader.specs.Rows.{plain_fits, shape_fits}
 use Rattle.md_reader.specs.Valid.{MayGive}
 use Rattle.term_core.specs.Shape.{Shape}
 use Rattle.sel_terms.specs.Effects.{ActShape, EffectShape}
-use Rattle.sel_terms_meaning.specs.Meaning.{terms_of_act}
+use Rattle.sel_target.specs.sel_terms_meaning.specs.Meaning.{terms_of_act}
 use Rattle.sel_target.specs.declared.attr.Attr.{Attr}
 use Rattle.sel_target.specs.Courses.{traps}
 use Rattle.sel_target.specs.Values.{View, IsReadWhere, value}
@@ -34,14 +34,14 @@ use Rattle.vax_templates.specs.Standing.{◌>>=◌}
 use Rattle.vax_templates.specs.Deeds.{Last, Plain, Compared, Tested, Returning, Ended}
 use Rattle.vax_templates.specs.Progress.{Progress, start, judged, lines_judged}
 use Rattle.vax_templates.specs.GiveLines.{last_deed, given_by}
-use Rattle.vax_target_meaning.specs.Running.{course_of, run}
-use Rattle.vax_target_meaning.specs.Vax.{vax}
-use Rattle.vax_target_operands.specs.Scenes.{Scene, Sees}
-use Rattle.vax_target_operands.proofs.Binds.{Chained, chained}
-use Rattle.vax_target_lines.specs.Lines.{terms_of_last}
-use Rattle.vax_target_lines.proofs.Performing.{lines_trap}
-use Rattle.vax_target_runs.specs.Runs.{line_of}
-use Rattle.vax_target_runs.proofs.Law.{IsJudged, judged_is, closed}
+use Rattle.vax_target_rules.specs.vax_target_meaning.specs.Running.{course_of, run}
+use Rattle.vax_target_rules.specs.vax_target_meaning.specs.Vax.{vax}
+use Rattle.vax_target_rules.specs.vax_target_operands.specs.Scenes.{Scene, Sees}
+use Rattle.vax_target_rules.specs.vax_target_operands.proofs.Binds.{Chained, chained}
+use Rattle.vax_target_rules.specs.vax_target_lines.specs.Lines.{terms_of_last}
+use Rattle.vax_target_rules.specs.vax_target_lines.proofs.Performing.{lines_trap}
+use Rattle.vax_target_rules.specs.vax_target_runs.specs.Runs.{line_of}
+use Rattle.vax_target_rules.specs.vax_target_runs.proofs.Law.{IsJudged, judged_is, closed}
 use Rattle.vax_target_rules.specs.Scene.{scene_of}
 use Rattle.vax_target_rules.proofs.Founds.{IsFound, rule_is, reads_safe, front_safe}
 use Rattle.vax_target_rules.proofs.Instances.{instance_seen}

@@ -60,8 +60,8 @@ use Rattle.vax_templates.specs.Judging.{did_behind, line_did}
 use Rattle.vax_templates.specs.Deeds as deeds
 use Rattle.vax_templates.specs.Judging as judging
 use Rattle.vax_templates.proofs.Judgements.{statement_of, in_order_is}
-use Rattle.vax_target_operands.proofs.Binds.{chained, cond_ok}
-use Rattle.vax_target_lines.specs.Lines.{terms_of_last}
+use Rattle.vax_target_rules.specs.vax_target_operands.proofs.Binds.{chained, cond_ok}
+use Rattle.vax_target_rules.specs.vax_target_lines.specs.Lines.{terms_of_last}
 
 -- a term with no division in it
 abbrev pub NoDivision : Shape → Type 0

@@ -12,7 +12,7 @@ use Rattle.sel_target.specs.Values.{View, value}
 use Rattle.sel_target.specs.Instances.{IsResult, lines_of, Instance}
 use Rattle.vax_core.specs.declared.operand.Operand.{Operand}
 use Rattle.vax_machine.specs.State.{State}
-use Rattle.vax_target_meaning.specs.Vax.{vax}
+use Rattle.vax_target_rules.specs.vax_target_meaning.specs.Vax.{vax}
 
 -- a zero divisor traps, also where accesses whose address divides by zero would break
 abbrev pub ZeroDivisorsTrap : Type 0

@@ -22,9 +22,9 @@ use Rattle.md_reader.specs.declared.types.Sym.TheVariants as grammar_symbol
 use Rattle.md_reader.specs.declared.types.Give.{Give}
 use Rattle.md_reader.specs.declared.types.Give.TheVariants as give
 use Rattle.md_reader.specs.Patterns.{kind_at}
-use Rattle.sel_target.specs.declared.attr.Attr.{Attr}
-use Rattle.sel_target.specs.declared.attr.Attr.TheVariants as attr
-use Rattle.sel_target.specs.Instances.{InFrame, KindFits, SymFits, Fit, IsResult}
+use Rattle.vax_templates.specs.sel_target.specs.declared.attr.Attr.{Attr}
+use Rattle.vax_templates.specs.sel_target.specs.declared.attr.Attr.TheVariants as attr
+use Rattle.vax_templates.specs.sel_target.specs.Instances.{InFrame, KindFits, SymFits, Fit, IsResult}
 use Rattle.vax_core.specs.declared.register.Reg.{Reg}
 use Rattle.vax_core.specs.declared.operand.Base.{Base}
 use Rattle.vax_core.specs.declared.operand.Base.TheVariants as bases
@@ -37,7 +37,7 @@ use Rattle.vax_templates.specs.Filled.{alone, spare, numbered, label_of, object_
 use Rattle.vax_templates.specs.Filled.{leaf_deferred, operand_in, deferred_in, addr_in}
 use Rattle.vax_target_meaning.specs.Fitting.{steps, is_steady, is_place, fits, CanWrite}
 use Rattle.vax_target_meaning.specs.Vax.{vax}
-use Rattle.sel_target.specs.Spelled.{IsSpelled, TokenIsSpelled, AreSpelled}
+use Rattle.vax_templates.specs.sel_target.specs.Spelled.{IsSpelled, TokenIsSpelled, AreSpelled}
 use Rattle.vax_target_writing.proofs.Operands.{IsReadable, IsMemory, IsPlain, IsNumber, IsObject, IsLocal, Spells, AllSpell, OwnSpells}
 
 -- ---- tests

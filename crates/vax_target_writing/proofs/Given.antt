@@ -9,12 +9,12 @@ use Rattle.md_reader_pieces.specs.declared.piece.Line.{Line}
 use Rattle.md_reader.specs.declared.types.Kind.{Kind}
 use Rattle.md_reader.specs.declared.types.Kind.TheVariants as kind
 use Rattle.md_reader.specs.declared.types.Give.TheVariants as give
-use Rattle.sel_terms.specs.Effects.{ActShape, EffectShape}
-use Rattle.sel_target.specs.declared.attr.Attr.{Attr}
-use Rattle.sel_target.specs.declared.attr.Attr.TheVariants as attr
-use Rattle.sel_target.specs.declared.fault.TemplateKind.{TemplateKind}
-use Rattle.sel_target.specs.Meaning.{Fault}
-use Rattle.sel_target.specs.Instances.{IsResult}
+use Rattle.vax_templates.specs.sel_terms.specs.Effects.{ActShape, EffectShape}
+use Rattle.vax_templates.specs.sel_target.specs.declared.attr.Attr.{Attr}
+use Rattle.vax_templates.specs.sel_target.specs.declared.attr.Attr.TheVariants as attr
+use Rattle.vax_templates.specs.sel_target.specs.declared.fault.TemplateKind.{TemplateKind}
+use Rattle.vax_templates.specs.sel_target.specs.Meaning.{Fault}
+use Rattle.vax_templates.specs.sel_target.specs.Instances.{IsResult}
 use Rattle.vax_core.specs.declared.operand.Operand.{Operand}
 use Rattle.vax_templates.specs.declared.form.Base.{Base as FormBase}
 use Rattle.vax_templates.specs.declared.form.Form.{Form}

@@ -33,16 +33,16 @@ use Rattle.md_reader.specs.Patterns.{kind_at}
 use Rattle.md_reader.specs.Restrictions.{is_branch, is_jump, is_call}
 use Rattle.md_reader.specs.Rows.{any_symbol, behind_j, hole_behind, relation_fits, piece_fits, pieces_fit, line_fits}
 use Rattle.md_reader.specs.Valid.{MayWrite}
-use Rattle.sel_target.specs.declared.attr.Attr.{Attr}
-use Rattle.sel_target.specs.declared.attr.Attr.TheVariants as attr
-use Rattle.sel_target.specs.Instances.{SymFits, Fit}
+use Rattle.vax_templates.specs.sel_target.specs.declared.attr.Attr.{Attr}
+use Rattle.vax_templates.specs.sel_target.specs.declared.attr.Attr.TheVariants as attr
+use Rattle.vax_templates.specs.sel_target.specs.Instances.{SymFits, Fit}
 use Rattle.vax_core.specs.declared.operand.Operand.{Operand}
 use Rattle.vax_core.specs.Valid.{is_name}
 use Rattle.vax_templates.specs.FilledLines.{label_in, label_of_att, label_among, callee_in, callee_of_att, callee_among, function_name}
 use Rattle.vax_target_meaning.specs.Fitting.{CanWrite}
 use Rattle.vax_target_meaning.specs.Vax.{vax}
-use Rattle.sel_target.specs.Spelled.{IsSpelled, TokenIsSpelled, AreSpelled}
-use Rattle.sel_target.proofs.Facts.{no_token}
+use Rattle.vax_templates.specs.sel_target.specs.Spelled.{IsSpelled, TokenIsSpelled, AreSpelled}
+use Rattle.vax_templates.specs.sel_target.proofs.Facts.{no_token}
 use Rattle.vax_target_writing.proofs.Lines.{is_label_piece, is_count_piece}
 use Rattle.vax_target_writing.proofs.Written.{CanGo, CanCall, Names}
 

@@ -8,10 +8,10 @@ use Rattle.md_reader.specs.declared.types.Kind.TheVariants as kind
 use Rattle.md_reader.specs.Patterns.{kind_at}
 use Rattle.md_reader.specs.RuleForms.{has_register}
 use Rattle.md_reader.specs.Valid.{IsSpill}
-use Rattle.sel_terms.specs.Effects.{EffectShape}
-use Rattle.sel_target.specs.declared.attr.Attr.{Attr}
-use Rattle.sel_target.specs.declared.attr.Attr.TheVariants as attr
-use Rattle.sel_target.specs.SavingLaws.{IsValue, operand, register}
+use Rattle.vax_templates.specs.sel_terms.specs.Effects.{EffectShape}
+use Rattle.vax_templates.specs.sel_target.specs.declared.attr.Attr.{Attr}
+use Rattle.vax_templates.specs.sel_target.specs.declared.attr.Attr.TheVariants as attr
+use Rattle.vax_templates.specs.sel_target.specs.SavingLaws.{IsValue, operand, register}
 use Rattle.vax_core.specs.declared.operand.Operand.{Operand}
 use Rattle.vax_core.specs.Homes.{home, at_home}
 use Rattle.vax_templates.specs.Settings.{holes_of, setting_of, saved_hole, saved_own, saved_setting}

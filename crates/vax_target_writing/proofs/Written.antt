@@ -16,11 +16,11 @@ use Rattle.md_reader_pieces.specs.declared.piece.Line.{Line}
 use Rattle.md_reader.specs.declared.types.Kind.{Kind}
 use Rattle.md_reader.specs.declared.types.Give.{Give}
 use Rattle.term_core.specs.Shape.{Shape}
-use Rattle.sel_terms.specs.Effects.{EffectShape}
-use Rattle.sel_target.specs.declared.attr.Attr.{Attr}
-use Rattle.sel_target.specs.declared.attr.Attr.TheVariants as attr
-use Rattle.sel_target.specs.declared.fault.TemplateKind.{TemplateKind}
-use Rattle.sel_target.specs.Meaning.{Fault}
+use Rattle.vax_templates.specs.sel_terms.specs.Effects.{EffectShape}
+use Rattle.vax_templates.specs.sel_target.specs.declared.attr.Attr.{Attr}
+use Rattle.vax_templates.specs.sel_target.specs.declared.attr.Attr.TheVariants as attr
+use Rattle.vax_templates.specs.sel_target.specs.declared.fault.TemplateKind.{TemplateKind}
+use Rattle.vax_templates.specs.sel_target.specs.Meaning.{Fault}
 use Rattle.vax_core.specs.declared.operand.Operand.{Operand}
 use Rattle.vax_core.specs.declared.op.Op.{Op}
 use Rattle.vax_core.specs.Ops.{shape}
@@ -38,7 +38,7 @@ use Rattle.vax_templates.specs.Giving.{given}
 use Rattle.vax_templates.specs.Deeds.{Last, Plain, Compared, Tested, Returning, Ended, Deed, ends_statement, computed}
 use Rattle.vax_templates.specs.Deeds.{acted}
 use Rattle.vax_templates.specs.Judging.{checked, operated, instruction_did, returned, did_behind, read, line_did}
-use Rattle.sel_terms.specs.Effects as effects
+use Rattle.vax_templates.specs.sel_terms.specs.Effects as effects
 use Rattle.vax_core.specs.declared.op.Op.TheVariants as ops
 use Rattle.vax_templates.specs.Progress.{Progress, start, at_line, kept, judged, lines_judged}
 use Rattle.vax_templates.specs.GiveLines.{given_line}

@@ -2,8 +2,8 @@
 use Rattle.std.proofs.Common.{◌≡◌, ℕ, Bool, true, false, cond, [], ◌∷◌, Option, Some, None, Result, Ok, Err, refl, sym, ap, ◌∙◌}
 use Rattle.gg_base.specs.declared.size.Size.{Size}
 use Rattle.gg_base.proofs.Facts.{err_ok, ok_same}
-use Rattle.md_reader_pieces.specs.declared.piece.Piece.TheVariants as piece
-use Rattle.sel_terms.specs.Same.{same_size}
+use Rattle.sel_target.specs.md_reader_pieces.specs.declared.piece.Piece.TheVariants as piece
+use Rattle.sel_target.specs.sel_terms.specs.Same.{same_size}
 use Rattle.sel_target.specs.declared.fault.TemplateKind.{TemplateKind}
 use Rattle.sel_target.specs.declared.fault.TemplateKind.TheVariants.{NotInstr, WrongSize, Order}
 use Rattle.vax_templates.specs.Standing.{Where, Immediate, Register, OwnRegister, RegisterZero, Value, Place, Local, SavedPlace, Saved, At}

@@ -3,8 +3,8 @@
 use Rattle.std.specs.Prelude.{ℕ, Bool, true, false, ◌&&◌, List, [], ◌∷◌, Option, Some, None, Result, Ok, Err}
 use Rattle.std.specs.Prelude.{if◌then◌else◌}
 use Rattle.term_core.specs.Shape.{Shape, Constant, LastResult}
-use Rattle.sel_terms.specs.Effects.{ActShape}
-use Rattle.sel_terms.specs.Effects as act
+use Rattle.sel_target.specs.sel_terms.specs.Effects.{ActShape}
+use Rattle.sel_target.specs.sel_terms.specs.Effects as act
 use Rattle.sel_target.specs.declared.fault.TemplateKind.{TemplateKind}
 use Rattle.sel_target.specs.declared.fault.TemplateKind.TheVariants.{NotInstr}
 use Rattle.vax_core.specs.declared.op.Op.{Op}

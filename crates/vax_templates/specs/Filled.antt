@@ -8,7 +8,7 @@ use Rattle.tree_core.specs.declared.tree.Att.TheVariants as att
 use Rattle.tree_core.specs.declared.tree.Leaf.{Leaf}
 use Rattle.tree_core.specs.declared.program.Object.{Object}
 use Rattle.tree_core.specs.declared.program.TreeProgram.{TreeProgram}
-use Rattle.md_reader_pieces.specs.declared.piece.Piece.{Piece}
+use Rattle.sel_target.specs.md_reader_pieces.specs.declared.piece.Piece.{Piece}
 use Rattle.sel_target.specs.declared.attr.Attr.{Attr}
 use Rattle.sel_target.specs.declared.attr.Attr.TheVariants as attr
 use Rattle.vax_core.specs.declared.register.Reg.{Reg}

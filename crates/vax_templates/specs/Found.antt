@@ -1,14 +1,14 @@
 -- What a template does, and the first fault in it.
 -- This is how the code computes it; that instructions do so is the law vax_is_lawful of vax_target_laws.
 use Rattle.std.specs.Prelude.{ℕ, true, List, [], ◌∷◌, Option, None, Result, if◌then◌else◌}
-use Rattle.md_reader_pieces.specs.declared.piece.Line.{Line}
-use Rattle.md_reader.specs.declared.types.Kind.{Kind}
-use Rattle.md_reader.specs.declared.types.Class.{Class}
-use Rattle.md_reader.specs.declared.types.Give.{Give}
-use Rattle.md_reader.specs.declared.types.Give.TheVariants as give
-use Rattle.md_reader.specs.declared.types.Rule.{Rule}
-use Rattle.md_reader.specs.Patterns.{kind_at}
-use Rattle.sel_terms.specs.Effects.{ActShape, EffectShape}
+use Rattle.sel_target.specs.md_reader_pieces.specs.declared.piece.Line.{Line}
+use Rattle.sel_target.specs.md_reader.specs.declared.types.Kind.{Kind}
+use Rattle.sel_target.specs.md_reader.specs.declared.types.Class.{Class}
+use Rattle.sel_target.specs.md_reader.specs.declared.types.Give.{Give}
+use Rattle.sel_target.specs.md_reader.specs.declared.types.Give.TheVariants as give
+use Rattle.sel_target.specs.md_reader.specs.declared.types.Rule.{Rule}
+use Rattle.sel_target.specs.md_reader.specs.Patterns.{kind_at}
+use Rattle.sel_target.specs.sel_terms.specs.Effects.{ActShape, EffectShape}
 use Rattle.sel_target.specs.Meaning.{Fault}
 use Rattle.vax_templates.specs.declared.setting.Hole.{Hole}
 use Rattle.vax_templates.specs.declared.setting.Setting.{Setting}

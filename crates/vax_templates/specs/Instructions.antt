@@ -4,8 +4,8 @@ use Rattle.std.specs.Prelude.{None, if◌then◌else◌, codes}
 use Rattle.std.specs.List.{position_or_len}
 use Rattle.std.specs.Option.{option_and_then, option_map, option_map_or}
 use Rattle.md_reader_text.specs.Words.{same}
-use Rattle.md_reader_pieces.specs.declared.piece.Piece.{Piece}
-use Rattle.md_reader_pieces.specs.declared.piece.Piece.TheVariants as piece
+use Rattle.sel_target.specs.md_reader_pieces.specs.declared.piece.Piece.{Piece}
+use Rattle.sel_target.specs.md_reader_pieces.specs.declared.piece.Piece.TheVariants as piece
 use Rattle.vax_core.specs.declared.op.Op.{Op}
 use Rattle.vax_core.specs.declared.op.OperandKind.{OperandKind}
 use Rattle.vax_core.specs.Ops.{shape}

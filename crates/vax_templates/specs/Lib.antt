@@ -18,3 +18,8 @@ pub mod Found
 pub mod Filled
 pub mod FilledLines
 pub mod FrameWords
+pub use Rattle.sel_target
+pub use Rattle.sel_target.specs.md_reader as md_reader
+pub use Rattle.sel_target.specs.sel_terms_meaning as sel_terms_meaning
+pub use Rattle.sel_target.specs.sel_terms as sel_terms
+pub use Rattle.sel_target.specs.tree_meaning as tree_meaning

@@ -2,7 +2,7 @@
 -- This is how the code computes it; that instructions do so is the law vax_is_lawful of vax_target_laws.
 use Rattle.std.specs.Prelude.{ℕ, ◌-◌, Bool, false, List, [], ◌∷◌, ◌++◌, length, slice_get, Option, Some, None, Result}
 use Rattle.std.specs.Prelude.{Ok, Err}
-use Rattle.md_reader_pieces.specs.declared.piece.Line.{Line}
+use Rattle.sel_target.specs.md_reader_pieces.specs.declared.piece.Line.{Line}
 use Rattle.term_core.specs.Shape.{Shape}
 use Rattle.sel_target.specs.declared.fault.TemplateKind.{TemplateKind}
 use Rattle.sel_target.specs.Meaning.{Fault}

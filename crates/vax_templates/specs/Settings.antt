@@ -3,18 +3,18 @@ use Rattle.std.specs.Prelude.{ℕ, ◌-◌, ◌==◌, ◌||◌, Bool, true, fals
 use Rattle.gg_base.specs.declared.size.Size.TheVariants.{Long}
 use Rattle.tree_core.specs.declared.token.Tok.{Tok}
 use Rattle.tree_core.specs.declared.token.Tok.TheVariants as tok
-use Rattle.md_reader.specs.declared.types.Kind.{Kind}
-use Rattle.md_reader.specs.declared.types.Kind.TheVariants as kind
-use Rattle.md_reader.specs.declared.types.Class.{Class}
-use Rattle.md_reader.specs.declared.types.Sym.{Sym}
-use Rattle.md_reader.specs.declared.types.Sym.TheVariants as grammar_symbol
-use Rattle.md_reader.specs.declared.types.Restriction.{Restriction}
-use Rattle.md_reader.specs.declared.types.Restriction.TheVariants as restriction
-use Rattle.md_reader.specs.declared.types.Give.{Give}
-use Rattle.md_reader.specs.declared.types.Give.TheVariants as give
-use Rattle.md_reader.specs.declared.types.Rule.{Rule}
-use Rattle.md_reader.specs.Patterns.{kind_at}
-use Rattle.md_reader.specs.Restrictions.{is_nothing}
+use Rattle.sel_target.specs.md_reader.specs.declared.types.Kind.{Kind}
+use Rattle.sel_target.specs.md_reader.specs.declared.types.Kind.TheVariants as kind
+use Rattle.sel_target.specs.md_reader.specs.declared.types.Class.{Class}
+use Rattle.sel_target.specs.md_reader.specs.declared.types.Sym.{Sym}
+use Rattle.sel_target.specs.md_reader.specs.declared.types.Sym.TheVariants as grammar_symbol
+use Rattle.sel_target.specs.md_reader.specs.declared.types.Restriction.{Restriction}
+use Rattle.sel_target.specs.md_reader.specs.declared.types.Restriction.TheVariants as restriction
+use Rattle.sel_target.specs.md_reader.specs.declared.types.Give.{Give}
+use Rattle.sel_target.specs.md_reader.specs.declared.types.Give.TheVariants as give
+use Rattle.sel_target.specs.md_reader.specs.declared.types.Rule.{Rule}
+use Rattle.sel_target.specs.md_reader.specs.Patterns.{kind_at}
+use Rattle.sel_target.specs.md_reader.specs.Restrictions.{is_nothing}
 use Rattle.vax_templates.specs.declared.setting.Hole.{Hole}
 use Rattle.vax_templates.specs.declared.setting.Hole.TheVariants as hole_kind
 use Rattle.vax_templates.specs.declared.setting.Own.{Own}
