@@ -17,7 +17,8 @@ use Rattle.vax_target_meaning.specs.vax_templates.specs.declared.form.Base.{Base
 use Rattle.vax_target_meaning.specs.vax_templates.specs.declared.form.Base.TheVariants as base
 use Rattle.vax_target_meaning.specs.vax_templates.specs.declared.form.Form.{Form}
 use Rattle.vax_target_meaning.specs.vax_templates.specs.Filled.{operand_in, filled}
-use Rattle.vax_target_meaning.specs.vax_templates.specs.Standing.{Where, Immediate, Register, OwnRegister, RegisterZero, Value, Place, Local}
+use Rattle.vax_target_meaning.specs.vax_templates.specs.Standing.{Where, Immediate, Register, OwnRegister, RegisterZero}
+use Rattle.vax_target_meaning.specs.vax_templates.specs.Standing.{Value, Place, Local}
 use Rattle.vax_target_meaning.specs.vax_templates.specs.Standing.{SavedPlace, Saved, At, form_where}
 use Rattle.vax_target_meaning.specs.Reading.{names}
 use Rattle.vax_target_meaning.specs.vax_templates.specs.Judging.{spells_symbol}

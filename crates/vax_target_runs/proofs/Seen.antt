@@ -24,7 +24,8 @@ use Rattle.vax_machine.specs.Area.{resolved}
 use Rattle.vax_target_lines.specs.vax_templates.specs.declared.setting.Hole.{Hole}
 use Rattle.vax_target_lines.specs.vax_templates.specs.declared.setting.Hole.TheVariants as hole_kind
 use Rattle.vax_target_lines.specs.vax_templates.specs.Judging.{is_operand}
-use Rattle.vax_target_lines.specs.vax_templates.specs.Filled.{spare, numbered, addr_in, word_operand, slot_operand, argument_deferred, slot_deferred, leaf_operand, operand_in, leaf_deferred, deferred_in}
+use Rattle.vax_target_lines.specs.vax_templates.specs.Filled.{spare, numbered, addr_in, word_operand, slot_operand, argument_deferred}
+use Rattle.vax_target_lines.specs.vax_templates.specs.Filled.{slot_deferred, leaf_operand, operand_in, leaf_deferred, deferred_in}
 use Rattle.vax_target_lines.specs.vax_templates.proofs.Homes.{local_bits, argument_bits}
 use Rattle.vax_target_lines.specs.vax_target_meaning.specs.Vax.{vax}
 use Rattle.vax_target_lines.specs.vax_target_operands.specs.Scenes.{Scene, worth, Means, IsRegister, IsPlace, IsLocal, Names, IsNumber, IsObject, IsSavedLocal}
