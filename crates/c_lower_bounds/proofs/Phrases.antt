@@ -6,7 +6,7 @@ use Rattle.c_types.specs.declared.typed.UnaryOperator.{UnaryOperator}
 use Rattle.c_types.specs.declared.typed.UnaryOperator.TheVariants as unaries
 use Rattle.c_types.specs.declared.typed.ArithmeticOperator.TheVariants as ariths
 use Rattle.c_types.specs.Constants.{scale}
-use Rattle.c_types.specs.Typed.{APlace, VariableAt, PointedBy, ElementBy, AnExpression, Constant, LiteralAt, ArrayAt, ReadOf, SizeofTerm, SizeOf, AddressOf, CallOf, StepOf}
+use Rattle.c_types.specs.Typed.{APlace, VariableAt, PointedBy, ElementBy, AnExpression, Constant, LiteralAt, ArrayAt, ReadOf, SizeOfExpression, SizeOf, AddressOf, CallOf, StepOf}
 use Rattle.c_types.specs.Typed.{UnaryOf, CastTo, ConvertTo, ArithmeticOf, CompareOf, BothOf, EitherOf, AdvanceOf, AdvanceByOf, RetreatOf, DistanceOf, ChoiceOf, AssignTo}
 use Rattle.c_types.specs.Typed.{ArithmeticAssignTo, AdvanceAssignTo, RetreatAssignTo, CommaOf, SomeExpressions, NoExpressions, MoreExpressions}
 use Rattle.c_program.specs.Need.{place_nodes, nodes, all_nodes}
@@ -104,7 +104,7 @@ module _ (size count : ℕ) where
     way_bounded (LiteralAt n bytes) = leaf_bounded (Gaddr n) refl 1 (omega arith)
     way_bounded (ArrayAt ty v bytes) = leaf_bounded (address_tree (where_of v)) (array_forks v) 1 (omega arith)
     way_bounded (ReadOf p) = valued_bounded (λ t l. read_within (place_within p t l))
-    way_bounded (SizeofTerm n e) = leaf_bounded (Num n) refl (1 + nodes e) (omega arith)
+    way_bounded (SizeOfExpression n e) = leaf_bounded (Num n) refl (1 + nodes e) (omega arith)
     way_bounded (SizeOf n) = leaf_bounded (Num n) refl 1 (omega arith)
     way_bounded (AddressOf ty p) = valued_bounded (λ t l. address_within (place_within p t l))
     way_bounded (CallOf ty f to es) =

@@ -4,7 +4,7 @@ use Rattle.std.specs.Prelude.{Bool, true, false, not, Option, Some, None}
 use Rattle.c_types.specs.declared.types.CType.{CType}
 use Rattle.c_types.specs.declared.typed.UnaryOperator.{UnaryOperator}
 use Rattle.c_types.specs.declared.typed.UnaryOperator.TheVariants as unaries
-use Rattle.c_types.specs.Typed.{APlace, VariableAt, PointedBy, ElementBy, AnExpression, Constant, LiteralAt, ArrayAt, ReadOf, SizeofTerm, SizeOf, AddressOf, CallOf, StepOf}
+use Rattle.c_types.specs.Typed.{APlace, VariableAt, PointedBy, ElementBy, AnExpression, Constant, LiteralAt, ArrayAt, ReadOf, SizeOfExpression, SizeOf, AddressOf, CallOf, StepOf}
 use Rattle.c_types.specs.Typed.{UnaryOf, CastTo, ConvertTo, ArithmeticOf, CompareOf, BothOf, EitherOf, AdvanceOf, AdvanceByOf, RetreatOf, DistanceOf, ChoiceOf, AssignTo}
 use Rattle.c_types.specs.Typed.{ArithmeticAssignTo, AdvanceAssignTo, RetreatAssignTo, CommaOf, SomeExpressions, NoExpressions, MoreExpressions}
 use Rattle.c_lower_scheme.specs.Trees.{Tree, Num, Gaddr, Neg, Com, Bin}
@@ -62,7 +62,7 @@ module _ (size count : ℕ) where
     way_calm (LiteralAt n bytes) = valued_calm (due_calm (Gaddr n) tt)
     way_calm (ArrayAt ty v bytes) = valued_calm (due_calm (address_tree (where_of v)) (calm_where v))
     way_calm (ReadOf p) = valued_calm (λ t l. read_calm (place_calm p t l))
-    way_calm (SizeofTerm n e) = valued_calm (due_calm (Num n) tt)
+    way_calm (SizeOfExpression n e) = valued_calm (due_calm (Num n) tt)
     way_calm (SizeOf n) = valued_calm (due_calm (Num n) tt)
     way_calm (AddressOf ty p) = valued_calm (λ t l. address_calm (place_calm p t l))
     way_calm (CallOf ty f to es) = record {

@@ -8,7 +8,7 @@ use Rattle.c_types.specs.declared.typed.UnaryOperator.{UnaryOperator}
 use Rattle.c_types.specs.declared.typed.UnaryOperator.TheVariants as unaries
 use Rattle.c_types.specs.declared.typed.ArithmeticOperator.TheVariants as ariths
 use Rattle.c_types.specs.Constants.{scale}
-use Rattle.c_types.specs.Typed.{APlace, VariableAt, PointedBy, ElementBy, AnExpression, Constant, LiteralAt, ArrayAt, ReadOf, SizeofTerm, SizeOf, AddressOf, CallOf, StepOf}
+use Rattle.c_types.specs.Typed.{APlace, VariableAt, PointedBy, ElementBy, AnExpression, Constant, LiteralAt, ArrayAt, ReadOf, SizeOfExpression, SizeOf, AddressOf, CallOf, StepOf}
 use Rattle.c_types.specs.Typed.{UnaryOf, CastTo, ConvertTo, ArithmeticOf, CompareOf, BothOf, EitherOf, AdvanceOf, AdvanceByOf, RetreatOf, DistanceOf, ChoiceOf, AssignTo}
 use Rattle.c_types.specs.Typed.{ArithmeticAssignTo, AdvanceAssignTo, RetreatAssignTo, CommaOf}
 use Rattle.tree_core.specs.declared.program.TreeItem.{TreeItem}
@@ -114,7 +114,7 @@ module _ (size count : ℕ) where
     plain_due (LiteralAt n bytes) p h t l = refl
     plain_due (ArrayAt ty v bytes) p h t l = refl
     plain_due (ReadOf x) p h t l = ap read_low (place_due x p (read_calm (type_at x) (place_at x) h) t l)
-    plain_due (SizeofTerm n e) p h t l = refl
+    plain_due (SizeOfExpression n e) p h t l = refl
     plain_due (SizeOf n) p h t l = refl
     plain_due (AddressOf ty x) p h t l = absurd p
     plain_due (CallOf ty f to es) p h t l = absurd p
@@ -166,7 +166,7 @@ module _ (size count : ℕ) where
   plain_deliver (LiteralAt n bytes) p h to t l = refl
   plain_deliver (ArrayAt ty v bytes) p h to t l = refl
   plain_deliver (ReadOf x) p h to t l = ap (delivered to) (plain_due (ReadOf x) p h t l)
-  plain_deliver (SizeofTerm n e) p h to t l = refl
+  plain_deliver (SizeOfExpression n e) p h to t l = refl
   plain_deliver (SizeOf n) p h to t l = refl
   plain_deliver (AddressOf ty x) p h to t l = absurd p
   plain_deliver (CallOf ty f ts es) p h to t l = absurd p

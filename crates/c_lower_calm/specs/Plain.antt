@@ -3,7 +3,7 @@ use Rattle.c_types.specs.declared.types.CType.{CType}
 use Rattle.c_types.specs.declared.typed.UnaryOperator.{UnaryOperator}
 use Rattle.c_types.specs.declared.typed.UnaryOperator.TheVariants as unaries
 use Rattle.c_types.specs.Typed.{APlace, VariableAt, PointedBy, ElementBy, AnExpression, Constant, LiteralAt, ArrayAt}
-use Rattle.c_types.specs.Typed.{ReadOf, SizeofTerm, SizeOf, AddressOf, CallOf, StepOf}
+use Rattle.c_types.specs.Typed.{ReadOf, SizeOfExpression, SizeOf, AddressOf, CallOf, StepOf}
 use Rattle.c_types.specs.Typed.{UnaryOf, CastTo, ConvertTo, ArithmeticOf, CompareOf, BothOf, EitherOf, AdvanceOf}
 use Rattle.c_types.specs.Typed.{AdvanceByOf, RetreatOf, DistanceOf, ChoiceOf, AssignTo}
 use Rattle.c_types.specs.Typed.{ArithmeticAssignTo, AdvanceAssignTo, RetreatAssignTo, CommaOf}
@@ -31,7 +31,7 @@ abbrev mutual
   Plain (LiteralAt object size) = Unit {0}
   Plain (ArrayAt t v size) = Unit {0}
   Plain (ReadOf p) = PlainPlace p
-  Plain (SizeofTerm n e) = Unit {0}
+  Plain (SizeOfExpression n e) = Unit {0}
   Plain (SizeOf n) = Unit {0}
   Plain (AddressOf t p) = ⊥
   Plain (CallOf t f to es) = ⊥
@@ -80,7 +80,7 @@ abbrev mutual
   plain_tree (LiteralAt object size) = Gaddr object
   plain_tree (ArrayAt t v size) = address_tree (where_of v)
   plain_tree (ReadOf p) = read_from (type_at p) (place_at p)
-  plain_tree (SizeofTerm n e) = Num n
+  plain_tree (SizeOfExpression n e) = Num n
   plain_tree (SizeOf n) = Num n
   plain_tree (AddressOf t p) = Num 0
   plain_tree (CallOf t f to es) = Num 0

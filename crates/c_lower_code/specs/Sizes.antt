@@ -1,7 +1,7 @@
 -- How large phrases are: what a lowering of their parts goes down by.
 use Rattle.std.specs.Prelude.{ℕ, ◌+◌}
 use Rattle.c_types.specs.Typed.{APlace, VariableAt, PointedBy, ElementBy, AnExpression, Constant, LiteralAt, ArrayAt}
-use Rattle.c_types.specs.Typed.{ReadOf, SizeofTerm, SizeOf, AddressOf, CallOf, StepOf, UnaryOf, CastTo, ConvertTo}
+use Rattle.c_types.specs.Typed.{ReadOf, SizeOfExpression, SizeOf, AddressOf, CallOf, StepOf, UnaryOf, CastTo, ConvertTo}
 use Rattle.c_types.specs.Typed.{ArithmeticOf, CompareOf, BothOf, EitherOf, AdvanceOf, AdvanceByOf, RetreatOf}
 use Rattle.c_types.specs.Typed.{DistanceOf, ChoiceOf, AssignTo, ArithmeticAssignTo, AdvanceAssignTo, RetreatAssignTo}
 use Rattle.c_types.specs.Typed.{CommaOf, SomeExpressions, NoExpressions, MoreExpressions}
@@ -17,7 +17,7 @@ abbrev mutual
   size (LiteralAt n bytes) = 1
   size (ArrayAt t v bytes) = 1
   size (ReadOf p) = 1 + place_size p
-  size (SizeofTerm n e) = 1 + size e
+  size (SizeOfExpression n e) = 1 + size e
   size (SizeOf n) = 1
   size (AddressOf t p) = 1 + place_size p
   size (CallOf t f to es) = 1 + all_size es

@@ -1,6 +1,6 @@
 // Expressions, in the four ways in which they are lowered.
 ghost use Rattle.std.specs.Prelude.{◌≡◌, IfOk, true, false};
-ghost use Rattle.c_types.specs.Typed.{terms};
+ghost use Rattle.c_types.specs.Typed.{expressions_of};
 ghost use Rattle.c_lower_scheme.specs.Parts as parts;
 ghost use Rattle.c_lower_scheme.specs.Places.{integer_of};
 ghost use Rattle.c_lower_scheme.specs.Conditions as conditions;
@@ -244,7 +244,7 @@ fn assign_effect(
 // The arguments of a call, whose parameters have these types.
 #[cycle(expression)]
 fn pass(frame: Frame, es: &[Expression], to: &[CType], t: u32, l: u32) -> Result<Passing, NoMemory>
-    ensures { IfOk result (λ r. passing r ≡ expressions.pass frame.locals frame.functions (terms es.now) to.now t l) }
+    ensures { IfOk result (λ r. passing r ≡ expressions.pass frame.locals frame.functions (expressions_of es.now) to.now t l) }
 {
     match es.split_first() {
         None => Ok(no_arguments(frame.alloc, t, l)),

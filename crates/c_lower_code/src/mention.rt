@@ -1,6 +1,6 @@
 // Whether an automatic local is named in an expression that is evaluated.
 ghost use Rattle.std.specs.Prelude.{◌≡◌};
-ghost use Rattle.c_types.specs.Typed.{term, place_of, terms};
+ghost use Rattle.c_types.specs.Typed.{expression_of, place_of, expressions_of};
 ghost use Rattle.c_lower_scheme.specs.Mentions.{is_local, mentions, place_mentions, any_mentions};
 
 use c_types::{Expression, Place, Variable};
@@ -31,7 +31,7 @@ fn place_mentions(local: u32, place: &Place) -> bool
 // Whether it is named in one of these.
 #[cycle(mentions)]
 fn any_mentions(local: u32, es: &[Expression]) -> bool
-    ensures { result ≡ any_mentions local (terms es.now) }
+    ensures { result ≡ any_mentions local (expressions_of es.now) }
 {
     match es.split_first() {
         None => false,
@@ -42,7 +42,7 @@ fn any_mentions(local: u32, es: &[Expression]) -> bool
 /// Whether the automatic local is named in the expression; what `sizeof` measures is not evaluated.
 #[cycle(mentions)]
 pub(crate) fn mentions(local: u32, e: &Expression) -> bool
-    ensures { result ≡ mentions local (term e.now) }
+    ensures { result ≡ mentions local (expression_of e.now) }
 {
     match e {
         Expression::Number(_) => false,

@@ -1,6 +1,6 @@
 // Statements. Temporaries begin anew at each full expression.
 ghost use Rattle.std.specs.Prelude.{◌≡◌, IfOk, map};
-ghost use Rattle.c_types.specs.Typed.{term};
+ghost use Rattle.c_types.specs.Typed.{expression_of};
 ghost use Rattle.c_program.specs.Statements.{act, acts, declaration, maybe_term};
 ghost use Rattle.c_lower_scheme.specs.Statements as statements;
 ghost use Rattle.c_lower_code.specs.Views.{done};
@@ -22,14 +22,14 @@ use gg_base::NoMemory;
 
 // A condition that falls through where it holds, and else goes to a label.
 fn unless(frame: Frame, c: &Expression, to: u32, l: u32) -> Result<Emitted, NoMemory>
-    ensures { IfOk result (λ r. done r ≡ statements.unless frame.locals frame.functions (term c.now) to l) }
+    ensures { IfOk result (λ r. done r ≡ statements.unless frame.locals frame.functions (expression_of c.now) to l) }
 {
     branch(frame, c, false, to, frame.locals, l)
 }
 
 // A condition that goes to a label where it holds.
 fn when(frame: Frame, c: &Expression, to: u32, l: u32) -> Result<Emitted, NoMemory>
-    ensures { IfOk result (λ r. done r ≡ statements.when frame.locals frame.functions (term c.now) to l) }
+    ensures { IfOk result (λ r. done r ≡ statements.when frame.locals frame.functions (expression_of c.now) to l) }
 {
     branch(frame, c, true, to, frame.locals, l)
 }
@@ -140,7 +140,7 @@ fn for_of(
 #[cycle(statement)]
 fn while_of(frame: Frame, body: &Action, c: &Expression, l: u32) -> Result<Emitted, NoMemory>
     ensures { IfOk result (λ r. done r ≡ statements.lower frame.locals frame.functions
-        (WhileOf (term c.now) (act body.now)) NoActions 0 0 l) }
+        (WhileOf (expression_of c.now) (act body.now)) NoActions 0 0 l) }
 {
     let onward = after(l)?;
     let end = after(onward)?;
@@ -161,7 +161,7 @@ fn while_of(frame: Frame, body: &Action, c: &Expression, l: u32) -> Result<Emitt
 // A `do`.
 #[cycle(statement)]
 fn do_of(frame: Frame, body: &Action, c: &Expression, l: u32) -> Result<Emitted, NoMemory>
-    ensures { IfOk result (λ r. done r ≡ statements.lower frame.locals frame.functions (DoOf (act body.now) (term c.now)) NoActions 0 0 l) }
+    ensures { IfOk result (λ r. done r ≡ statements.lower frame.locals frame.functions (DoOf (act body.now) (expression_of c.now)) NoActions 0 0 l) }
 {
     let onward = after(l)?;
     let end = after(onward)?;
@@ -205,7 +205,7 @@ fn if_of(
     l: u32,
 ) -> Result<Emitted, NoMemory>
     ensures { IfOk result (λ r. done r ≡ statements.lower frame.locals frame.functions
-        (IfOf (term c.now) (act a.now)) NoActions broken onward l) }
+        (IfOf (expression_of c.now) (act a.now)) NoActions broken onward l) }
 {
     match going(a, broken, onward) {
         Some(to) => when(frame, c, to, l),

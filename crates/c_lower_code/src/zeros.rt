@@ -1,6 +1,6 @@
 // Whether the zero of a declaration is written: it isn't where the local is assigned to before anything names it.
 ghost use Rattle.std.specs.Prelude.{◌≡◌, map};
-ghost use Rattle.c_types.specs.Typed.{term, place_of};
+ghost use Rattle.c_types.specs.Typed.{expression_of, place_of};
 ghost use Rattle.c_program.specs.Statements.{acts, declaration, maybe_term};
 ghost use Rattle.c_lower_scheme.specs.Zeros.{is_at, sets, maybe_sets, is_overwritten, is_zeroed};
 
@@ -21,7 +21,7 @@ fn is_at(local: u32, place: &Place) -> bool
 
 // Whether an expression assigns to the local a value that does not name it.
 fn sets(local: u32, e: &Expression) -> bool
-    ensures { result ≡ sets local (term e.now) }
+    ensures { result ≡ sets local (expression_of e.now) }
 {
     match e {
         Expression::Assign(p, e) => is_at(local, p) && !mentions(local, e),

@@ -7,7 +7,7 @@ use Rattle.c_types.specs.declared.typed.UnaryOperator.TheVariants as unaries
 use Rattle.c_types.specs.declared.typed.Moment.{Moment}
 use Rattle.c_types.specs.declared.typed.Moment.TheVariants as moments
 use Rattle.c_types.specs.declared.typed.Direction.{Direction}
-use Rattle.c_types.specs.Typed.{APlace, VariableAt, PointedBy, ElementBy, AnExpression, Constant, LiteralAt, ArrayAt, ReadOf, SizeofTerm, SizeOf, AddressOf, CallOf, StepOf}
+use Rattle.c_types.specs.Typed.{APlace, VariableAt, PointedBy, ElementBy, AnExpression, Constant, LiteralAt, ArrayAt, ReadOf, SizeOfExpression, SizeOf, AddressOf, CallOf, StepOf}
 use Rattle.c_types.specs.Typed.{UnaryOf, CastTo, ConvertTo, ArithmeticOf, CompareOf, BothOf, EitherOf, AdvanceOf, AdvanceByOf, RetreatOf, DistanceOf, ChoiceOf, AssignTo}
 use Rattle.c_types.specs.Typed.{ArithmeticAssignTo, AdvanceAssignTo, RetreatAssignTo, CommaOf, SomeExpressions, NoExpressions, MoreExpressions}
 use Rattle.c_program.specs.Need.{place_nodes, nodes, all_nodes}
@@ -80,7 +80,7 @@ module _ (size count : ℕ) where
     way_takes (LiteralAt n bytes) = valued_takes _ _ (λ t l. omega arith)
     way_takes (ArrayAt ty v bytes) = valued_takes _ _ (λ t l. omega arith)
     way_takes (ReadOf p) = valued_takes _ _ (λ t l. place_takes p t l)
-    way_takes (SizeofTerm n e) = valued_takes _ _ (λ t l. omega arith)
+    way_takes (SizeOfExpression n e) = valued_takes _ _ (λ t l. omega arith)
     way_takes (SizeOf n) = valued_takes _ _ (λ t l. omega arith)
     way_takes (AddressOf ty p) = valued_takes _ _ (λ t l. let x = place_takes p t l in omega arith)
     way_takes (CallOf ty f to es) = record {

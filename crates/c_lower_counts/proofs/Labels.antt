@@ -2,7 +2,7 @@
 use Rattle.std.proofs.Common.{ℕ, suc, ◌+◌, ◌*◌, ◌≤◌, List, [], ◌∷◌, length, arith}
 use Rattle.std.specs.Prelude.{true, false, Option, Some, None}
 use Rattle.c_types.specs.Constants.{constant_of}
-use Rattle.c_types.specs.Typed.{APlace, VariableAt, PointedBy, ElementBy, AnExpression, Constant, LiteralAt, ArrayAt, ReadOf, SizeofTerm, SizeOf, AddressOf, CallOf, StepOf}
+use Rattle.c_types.specs.Typed.{APlace, VariableAt, PointedBy, ElementBy, AnExpression, Constant, LiteralAt, ArrayAt, ReadOf, SizeOfExpression, SizeOf, AddressOf, CallOf, StepOf}
 use Rattle.c_types.specs.Typed.{UnaryOf, CastTo, ConvertTo, ArithmeticOf, CompareOf, BothOf, EitherOf, AdvanceOf, AdvanceByOf, RetreatOf, DistanceOf, ChoiceOf, AssignTo}
 use Rattle.c_types.specs.Typed.{ArithmeticAssignTo, AdvanceAssignTo, RetreatAssignTo, CommaOf}
 use Rattle.c_program.specs.Need.{nodes, place_nodes, maybe_nodes}
@@ -30,7 +30,7 @@ mutual
   has_nodes (LiteralAt object size) = omega arith
   has_nodes (ArrayAt t v size) = omega arith
   has_nodes (ReadOf p) = place_has_nodes p
-  has_nodes (SizeofTerm n e) = omega arith
+  has_nodes (SizeOfExpression n e) = omega arith
   has_nodes (SizeOf n) = omega arith
   has_nodes (AddressOf t p) = omega arith
   has_nodes (CallOf t f to es) = omega arith

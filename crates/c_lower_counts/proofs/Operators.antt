@@ -21,7 +21,7 @@ use Rattle.c_types.specs.declared.typed.ArithmeticOperator.TheVariants as ariths
 use Rattle.c_types.specs.declared.typed.Moment.{Moment}
 use Rattle.c_types.specs.Answers.{Fault, ◌>>=◌}
 use Rattle.c_types.specs.Types.{is_integer, is_scalar, pointer_to, size_of}
-use Rattle.c_types.specs.Typed.{APlace, VariableAt, PointedBy, ElementBy, AnExpression, ReadOf, SizeofTerm, SizeOf, UnaryOf, CastTo, ArithmeticAssignTo, AssignTo, place_type, type_of, operand_size}
+use Rattle.c_types.specs.Typed.{APlace, VariableAt, PointedBy, ElementBy, AnExpression, ReadOf, SizeOfExpression, SizeOf, UnaryOf, CastTo, ArithmeticAssignTo, AssignTo, place_type, type_of, operand_size}
 use Rattle.c_types.specs.Typed.{SomeExpressions}
 use Rattle.c_program.specs.Need.{place_nodes, nodes, all_nodes}
 use Rattle.c_typed_scope.specs.declared.entry.Signature.{Signature}
@@ -193,7 +193,7 @@ cast_nodes at t x = tested _ (is_scalar t && is_scalar (type_of x)) (CastTo t x)
 
 pub sizeof_nodes : (at : ℕ) (x : AnExpression) → Within (1 + nodes x) (sizeof_of at x)
 unfolding sizeof_of
-sizeof_nodes at x = tested _ (is_scalar (type_of x)) (SizeofTerm (operand_size x) x) _ (omega arith)
+sizeof_nodes at x = tested _ (is_scalar (type_of x)) (SizeOfExpression (operand_size x) x) _ (omega arith)
 
 pub sizeof_type_nodes : (at : ℕ) (t : CType) → Within 1 (sizeof_type_of at t)
 unfolding sizeof_type_of

@@ -31,7 +31,7 @@ use Rattle.c_types.specs.declared.typed.Moment.TheVariants as moments
 use Rattle.c_types.specs.declared.typed.Direction.{Direction}
 use Rattle.c_types.specs.declared.typed.Direction.TheVariants as directions
 use Rattle.c_types.specs.Constants.{converted, apply_unary, apply, scale, advanced, retreated, distance}
-use Rattle.c_types.specs.Typed.{APlace, VariableAt, PointedBy, ElementBy, AnExpression, Constant, LiteralAt, ArrayAt, ReadOf, SizeofTerm, SizeOf, AddressOf, CallOf, StepOf}
+use Rattle.c_types.specs.Typed.{APlace, VariableAt, PointedBy, ElementBy, AnExpression, Constant, LiteralAt, ArrayAt, ReadOf, SizeOfExpression, SizeOf, AddressOf, CallOf, StepOf}
 use Rattle.c_types.specs.Typed.{UnaryOf, CastTo, ConvertTo, ArithmeticOf, CompareOf, BothOf, EitherOf, AdvanceOf, AdvanceByOf, RetreatOf, DistanceOf, ChoiceOf, AssignTo}
 use Rattle.c_types.specs.Typed.{ArithmeticAssignTo, AdvanceAssignTo, RetreatAssignTo, CommaOf, SomeExpressions, NoExpressions, MoreExpressions}
 use Rattle.c_types.proofs.Sizes.{scale_small}
@@ -482,7 +482,7 @@ module _ (program : TreeProgram) (code : List TreeItem) (callers : List Activati
     way_does (ArrayAt ty v bytes) fit = valued_does program code callers size count scope level within (due (address_tree (where_of v))) (array_address p v) (λ t l sz. array_does v t l)
     way_does (ReadOf a) fit = valued_does program code callers size count scope level within (λ t l. read_low (seek size count a t l)) (λ κ. place p next a (λ ty s. read_at ty s κ))
         (λ t l sz. read_does program code callers size count scope level within (seek size count a t l) t (place p next a) sz (seek_does a fit t l sz))
-    way_does (SizeofTerm n e) fit = valued_does program code callers size count scope level within (due (Num n)) (λ κ. κ n) (λ t l sz. number_does n fit t l)
+    way_does (SizeOfExpression n e) fit = valued_does program code callers size count scope level within (due (Num n)) (λ κ. κ n) (λ t l sz. number_does n fit t l)
     way_does (SizeOf n) fit = valued_does program code callers size count scope level within (due (Num n)) (λ κ. κ n) (λ t l sz. number_does n fit t l)
     way_does (AddressOf ty a) fit = valued_does program code callers size count scope level within (λ t l. address_low (seek size count a t l))
         (λ κ. place p next a (λ ty s. address_of s κ)) (λ t l sz. address_does program code callers size count scope level within (seek size count a t l) t (place p next a) (seek_does a fit t l sz))

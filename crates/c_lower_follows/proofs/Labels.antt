@@ -13,7 +13,7 @@ use Rattle.c_types.specs.declared.typed.Moment.{Moment}
 use Rattle.c_types.specs.declared.typed.Moment.TheVariants as moments
 use Rattle.c_types.specs.declared.typed.Direction.{Direction}
 use Rattle.c_types.specs.Constants.{scale, constant_of}
-use Rattle.c_types.specs.Typed.{APlace, VariableAt, PointedBy, ElementBy, AnExpression, Constant, LiteralAt, ArrayAt, ReadOf, SizeofTerm, SizeOf, AddressOf, CallOf, StepOf}
+use Rattle.c_types.specs.Typed.{APlace, VariableAt, PointedBy, ElementBy, AnExpression, Constant, LiteralAt, ArrayAt, ReadOf, SizeOfExpression, SizeOf, AddressOf, CallOf, StepOf}
 use Rattle.c_types.specs.Typed.{UnaryOf, CastTo, ConvertTo, ArithmeticOf, CompareOf, BothOf, EitherOf, AdvanceOf, AdvanceByOf, RetreatOf, DistanceOf, ChoiceOf, AssignTo}
 use Rattle.c_types.specs.Typed.{ArithmeticAssignTo, AdvanceAssignTo, RetreatAssignTo, CommaOf, SomeExpressions, NoExpressions, MoreExpressions}
 use Rattle.c_program.specs.Statements.{ADeclaration, KeepOf, ClearOf, BeginOf, AnAction, SomeActions, NoActions, MoreActions, DeclareOf, BlockOf, EvaluateOf, BreakOf, ContinueOf}
@@ -353,7 +353,7 @@ module _ (size count : ℕ) where
     once_way (LiteralAt n bytes) = once_valued _ (λ t l. once_nil l)
     once_way (ArrayAt ty v bytes) = once_valued _ (λ t l. once_nil l)
     once_way (ReadOf a) = once_valued _ (λ t l. once_seek a t l)
-    once_way (SizeofTerm n e) = once_valued _ (λ t l. once_nil l)
+    once_way (SizeOfExpression n e) = once_valued _ (λ t l. once_nil l)
     once_way (SizeOf n) = once_valued _ (λ t l. once_nil l)
     once_way (AddressOf ty a) = once_valued _ (λ t l. once_seek a t l)
     once_way (CallOf ty f to es) =

@@ -4,7 +4,7 @@ use Rattle.std.specs.Prelude.{Bool, true, false, not, ◌==◌, ◌&&◌, ◌||�
 use Rattle.std.proofs.lemmas.Bool.{cases_eq, eqb-true, eqb-false, or_parts, or_cases, and_parts, not-true, not-false}
 use Rattle.c_types.specs.declared.types.CType.{CType}
 use Rattle.c_types.specs.declared.typed.Variable.TheVariants as variables
-use Rattle.c_types.specs.Typed.{VariableAt, PointedBy, ElementBy, AnExpression, Constant, LiteralAt, ArrayAt, ReadOf, SizeofTerm, SizeOf, AddressOf, CallOf, StepOf}
+use Rattle.c_types.specs.Typed.{VariableAt, PointedBy, ElementBy, AnExpression, Constant, LiteralAt, ArrayAt, ReadOf, SizeOfExpression, SizeOf, AddressOf, CallOf, StepOf}
 use Rattle.c_types.specs.Typed.{UnaryOf, CastTo, ConvertTo, ArithmeticOf, CompareOf, BothOf, EitherOf, AdvanceOf, AdvanceByOf, RetreatOf, DistanceOf, ChoiceOf, AssignTo}
 use Rattle.c_types.specs.Typed.{ArithmeticAssignTo, AdvanceAssignTo, RetreatAssignTo, CommaOf}
 use Rattle.c_program.specs.Statements.{ADeclaration, KeepOf, ClearOf, BeginOf, AnAction, SomeActions, MoreActions, DeclareOf, BlockOf, EvaluateOf, ForOf}
@@ -28,7 +28,7 @@ sets_or_not (Constant v) = inr (λ x. refl)
 sets_or_not (LiteralAt object bytes) = inr (λ x. refl)
 sets_or_not (ArrayAt t v bytes) = inr (λ x. refl)
 sets_or_not (ReadOf a) = inr (λ x. refl)
-sets_or_not (SizeofTerm v e) = inr (λ x. refl)
+sets_or_not (SizeOfExpression v e) = inr (λ x. refl)
 sets_or_not (SizeOf v) = inr (λ x. refl)
 sets_or_not (AddressOf t a) = inr (λ x. refl)
 sets_or_not (CallOf t f to es) = inr (λ x. refl)

@@ -4,7 +4,7 @@ use Rattle.c_types.specs.declared.types.CType.{CType}
 use Rattle.c_types.specs.declared.typed.UnaryOperator.{UnaryOperator}
 use Rattle.c_types.specs.declared.typed.UnaryOperator.TheVariants as unaries
 use Rattle.c_types.specs.Typed.{APlace, VariableAt, PointedBy, ElementBy, AnExpression, Constant, LiteralAt, ArrayAt}
-use Rattle.c_types.specs.Typed.{ReadOf, SizeofTerm, SizeOf, AddressOf, CallOf, StepOf, UnaryOf, CastTo, ConvertTo}
+use Rattle.c_types.specs.Typed.{ReadOf, SizeOfExpression, SizeOf, AddressOf, CallOf, StepOf, UnaryOf, CastTo, ConvertTo}
 use Rattle.c_types.specs.Typed.{ArithmeticOf, CompareOf, BothOf, EitherOf, AdvanceOf, AdvanceByOf, RetreatOf}
 use Rattle.c_types.specs.Typed.{DistanceOf, ChoiceOf, AssignTo, ArithmeticAssignTo, AdvanceAssignTo, RetreatAssignTo}
 use Rattle.c_types.specs.Typed.{CommaOf, SomeExpressions, NoExpressions, MoreExpressions}
@@ -36,7 +36,7 @@ module _ (size count : ℕ) where
     way (LiteralAt n bytes) = valued (due (Gaddr n))
     way (ArrayAt t v bytes) = valued (due (address_tree (where_of v)))
     way (ReadOf p) = valued (λ t l. read_low (seek p t l))
-    way (SizeofTerm n e) = valued (due (Num n))
+    way (SizeOfExpression n e) = valued (due (Num n))
     way (SizeOf n) = valued (due (Num n))
     way (AddressOf ty p) = valued (λ t l. address_low (seek p t l))
     way (CallOf ty f to es) = record {

@@ -6,7 +6,7 @@ use Rattle.c_types.specs.declared.typed.Callee.{Callee}
 use Rattle.c_types.specs.declared.typed.Variable.{Variable}
 use Rattle.c_types.specs.declared.typed.UnaryOperator.{UnaryOperator}
 use Rattle.c_types.specs.declared.typed.UnaryOperator.TheVariants as unaries
-use Rattle.c_types.specs.Typed.{APlace, VariableAt, PointedBy, ElementBy, AnExpression, Constant, LiteralAt, ArrayAt, ReadOf, SizeofTerm, SizeOf, AddressOf, CallOf, StepOf}
+use Rattle.c_types.specs.Typed.{APlace, VariableAt, PointedBy, ElementBy, AnExpression, Constant, LiteralAt, ArrayAt, ReadOf, SizeOfExpression, SizeOf, AddressOf, CallOf, StepOf}
 use Rattle.c_types.specs.Typed.{UnaryOf, CastTo, ConvertTo, ArithmeticOf, CompareOf, BothOf, EitherOf, AdvanceOf, AdvanceByOf, RetreatOf, DistanceOf, ChoiceOf, AssignTo}
 use Rattle.c_types.specs.Typed.{ArithmeticAssignTo, AdvanceAssignTo, RetreatAssignTo, CommaOf, SomeExpressions, NoExpressions, MoreExpressions}
 use Rattle.c_sound.specs.Fits.{Fits, FitsAt, FitsAll}
@@ -86,7 +86,7 @@ module _ (objects most params size count : ℕ) (takes : Callee → ℕ → Type
     way_long scope (ArrayAt ty v bytes) f s = valued_long objects most _
         (due_long objects most (address_tree (where_of v)) (long_where objects most params v s))
     way_long scope (ReadOf p) f s = valued_long objects most _ (λ t l. read_long objects most l _ (place_long scope p f s t l))
-    way_long scope (SizeofTerm n e) f s = valued_long objects most _ (due_long objects most (Num n) f)
+    way_long scope (SizeOfExpression n e) f s = valued_long objects most _ (due_long objects most (Num n) f)
     way_long scope (SizeOf n) f s = valued_long objects most _ (due_long objects most (Num n) f)
     way_long scope (AddressOf ty p) f s = valued_long objects most _ (λ t l. address_long objects most l _ (place_long scope p f s t l))
     way_long scope (CallOf ty g to es) f s =

@@ -10,7 +10,7 @@ use Rattle.c_types.specs.declared.typed.Moment.{Moment}
 use Rattle.c_types.specs.declared.typed.Moment.TheVariants as moments
 use Rattle.c_types.specs.declared.typed.Direction.{Direction}
 use Rattle.c_types.specs.Constants.{scale}
-use Rattle.c_types.specs.Typed.{APlace, VariableAt, PointedBy, ElementBy, AnExpression, Constant, LiteralAt, ArrayAt, ReadOf, SizeofTerm, SizeOf, AddressOf, CallOf, StepOf}
+use Rattle.c_types.specs.Typed.{APlace, VariableAt, PointedBy, ElementBy, AnExpression, Constant, LiteralAt, ArrayAt, ReadOf, SizeOfExpression, SizeOf, AddressOf, CallOf, StepOf}
 use Rattle.c_types.specs.Typed.{UnaryOf, CastTo, ConvertTo, ArithmeticOf, CompareOf, BothOf, EitherOf, AdvanceOf, AdvanceByOf, RetreatOf, DistanceOf, ChoiceOf, AssignTo}
 use Rattle.c_types.specs.Typed.{ArithmeticAssignTo, AdvanceAssignTo, RetreatAssignTo, CommaOf, SomeExpressions, NoExpressions, MoreExpressions}
 use Rattle.c_lower_scheme.specs.Trees.{Tree, Num, Loc, Neg, Com, Bin, Item, AssignLoc}
@@ -174,7 +174,7 @@ module _ (size count : ℕ) where
     marked_way (LiteralAt n bytes) = marked_valued _ (λ t l. marked_nil nowhere l)
     marked_way (ArrayAt ty v bytes) = marked_valued _ (λ t l. marked_nil nowhere l)
     marked_way (ReadOf a) = marked_valued _ (λ t l. marked_seek a t l)
-    marked_way (SizeofTerm n e) = marked_valued _ (λ t l. marked_nil nowhere l)
+    marked_way (SizeOfExpression n e) = marked_valued _ (λ t l. marked_nil nowhere l)
     marked_way (SizeOf n) = marked_valued _ (λ t l. marked_nil nowhere l)
     marked_way (AddressOf ty a) = marked_valued _ (λ t l. marked_seek a t l)
     marked_way (CallOf ty f to es) =

@@ -5,7 +5,7 @@ use Rattle.c_types.specs.declared.types.CType.{CType}
 use Rattle.c_types.specs.declared.typed.Variable.{Variable}
 use Rattle.c_types.specs.declared.typed.Variable.TheVariants as variables
 use Rattle.c_types.specs.declared.typed.Callee.{Callee}
-use Rattle.c_types.specs.Typed.{APlace, VariableAt, PointedBy, ElementBy, AnExpression, Constant, LiteralAt, ArrayAt, ReadOf, SizeofTerm, SizeOf, AddressOf, CallOf, StepOf}
+use Rattle.c_types.specs.Typed.{APlace, VariableAt, PointedBy, ElementBy, AnExpression, Constant, LiteralAt, ArrayAt, ReadOf, SizeOfExpression, SizeOf, AddressOf, CallOf, StepOf}
 use Rattle.c_types.specs.Typed.{UnaryOf, CastTo, ConvertTo, ArithmeticOf, CompareOf, BothOf, EitherOf, AdvanceOf, AdvanceByOf, RetreatOf, DistanceOf, ChoiceOf, AssignTo}
 use Rattle.c_types.specs.Typed.{ArithmeticAssignTo, AdvanceAssignTo, RetreatAssignTo, CommaOf, SomeExpressions, NoExpressions, MoreExpressions}
 use Rattle.c_sound.specs.Fits.{StandsIn, Fits, FitsAt, FitsAll}
@@ -74,7 +74,7 @@ module _ (scene : Scene) (size count : ℕ) (takes : Callee → ℕ → Type 0)
         (λ t l le. fine_due scene size count (address_tree (where_of v)) t l (ok_array v t s))
     fine_way scope within (ReadOf a) f s = fine_valued scene size count _
         (λ t l le. fine_read scene t (Expressions.seek size count a t l) (fine_seek scope within a f s t l le))
-    fine_way scope within (SizeofTerm n e) f s = fine_valued scene size count _ (λ t l le. fine_due scene size count (Num n) t l tt)
+    fine_way scope within (SizeOfExpression n e) f s = fine_valued scene size count _ (λ t l le. fine_due scene size count (Num n) t l tt)
     fine_way scope within (SizeOf n) f s = fine_valued scene size count _ (λ t l le. fine_due scene size count (Num n) t l tt)
     fine_way scope within (AddressOf ty a) f s = fine_valued scene size count _
         (λ t l le. fine_address scene t (Expressions.seek size count a t l) (fine_seek scope within a f s t l le))

@@ -10,7 +10,7 @@ use Rattle.c_types.specs.declared.typed.Callee.TheVariants as callees
 use Rattle.c_types.specs.declared.typed.Direction.{Direction}
 use Rattle.c_types.specs.declared.typed.Moment.{Moment}
 use Rattle.c_types.specs.Constants.{converted, apply, distance}
-use Rattle.c_types.specs.Typed.{APlace, VariableAt, PointedBy, ElementBy, AnExpression, Constant, LiteralAt, ArrayAt, ReadOf, SizeofTerm, SizeOf, AddressOf, CallOf, StepOf}
+use Rattle.c_types.specs.Typed.{APlace, VariableAt, PointedBy, ElementBy, AnExpression, Constant, LiteralAt, ArrayAt, ReadOf, SizeOfExpression, SizeOf, AddressOf, CallOf, StepOf}
 use Rattle.c_types.specs.Typed.{UnaryOf, CastTo, ConvertTo, ArithmeticOf, CompareOf, BothOf, EitherOf, AdvanceOf, AdvanceByOf, RetreatOf, DistanceOf, ChoiceOf, AssignTo}
 use Rattle.c_types.specs.Typed.{ArithmeticAssignTo, AdvanceAssignTo, RetreatAssignTo, CommaOf, SomeExpressions, NoExpressions, MoreExpressions}
 use Rattle.c_program.specs.Statements.{ADeclaration, KeepOf, ClearOf, BeginOf, AnAction, SomeActions, NoActions, MoreActions, DeclareOf, BlockOf, EvaluateOf, BreakOf, ContinueOf}
@@ -152,7 +152,7 @@ module _ (R : ℕ → Runs → Runs → Type 0) (kept : Kept R) where
       expr_kept (LiteralAt x size) k le κ μ h = wild_kept k (address p.objects x) κ μ h
       expr_kept (ArrayAt t v size) k le κ μ h = located_kept k (spot_of p.objects v) _ _ (λ s. address_kept k s κ μ h)
       expr_kept (ReadOf a) k le κ μ h = place_kept a k le _ _ (λ t s. read_kept k t s κ μ h)
-      expr_kept (SizeofTerm x e) k le κ μ h = h x
+      expr_kept (SizeOfExpression x e) k le κ μ h = h x
       expr_kept (SizeOf x) k le κ μ h = h x
       expr_kept (AddressOf t a) k le κ μ h = place_kept a k le _ _ (λ t s. address_kept k s κ μ h)
       expr_kept (CallOf t c to es) k le κ μ h = arguments_kept es to k le _ _ (λ vs. call_kept k le c vs κ μ h)

@@ -11,7 +11,7 @@ use Rattle.c_types.specs.declared.typed.Expression.{Expression}
 use Rattle.c_types.specs.declared.types.CType.{CType}
 use Rattle.c_types.specs.declared.typed.Callee.{Callee}
 use Rattle.c_types.specs.Constants.{converted}
-use Rattle.c_types.specs.Typed.{SomeExpressions, term}
+use Rattle.c_types.specs.Typed.{SomeExpressions, expression_of}
 use Rattle.c_program.specs.declared.statement.Action.{Action}
 use Rattle.c_program.specs.Statements.{acts, maybe_term}
 use Rattle.gg_base.specs.declared.run.End.TheVariants.{Deep}
@@ -49,8 +49,8 @@ use Rattle.c_meaning.specs.FrameWork.{value_work, flow_work, frame_work, frames_
 use Rattle.c_meaning.specs.Runner.{Progress, Makes, Does, Steps, Goes, Waiting, Counts, Resumes, Reaches}
 
 -- the work of one that is equal
-pub term_same : {a b : Expression} → a ≡ b → term_work (term a) ≡ term_work (term b)
-term_same e = ap (λ x. term_work (term x)) e
+pub term_same : {a b : Expression} → a ≡ b → term_work (expression_of a) ≡ term_work (expression_of b)
+term_same e = ap (λ x. term_work (expression_of x)) e
 
 pub stack_push : (p : AProgram) (κ : Then) (fs : List Frame) (f : Frame) → stack p κ (fs ++ f ∷ []) ≡ before p f (stack p κ fs)
 stack_push p κ [] f = refl
@@ -191,11 +191,11 @@ look_is m l none =
 -- the same, where it has one
 pub look_behind : (m : Machine) (l : Loop) (e : Bor Expression) → l.step ≡ Some e
     → dropped (program_of m) (tasks_of m) (loop_of l).step (tasks_of m (Look (loop_of l)) (with_flow (waits m))) (state m.store)
-    ≡ expr (program_of m) (tasks_of m) (term e.now) (λ v. look_at (program_of m) (tasks_of m) (loop_of l) (with_flow (waits m))) (state m.store)
+    ≡ expr (program_of m) (tasks_of m) (expression_of e.now) (λ v. look_at (program_of m) (tasks_of m) (loop_of l) (with_flow (waits m))) (state m.store)
 look_behind m l e is =
     let p = program_of m in
     ap (λ o. dropped p (means p) (maybe_bor o) (means p (Look (loop_of l)) (with_flow (waits m))) (state m.store)) is
-    ∙ ap (λ (κ : State → Runs). expr p (means p) (term e.now) (λ v. κ) (state m.store)) (λ i st. means_is p (Look (loop_of l)) (with_flow (waits m)) st i)
+    ∙ ap (λ (κ : State → Runs). expr p (means p) (expression_of e.now) (λ v. κ) (state m.store)) (λ i st. means_is p (Look (loop_of l)) (with_flow (waits m)) st i)
 
 -- a part of a `for`, if it is there
 pub part_is : (o : Option (Bor Expression)) (e : Option Expression) → option_copied o ≡ e → maybe_bor o ≡ maybe_term e

@@ -1,6 +1,6 @@
 -- How many steps a machine takes until the next moment that shows.
 use Rattle.std.specs.Prelude.{ℕ, ◌+◌, List, [], ◌∷◌, map}
-use Rattle.c_types.specs.Typed.{term, terms}
+use Rattle.c_types.specs.Typed.{expression_of, expressions_of}
 use Rattle.c_program.specs.Statements.{act, acts, declaration}
 use Rattle.c_meaning.specs.declared.frame.Use.{Use}
 use Rattle.c_meaning.specs.declared.frame.Use.TheVariants as uses
@@ -21,21 +21,21 @@ abbrev pub use_work : Use → ℕ
 use_work uses.Read = 2
 use_work uses.Address = 2
 use_work (uses.Step m by) = 2
-use_work (uses.Assign e) = term_work (term e.now.value) + 2
-use_work (uses.Change op e) = term_work (term e.now.value) + 2
-use_work (uses.Advance e) = term_work (term e.now.value) + 2
-use_work (uses.Retreat e) = term_work (term e.now.value) + 2
+use_work (uses.Assign e) = term_work (expression_of e.now.value) + 2
+use_work (uses.Change op e) = term_work (expression_of e.now.value) + 2
+use_work (uses.Advance e) = term_work (expression_of e.now.value) + 2
+use_work (uses.Retreat e) = term_work (expression_of e.now.value) + 2
 
 abbrev pub value_work : ValueFrame → ℕ
 value_work (waiting.Unary op) = 1
 value_work (waiting.Convert t) = 1
-value_work (waiting.Right op e) = term_work (term e.now.value) + 1
+value_work (waiting.Right op e) = term_work (expression_of e.now.value) + 1
 value_work (waiting.Last op x) = 1
-value_work (waiting.AndRight e) = term_work (term e.now.value) + 1
-value_work (waiting.OrRight e) = term_work (term e.now.value) + 1
+value_work (waiting.AndRight e) = term_work (expression_of e.now.value) + 1
+value_work (waiting.OrRight e) = term_work (expression_of e.now.value) + 1
 value_work waiting.Truth = 1
-value_work (waiting.Choose a b) = term_work (term a.now.value) + term_work (term b.now.value) + 1
-value_work (waiting.Comma e) = term_work (term e.now.value) + 1
+value_work (waiting.Choose a b) = term_work (expression_of a.now.value) + term_work (expression_of b.now.value) + 1
+value_work (waiting.Comma e) = term_work (expression_of e.now.value) + 1
 value_work (waiting.Found t u) = use_work u + 1
 value_work (waiting.Assign t s) = 1
 value_work (waiting.Change t s op x) = 1
@@ -53,7 +53,7 @@ flow_work (leaving.Turn l) = again_to_do (loop_of l)
 
 abbrev pub frame_work : Frame → ℕ
 frame_work (ForValue f) = value_work f
-frame_work (ForArgument f done ts es) = arguments_work (terms es.now) + 1
+frame_work (ForArgument f done ts es) = arguments_work (expressions_of es.now) + 1
 frame_work (ForFlow f) = flow_work f
 frame_work (ForCall c active) = 1
 
@@ -62,7 +62,7 @@ frames_work [] = 0
 frames_work (f ∷ fs) = frame_work f + frames_work fs
 
 abbrev pub control_work : Control → ℕ
-control_work (controls.Evaluate e) = term_work (term e.now)
+control_work (controls.Evaluate e) = term_work (expression_of e.now)
 control_work (controls.Perform a) = act_work (act a.now.value)
 control_work (controls.Block ss) = acts_work (acts ss.now.items)
 control_work (controls.Declare ds) = declarations_work (map declaration ds.now)

@@ -5,7 +5,7 @@ use Rattle.gg_base.specs.Relations.{holds}
 use Rattle.c_types.specs.declared.types.CType.{CType}
 use Rattle.c_types.specs.Constants.{converted, truth, apply_unary, apply, advanced, retreated, distance}
 use Rattle.c_types.specs.Typed.{APlace, VariableAt, PointedBy, ElementBy, AnExpression, Constant, LiteralAt, ArrayAt}
-use Rattle.c_types.specs.Typed.{ReadOf, SizeofTerm, SizeOf, AddressOf, CallOf, StepOf}
+use Rattle.c_types.specs.Typed.{ReadOf, SizeOfExpression, SizeOf, AddressOf, CallOf, StepOf}
 use Rattle.c_types.specs.Typed.{UnaryOf, CastTo, ConvertTo, ArithmeticOf, CompareOf, BothOf, EitherOf, AdvanceOf}
 use Rattle.c_types.specs.Typed.{AdvanceByOf, RetreatOf, DistanceOf, ChoiceOf, AssignTo}
 use Rattle.c_types.specs.Typed.{ArithmeticAssignTo, AdvanceAssignTo, RetreatAssignTo, CommaOf, SomeExpressions}
@@ -31,7 +31,7 @@ module _ (p : AProgram) (next : Next) where
     expr (LiteralAt n size) κ = or_wild (address p.objects n) κ
     expr (ArrayAt t v size) κ = array_address p v κ
     expr (ReadOf a) κ = place a (λ t s. read_at t s κ)
-    expr (SizeofTerm n e) κ = κ n
+    expr (SizeOfExpression n e) κ = κ n
     expr (SizeOf n) κ = κ n
     expr (AddressOf t a) κ = place a (λ t s. address_of s κ)
     expr (CallOf t f to es) κ = arguments es to (λ vs. call p next f vs κ)

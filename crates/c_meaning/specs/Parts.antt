@@ -7,7 +7,7 @@ use Rattle.c_types.specs.declared.types.CType.{CType}
 use Rattle.c_types.specs.declared.typed.Expression.{Expression}
 use Rattle.c_types.specs.Constants.{truth, apply, advanced, retreated, distance}
 use Rattle.c_types.specs.Typed.{AnExpression}
-use Rattle.c_types.specs.Typed.{term}
+use Rattle.c_types.specs.Typed.{expression_of}
 use Rattle.c_program.specs.Statements.{act}
 use Rattle.c_meaning.specs.declared.operator.Operator.{Operator}
 use Rattle.c_meaning.specs.declared.operator.Operator.TheVariants as operators
@@ -30,7 +30,7 @@ got_byte (b ∷ bs) = b
 
 abbrev pub maybe_bor : Option (Bor Expression) → Option AnExpression
 maybe_bor None = None
-maybe_bor (Some e) = Some (term e.now)
+maybe_bor (Some e) = Some (expression_of e.now)
 
 abbrev pub loop_of : Loop → ALoop
 loop_of l = record { condition = maybe_bor l.condition; step = maybe_bor l.step; body = act l.body.now.value }

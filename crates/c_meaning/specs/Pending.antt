@@ -5,7 +5,7 @@ use Rattle.gg_base.specs.Runs.{Runs, stop}
 use Rattle.gg_base.specs.Turns.{end_of}
 use Rattle.c_types.specs.declared.types.CType.{CType}
 use Rattle.c_types.specs.Constants.{converted, apply_unary}
-use Rattle.c_types.specs.Typed.{term, terms}
+use Rattle.c_types.specs.Typed.{expression_of, expressions_of}
 use Rattle.c_program.specs.Statements.{act, acts, declaration}
 use Rattle.c_program.specs.Programs.{AProgram, program}
 use Rattle.c_meaning.specs.declared.flow.Flow.{Flow}
@@ -53,23 +53,23 @@ module _ (p : AProgram) where
   used uses.Read t s κ = read_at t s κ
   used uses.Address t s κ = address_of s κ
   used (uses.Step m by) t s κ = step_at m by t s κ
-  used (uses.Assign e) t s κ = expr p (means p) (term e.now.value) (λ v. store_at t s v κ)
-  used (uses.Change op e) t s κ = read_at t s (λ x. expr p (means p) (term e.now.value) (λ y. changed t s (operators.Arithmetic op) x y κ))
-  used (uses.Advance e) t s κ = read_at t s (λ x. expr p (means p) (term e.now.value) (λ y. changed t s (operators.Advance t) x y κ))
-  used (uses.Retreat e) t s κ = read_at t s (λ x. expr p (means p) (term e.now.value) (λ y. changed t s (operators.Retreat t) x y κ))
+  used (uses.Assign e) t s κ = expr p (means p) (expression_of e.now.value) (λ v. store_at t s v κ)
+  used (uses.Change op e) t s κ = read_at t s (λ x. expr p (means p) (expression_of e.now.value) (λ y. changed t s (operators.Arithmetic op) x y κ))
+  used (uses.Advance e) t s κ = read_at t s (λ x. expr p (means p) (expression_of e.now.value) (λ y. changed t s (operators.Advance t) x y κ))
+  used (uses.Retreat e) t s κ = read_at t s (λ x. expr p (means p) (expression_of e.now.value) (λ y. changed t s (operators.Retreat t) x y κ))
 
   -- a value comes to work that waits
   abbrev pub resume : ValueFrame → Then → Rest
   resume (waiting.Unary op) κ v = κ (Valued (apply_unary op v))
   resume (waiting.Convert t) κ v = κ (Valued (converted t v))
-  resume (waiting.Right op e) κ x = expr p (means p) (term e.now.value) (λ y. or_trap (combined op x y) (with_value κ))
+  resume (waiting.Right op e) κ x = expr p (means p) (expression_of e.now.value) (λ y. or_trap (combined op x y) (with_value κ))
   resume (waiting.Last op x) κ y = or_trap (combined op x y) (with_value κ)
-  resume (waiting.AndRight e) κ x = λ st. chosen x (expr p (means p) (term e.now.value) (λ y. κ (Valued (logical y))) st) (κ (Valued 0) st)
-  resume (waiting.OrRight e) κ x = λ st. chosen x (κ (Valued 1) st) (expr p (means p) (term e.now.value) (λ y. κ (Valued (logical y))) st)
+  resume (waiting.AndRight e) κ x = λ st. chosen x (expr p (means p) (expression_of e.now.value) (λ y. κ (Valued (logical y))) st) (κ (Valued 0) st)
+  resume (waiting.OrRight e) κ x = λ st. chosen x (κ (Valued 1) st) (expr p (means p) (expression_of e.now.value) (λ y. κ (Valued (logical y))) st)
   resume waiting.Truth κ y = κ (Valued (logical y))
-  resume (waiting.Choose a b) κ x = λ st. chosen x (expr p (means p) (term a.now.value) (with_value κ) st)
-      (expr p (means p) (term b.now.value) (with_value κ) st)
-  resume (waiting.Comma e) κ x = expr p (means p) (term e.now.value) (with_value κ)
+  resume (waiting.Choose a b) κ x = λ st. chosen x (expr p (means p) (expression_of a.now.value) (with_value κ) st)
+      (expr p (means p) (expression_of b.now.value) (with_value κ) st)
+  resume (waiting.Comma e) κ x = expr p (means p) (expression_of e.now.value) (with_value κ)
   resume (waiting.Found t u) κ a = used u t (Memory a) (with_value κ)
   resume (waiting.Assign t s) κ v = store_at t s v (with_value κ)
   resume (waiting.Change t s op x) κ y = changed t s op x y (with_value κ)
@@ -93,7 +93,7 @@ module _ (p : AProgram) where
   before (ForValue f) κ (Valued v) = resume f κ v
   before (ForValue f) κ (Leaves w) = κ (Leaves w)
   before (ForArgument f done ts es) κ (Valued v) = passed ts.now v (λ x us.
-      arguments p (means p) (terms es.now) us (λ xs. call p (means p) f (done.items ++ x ∷ xs) (with_value κ)))
+      arguments p (means p) (expressions_of es.now) us (λ xs. call p (means p) f (done.items ++ x ∷ xs) (with_value κ)))
   before (ForArgument f done ts es) κ (Leaves w) = κ (Leaves w)
   before (ForFlow f) κ (Valued v) = κ (Valued v)
   before (ForFlow f) κ (Leaves w) = leave f κ w
@@ -112,7 +112,7 @@ module _ (p : AProgram) where
 
   -- what is done now, and then what waits
   abbrev pub going : Control → Then → State → Runs
-  going (controls.Evaluate e) κ = expr p (means p) (term e.now) (with_value κ)
+  going (controls.Evaluate e) κ = expr p (means p) (expression_of e.now) (with_value κ)
   going (controls.Perform a) κ = stmt p (means p) (act a.now.value) (with_flow κ)
   going (controls.Block ss) κ = stmts p (means p) (acts ss.now.items) (with_flow κ)
   going (controls.Declare ds) κ = declared p (means p) (map declaration ds.now) (with_flow κ)

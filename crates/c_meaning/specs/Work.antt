@@ -1,7 +1,7 @@
 -- How many steps an expression or a statement takes until the next moment that shows.
 use Rattle.std.specs.Prelude.{ℕ, ◌+◌, List, [], ◌∷◌, Option, Some, None}
 use Rattle.c_types.specs.Typed.{APlace, VariableAt, PointedBy, ElementBy, AnExpression, Constant, LiteralAt, ArrayAt}
-use Rattle.c_types.specs.Typed.{ReadOf, SizeofTerm, SizeOf, AddressOf, CallOf, StepOf}
+use Rattle.c_types.specs.Typed.{ReadOf, SizeOfExpression, SizeOf, AddressOf, CallOf, StepOf}
 use Rattle.c_types.specs.Typed.{UnaryOf, CastTo, ConvertTo, ArithmeticOf, CompareOf, BothOf, EitherOf, AdvanceOf}
 use Rattle.c_types.specs.Typed.{AdvanceByOf, RetreatOf, DistanceOf, ChoiceOf, AssignTo}
 use Rattle.c_types.specs.Typed.{ArithmeticAssignTo, AdvanceAssignTo, RetreatAssignTo, CommaOf, SomeExpressions}
@@ -18,7 +18,7 @@ abbrev mutual
   term_work (LiteralAt n size) = 2
   term_work (ArrayAt t v size) = 2
   term_work (ReadOf a) = place_work a + 2
-  term_work (SizeofTerm n e) = 2
+  term_work (SizeOfExpression n e) = 2
   term_work (SizeOf n) = 2
   term_work (AddressOf t a) = place_work a + 2
   term_work (CallOf t f to es) = arguments_work es

@@ -1,7 +1,7 @@
 // Calls: arguments, functions and services.
 
 ghost use Rattle.std.specs.Prelude.{◌≡◌, ◌+◌, ◌++◌, ◌∷◌, IfOk};
-ghost use Rattle.c_types.specs.Typed.{terms};
+ghost use Rattle.c_types.specs.Typed.{expressions_of};
 ghost use Rattle.c_meaning.specs.Meaning.{arguments};
 ghost use Rattle.c_meaning.specs.Calls.{passed, call, called, put_char, got};
 ghost use Rattle.std.specs.Prelude.{slice_get};
@@ -31,9 +31,9 @@ impl<'a> Machine<'a> {
         rest: &'a [Expression],
     ) -> Result<Event, NoMemory>
         ensures { IfOk result (λ event. Makes self.old (λ κ. arguments (program_of self.old)
-            (tasks_of self.old) (terms rest.now) to.now
+            (tasks_of self.old) (expressions_of rest.now) to.now
             (λ vs. call (program_of self.old) (tasks_of self.old) callee (done.items ++ vs)
-            (with_value κ))) (arguments_work (terms rest.now)) event self.new) }
+            (with_value κ))) (arguments_work (expressions_of rest.now)) event self.new) }
     {
         match rest.split_first() {
             None => self.call(alloc, callee, done),
@@ -52,9 +52,9 @@ impl<'a> Machine<'a> {
         value: u32,
     ) -> Result<Event, NoMemory>
         ensures { IfOk result (λ event. Makes self.old (λ κ. passed to.now value
-            (λ x ts. arguments (program_of self.old) (tasks_of self.old) (terms rest.now) ts
+            (λ x ts. arguments (program_of self.old) (tasks_of self.old) (expressions_of rest.now) ts
             (λ vs. call (program_of self.old) (tasks_of self.old) callee (done.items ++ x ∷ vs)
-            (with_value κ)))) (arguments_work (terms rest.now) + 1) event self.new) }
+            (with_value κ)))) (arguments_work (expressions_of rest.now) + 1) event self.new) }
     {
         match to.split_first() {
             None => Ok(self.stop(Finish::Wild)),

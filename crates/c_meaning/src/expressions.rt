@@ -2,7 +2,7 @@
 
 ghost use Rattle.std.specs.Prelude.{◌≡◌, ◌+◌, IfOk};
 ghost use Rattle.c_meaning.specs.declared.frame.Control.TheVariants as controls;
-ghost use Rattle.c_types.specs.Typed.{term};
+ghost use Rattle.c_types.specs.Typed.{expression_of};
 ghost use Rattle.c_meaning.specs.State.{address};
 ghost use Rattle.c_meaning.specs.Values.{or_wild, or_trap, array_address, address_of};
 ghost use Rattle.c_meaning.specs.Meaning.{expr};
@@ -66,9 +66,9 @@ impl<'a> Machine<'a> {
         right: &'a Box<Expression>,
     ) -> Result<Event, NoMemory>
         ensures { IfOk result (λ event. Makes self.old (λ κ. expr (program_of self.old)
-            (tasks_of self.old) (term left.now.value) (with_value
+            (tasks_of self.old) (expression_of left.now.value) (with_value
             (before (program_of self.old) (frames.ForValue (waiting.Right operator right.entry)) κ)))
-            (term_work (term left.now.value) + term_work (term right.now.value) + 2) event self.new) }
+            (term_work (expression_of left.now.value) + term_work (expression_of right.now.value) + 2) event self.new) }
     {
         self.wait(ValueFrame::Right(operator, right), left)
     }

@@ -1,7 +1,7 @@
 // Places: where they are, and what is done with them.
 
 ghost use Rattle.std.specs.Prelude.{◌≡◌, ◌+◌, IfOk};
-ghost use Rattle.c_types.specs.Typed.{place_of, term};
+ghost use Rattle.c_types.specs.Typed.{place_of, expression_of};
 ghost use Rattle.c_meaning.specs.Values.{read_at, store_at, or_trap, step_at, written};
 ghost use Rattle.c_meaning.specs.Meaning.{expr, place};
 ghost use Rattle.c_meaning.specs.Runner.{Makes};
@@ -67,8 +67,8 @@ impl<'a> Machine<'a> {
         right: &'a Box<Expression>,
     ) -> Result<Event, NoMemory>
         ensures { IfOk result (λ event. Makes self.old (λ κ. read_at of spot
-            (λ x. expr (program_of self.old) (tasks_of self.old) (term right.now.value)
-            (λ y. changed of spot operator x y (with_value κ)))) (term_work (term right.now.value) + 2) event self.new) }
+            (λ x. expr (program_of self.old) (tasks_of self.old) (expression_of right.now.value)
+            (λ y. changed of spot operator x y (with_value κ)))) (term_work (expression_of right.now.value) + 2) event self.new) }
     {
         match self.store.held(of, spot) {
             None => Ok(self.stop(Finish::Wild)),

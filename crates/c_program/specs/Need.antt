@@ -2,7 +2,7 @@
 use Rattle.std.specs.Prelude.{ℕ, ◌+◌, ◌*◌, max, List, [], ◌∷◌, length, Option, Some, None}
 use Rattle.c_types.specs.declared.types.CType.{CType}
 use Rattle.c_types.specs.Typed.{APlace, VariableAt, PointedBy, ElementBy, AnExpression, SomeExpressions, NoExpressions}
-use Rattle.c_types.specs.Typed.{MoreExpressions, Constant, LiteralAt, ArrayAt, ReadOf, SizeofTerm, SizeOf, AddressOf}
+use Rattle.c_types.specs.Typed.{MoreExpressions, Constant, LiteralAt, ArrayAt, ReadOf, SizeOfExpression, SizeOf, AddressOf}
 use Rattle.c_types.specs.Typed.{CallOf, StepOf, UnaryOf, CastTo, ConvertTo, ArithmeticOf, CompareOf, BothOf, EitherOf}
 use Rattle.c_types.specs.Typed.{AdvanceOf, AdvanceByOf, RetreatOf, DistanceOf, ChoiceOf, AssignTo, ArithmeticAssignTo}
 use Rattle.c_types.specs.Typed.{AdvanceAssignTo, RetreatAssignTo, CommaOf}
@@ -23,7 +23,7 @@ abbrev mutual
   nodes (LiteralAt object size) = 1
   nodes (ArrayAt t v size) = 1
   nodes (ReadOf p) = place_nodes p
-  nodes (SizeofTerm n e) = 1 + nodes e
+  nodes (SizeOfExpression n e) = 1 + nodes e
   nodes (SizeOf n) = 1
   nodes (AddressOf t p) = 1 + place_nodes p
   nodes (CallOf t f to es) = 2 + all_nodes es

@@ -1,7 +1,7 @@
 -- Typed statements as plain data.
 use Rattle.std.specs.Prelude.{ℕ, List, [], ◌∷◌, map, Option, Some, None}
 use Rattle.c_types.specs.declared.typed.Expression.{Expression}
-use Rattle.c_types.specs.Typed.{AnExpression, term}
+use Rattle.c_types.specs.Typed.{AnExpression, expression_of}
 use Rattle.c_program.specs.declared.statement.Declaration.{Declaration}
 use Rattle.c_program.specs.declared.statement.Declaration.TheVariants as declarations
 use Rattle.c_program.specs.declared.statement.Action.{Action, Row_of-Action, end_of-Action, more_of-Action}
@@ -15,7 +15,7 @@ pub data ADeclaration : Type 0 where
 abbrev pub declaration : Declaration → ADeclaration
 declaration (declarations.Keep object) = KeepOf object
 declaration (declarations.Clear n) = ClearOf n
-declaration (declarations.Begin n e) = BeginOf n (term e)
+declaration (declarations.Begin n e) = BeginOf n (expression_of e)
 
 mutual
   pub data AnAction : Type 0 where
@@ -37,20 +37,20 @@ mutual
 
 abbrev pub maybe_term : Option Expression → Option AnExpression
 maybe_term None = None
-maybe_term (Some e) = Some (term e)
+maybe_term (Some e) = Some (expression_of e)
 
 abbrev mutual
   pub act : Action → AnAction
   act (actions.Declare ds) = DeclareOf (map declaration ds.items)
   act (actions.Block' shape row) = BlockOf (act_row row)
-  act (actions.Evaluate e) = EvaluateOf (term e)
+  act (actions.Evaluate e) = EvaluateOf (expression_of e)
   act actions.Break = BreakOf
   act actions.Continue = ContinueOf
   act (actions.Return e) = ReturnOf (maybe_term e)
-  act (actions.If' c p a) = IfOf (term c) (act a)
-  act (actions.IfElse' c p a q b) = IfElseOf (term c) (act a) (act b)
-  act (actions.While' c p a) = WhileOf (term c) (act a)
-  act (actions.Do' p a c) = DoOf (act a) (term c)
+  act (actions.If' c p a) = IfOf (expression_of c) (act a)
+  act (actions.IfElse' c p a q b) = IfElseOf (expression_of c) (act a) (act b)
+  act (actions.While' c p a) = WhileOf (expression_of c) (act a)
+  act (actions.Do' p a c) = DoOf (act a) (expression_of c)
   act (actions.For' i c e p a) = ForOf (maybe_term i) (maybe_term c) (maybe_term e) (act a)
 
   pub act_row : {m : _} → Row_of-Action m → SomeActions

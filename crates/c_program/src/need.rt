@@ -1,6 +1,6 @@
 // How many longwords of its frame a function needs.
 ghost use Rattle.std.specs.Prelude.{◌≡◌, ◌<◌, ◌≤◌, ◌^◌, ◌↔◌, min, map, max, ◌+◌, IfSome, IsSome};
-ghost use Rattle.c_types.specs.Typed.{term, place_of, terms};
+ghost use Rattle.c_types.specs.Typed.{expression_of, place_of, expressions_of};
 ghost use Rattle.c_program.specs.Statements.{act, acts, declaration, maybe_term};
 ghost use Rattle.c_program.specs.Need.{nodes, place_nodes, all_nodes, maybe_nodes, returned_nodes, declared_nodes, largest};
 ghost use Rattle.c_program.specs.Need.{largest_of, need_of};
@@ -28,7 +28,7 @@ fn joined(a: u32, b: u32) -> u32
 /// The nodes of an expression's source: each name, number, literal, operator, index and call is one, parentheses none.
 #[cycle(nodes)]
 pub fn nodes(e: &Expression) -> u32
-    ensures { result ≡ min (nodes (term e.now)) 4294967295 }
+    ensures { result ≡ min (nodes (expression_of e.now)) 4294967295 }
 {
     match e {
         Expression::Number(_) => 1,
@@ -62,7 +62,7 @@ pub fn nodes(e: &Expression) -> u32
 
 #[cycle(nodes)]
 fn all_nodes(es: &[Expression]) -> u32
-    ensures { result ≡ min (all_nodes (terms es.now)) 4294967295 }
+    ensures { result ≡ min (all_nodes (expressions_of es.now)) 4294967295 }
 {
     let mut sum = 0_u32;
     for e in es {

@@ -5,7 +5,7 @@ use Rattle.c_types.specs.declared.types.CType.{CType}
 use Rattle.c_types.specs.declared.typed.Variable.{Variable}
 use Rattle.c_types.specs.declared.typed.Variable.TheVariants as variables
 use Rattle.c_types.specs.Typed.{APlace, VariableAt, PointedBy, ElementBy, AnExpression, Constant, LiteralAt, ArrayAt}
-use Rattle.c_types.specs.Typed.{ReadOf, SizeofTerm, SizeOf, AddressOf, CallOf, StepOf}
+use Rattle.c_types.specs.Typed.{ReadOf, SizeOfExpression, SizeOf, AddressOf, CallOf, StepOf}
 use Rattle.c_types.specs.Typed.{UnaryOf, CastTo, ConvertTo, ArithmeticOf, CompareOf, BothOf, EitherOf, AdvanceOf}
 use Rattle.c_types.specs.Typed.{AdvanceByOf, RetreatOf, DistanceOf, ChoiceOf, AssignTo}
 use Rattle.c_types.specs.Typed.{ArithmeticAssignTo, AdvanceAssignTo, RetreatAssignTo, CommaOf, SomeExpressions}
@@ -37,7 +37,7 @@ abbrev mutual
   Fits scope (LiteralAt n size) = Unit {0}
   Fits scope (ArrayAt t v size) = Unit {0}
   Fits scope (ReadOf a) = FitsAt scope a
-  Fits scope (SizeofTerm n e) = n < 2 ^ 32
+  Fits scope (SizeOfExpression n e) = n < 2 ^ 32
   Fits scope (SizeOf n) = n < 2 ^ 32
   Fits scope (AddressOf t a) = FitsAt scope a
   Fits scope (CallOf t f to es) = FitsAll scope es to

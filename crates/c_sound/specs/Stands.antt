@@ -7,7 +7,7 @@ use Rattle.c_types.specs.declared.typed.Variable.TheVariants as variables
 use Rattle.c_types.specs.declared.typed.Callee.{Callee}
 use Rattle.c_types.specs.declared.typed.Callee.TheVariants as callees
 use Rattle.c_types.specs.Typed.{APlace, VariableAt, PointedBy, ElementBy, AnExpression, Constant, LiteralAt, ArrayAt}
-use Rattle.c_types.specs.Typed.{ReadOf, SizeofTerm, SizeOf, AddressOf, CallOf, StepOf}
+use Rattle.c_types.specs.Typed.{ReadOf, SizeOfExpression, SizeOf, AddressOf, CallOf, StepOf}
 use Rattle.c_types.specs.Typed.{UnaryOf, CastTo, ConvertTo, ArithmeticOf, CompareOf, BothOf, EitherOf, AdvanceOf}
 use Rattle.c_types.specs.Typed.{AdvanceByOf, RetreatOf, DistanceOf, ChoiceOf, AssignTo}
 use Rattle.c_types.specs.Typed.{ArithmeticAssignTo, AdvanceAssignTo, RetreatAssignTo, CommaOf, SomeExpressions}
@@ -53,7 +53,7 @@ module _ (there : Variable → Type 0) (takes : Callee → ℕ → Type 0) (lite
     Stands (LiteralAt n size) = n < literals
     Stands (ArrayAt t v size) = there v
     Stands (ReadOf a) = StandsAt a
-    Stands (SizeofTerm n e) = Unit {0}
+    Stands (SizeOfExpression n e) = Unit {0}
     Stands (SizeOf n) = Unit {0}
     Stands (AddressOf t a) = StandsAt a
     Stands (CallOf t f to es) = takes f (arguments es) × StandAll es

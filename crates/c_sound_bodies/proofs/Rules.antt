@@ -23,7 +23,7 @@ use Rattle.c_types.specs.declared.typed.ArithmeticOperator.{ArithmeticOperator}
 use Rattle.c_types.specs.declared.typed.ArithmeticOperator.TheVariants as ariths
 use Rattle.c_types.specs.Answers.{Fault, ◌>>=◌}
 use Rattle.c_types.specs.Types.{is_integer, is_scalar, target, pointer_to, size_of}
-use Rattle.c_types.specs.Typed.{APlace, VariableAt, PointedBy, ElementBy, AnExpression, ReadOf, SizeofTerm, SizeOf, UnaryOf, CastTo, ArithmeticAssignTo, AssignTo, place_type, type_of, operand_size}
+use Rattle.c_types.specs.Typed.{APlace, VariableAt, PointedBy, ElementBy, AnExpression, ReadOf, SizeOfExpression, SizeOf, UnaryOf, CastTo, ArithmeticAssignTo, AssignTo, place_type, type_of, operand_size}
 use Rattle.c_typed_operators.specs.Rules.{fits, plus, binary_of}
 use Rattle.c_typed_operators.specs.Prefixes.{unary, negation, indirection_at, indirection, element_at, element}
 use Rattle.c_typed_operators.specs.Prefixes.{index_of, address_by, address_of, address, prefix_of, direction, step_at}
@@ -169,7 +169,7 @@ module _ (T : Token → Type 0) (known : Variable → Type 0) (calls : Callee �
 
   pub sizeof_has : (at : ℕ) (x u : AnExpression) → sizeof_of at x ≡ Ok u → P x → P u
   unfolding sizeof_of
-  sizeof_has at x u e p = passed (is_scalar (type_of x)) (SizeofTerm (operand_size x) x) u _ e (c.size_of_term x p)
+  sizeof_has at x u e p = passed (is_scalar (type_of x)) (SizeOfExpression (operand_size x) x) u _ e (c.size_of_term x p)
 
   pub sizeof_type_has : (at : ℕ) (t : CType) (u : AnExpression) → sizeof_type_of at t ≡ Ok u → P u
   unfolding sizeof_type_of

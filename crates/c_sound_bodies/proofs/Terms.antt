@@ -11,7 +11,7 @@ use Rattle.c_types.specs.declared.typed.Direction.{Direction}
 use Rattle.c_types.specs.declared.typed.UnaryOperator.{UnaryOperator}
 use Rattle.c_types.specs.declared.typed.ArithmeticOperator.{ArithmeticOperator}
 use Rattle.c_types.specs.Types.{size_of}
-use Rattle.c_types.specs.Typed.{APlace, VariableAt, PointedBy, ElementBy, AnExpression, Constant, LiteralAt, ArrayAt, ReadOf, SizeofTerm, SizeOf, AddressOf, CallOf, StepOf}
+use Rattle.c_types.specs.Typed.{APlace, VariableAt, PointedBy, ElementBy, AnExpression, Constant, LiteralAt, ArrayAt, ReadOf, SizeOfExpression, SizeOf, AddressOf, CallOf, StepOf}
 use Rattle.c_types.specs.Typed.{UnaryOf, CastTo, ConvertTo, ArithmeticOf, CompareOf, BothOf, EitherOf, AdvanceOf, AdvanceByOf, RetreatOf, DistanceOf, ChoiceOf, AssignTo}
 use Rattle.c_types.specs.Typed.{ArithmeticAssignTo, AdvanceAssignTo, RetreatAssignTo, CommaOf, SomeExpressions, NoExpressions, MoreExpressions, operand_size}
 use Rattle.c_sound.specs.Stands.{arguments}
@@ -29,7 +29,7 @@ pub record Closed (T : Token → Type 0) (known : Variable → Type 0) (calls : 
   pub variable : (t : CType) (v : Variable) → known v → P (ReadOf (VariableAt t v))
   pub pointed : (t : CType) (x : AnExpression) → P x → P (ReadOf (PointedBy t x))
   pub element : (t : CType) (x : AnExpression) → P x → P (ReadOf (ElementBy t x))
-  pub size_of_term : (x : AnExpression) → P x → P (SizeofTerm (operand_size x) x)
+  pub size_of_term : (x : AnExpression) → P x → P (SizeOfExpression (operand_size x) x)
   pub size : (t : CType) → P (SizeOf (size_of t))
   pub address : (t : CType) (p : APlace) → P (ReadOf p) → P (AddressOf t p)
   pub call : (t : CType) (f : Callee) (to : List CType) (es : SomeExpressions) → calls f (length to) → arguments es ≡ length to → Every P es →

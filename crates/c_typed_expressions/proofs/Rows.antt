@@ -17,7 +17,7 @@ use Rattle.c_types.specs.declared.typed.Expression.{Expression}
 use Rattle.c_types.specs.declared.typed.Expression.TheVariants as expression
 use Rattle.c_types.specs.declared.fault.TypeKind.TheVariants.{BadCall, BadType}
 use Rattle.c_types.specs.Answers.{Fault, ◌>>=◌, Fails, Gives}
-use Rattle.c_types.specs.Typed.{SomeExpressions, NoExpressions, MoreExpressions, term, terms}
+use Rattle.c_types.specs.Typed.{SomeExpressions, NoExpressions, MoreExpressions, expression_of, expressions_of}
 use Rattle.c_types.proofs.Rows.{term_call}
 use Rattle.c_typed_operators.specs.Rules.{fits}
 use Rattle.c_typed_scope.specs.declared.entry.Entry.{Entry}
@@ -39,22 +39,22 @@ count_is (e ∷ rest) = omega (arith, count_is rest)
 -- what was typed, in front of what is left
 abbrev pub terms_onto : List Expression → SomeExpressions → SomeExpressions
 terms_onto [] xs = xs
-terms_onto (x ∷ done) xs = MoreExpressions (term x) (terms_onto done xs)
+terms_onto (x ∷ done) xs = MoreExpressions (expression_of x) (terms_onto done xs)
 
 abbrev pub onto : List Expression → Result (SomeExpressions × Area) Fault → Result (SomeExpressions × Area) Fault
 onto done m = m >>= λ r. Ok (terms_onto done r.0, r.1)
 
-onto_push : (done : List Expression) (x : Expression) (xs : SomeExpressions) → terms_onto (done ++ x ∷ []) xs ≡ terms_onto done (MoreExpressions (term x) xs)
+onto_push : (done : List Expression) (x : Expression) (xs : SomeExpressions) → terms_onto (done ++ x ∷ []) xs ≡ terms_onto done (MoreExpressions (expression_of x) xs)
 onto_push [] x xs = refl
-onto_push (y ∷ done) x xs = ap (MoreExpressions (term y)) (onto_push done x xs)
+onto_push (y ∷ done) x xs = ap (MoreExpressions (expression_of y)) (onto_push done x xs)
 
-onto_more : (done : List Expression) (x : Expression) (m : Result (SomeExpressions × Area) Fault) → onto (done ++ x ∷ []) m ≡ onto done (m >>= λ r. Ok (MoreExpressions (term x) r.0, r.1))
+onto_more : (done : List Expression) (x : Expression) (m : Result (SomeExpressions × Area) Fault) → onto (done ++ x ∷ []) m ≡ onto done (m >>= λ r. Ok (MoreExpressions (expression_of x) r.0, r.1))
 onto_more done x (Ok r) = ap (λ t. Ok (t, r.1)) (onto_push done x r.0)
 onto_more done x (Err e) = refl
 
-onto_end : (done : List Expression) → terms_onto done NoExpressions ≡ terms done
+onto_end : (done : List Expression) → terms_onto done NoExpressions ≡ expressions_of done
 onto_end [] = refl
-onto_end (x ∷ done) = ap (MoreExpressions (term x)) (onto_end done)
+onto_end (x ∷ done) = ap (MoreExpressions (expression_of x)) (onto_end done)
 
 onto_none : (m : Result (SomeExpressions × Area) Fault) → m ≡ onto [] m
 onto_none (Ok r) = refl
@@ -69,7 +69,7 @@ module _ (names : List (List ℕ × Entry)) (signatures : List Signature) (scope
   begins es a = record { typed = onto_none (type_exps names signatures scope (exp_list es) a); same = omega arith }
 
   pub goes_on : (es : List Expr) (old : Area) (done : List Expression) (e : Expr) (left : List Expr) (a b : Area) (x : Expression) → type_exp names signatures scope (exp e) a
-      ≡ Ok (term x, b) → SoFar es old done (e ∷ left) a → SoFar es old (done ++ x ∷ []) left b
+      ≡ Ok (expression_of x, b) → SoFar es old done (e ∷ left) a → SoFar es old (done ++ x ∷ []) left b
   goes_on es old done e left a b x h far = record {
     typed = far.typed ∙ (rw h (sym (onto_more done x (type_exps names signatures scope (exp_list left) b))));
     same = omega (arith, far.same, length-append done (x ∷ []));
@@ -80,17 +80,17 @@ module _ (names : List (List ℕ × Entry)) (signatures : List Signature) (scope
   fails es old done e left a NoMemory h far = tt
   fails es old done e left a (At place kind) h far = far.typed ∙ rw h refl
 
-  pub ends : (es : List Expr) (old : Area) (done : List Expression) (a : Area) → SoFar es old done [] a → type_exps names signatures scope (exp_list es) old ≡ Ok (terms done, a)
+  pub ends : (es : List Expr) (old : Area) (done : List Expression) (a : Area) → SoFar es old done [] a → type_exps names signatures scope (exp_list es) old ≡ Ok (expressions_of done, a)
   ends es old done a far = far.typed ∙ ap (λ t. Ok (t, a)) (onto_end done)
 
   pub steps : (es : List Expr) (old : Area) (done : List Expression) (i : ℕ) (e d : Expr) (a b : Area) (x : Expression) (more : List Expression) → i < length es → e ≡ get_or es i d → more
-      ≡ done ++ x ∷ [] → type_exp names signatures scope (exp e) a ≡ Ok (term x, b) → SoFar es old done (drop i es) a → SoFar es old more (drop (i + 1) es) b
+      ≡ done ++ x ∷ [] → type_exp names signatures scope (exp e) a ≡ Ok (expression_of x, b) → SoFar es old done (drop i es) a → SoFar es old more (drop (i + 1) es) b
   steps es old done i e d a b x more lt is pushed typed far =
       let far' : SoFar es old done (e ∷ drop (i + 1) es) a = rw is (subst (λ l. SoFar es old done l a) (drop_more es i d lt) far) in
       rw pushed (goes_on es old done e (drop (i + 1) es) a b x typed far')
 
   pub ends_at : (es : List Expr) (old : Area) (done : List Expression) (i : ℕ) (a : Area) → length es ≤ i → SoFar es old done (drop i es) a
-      → type_exps names signatures scope (exp_list es) old ≡ Ok (terms done, a)
+      → type_exps names signatures scope (exp_list es) old ≡ Ok (expressions_of done, a)
   ends_at es old done i a le far = ends es old done a (subst (λ l. SoFar es old done l a) (nil_from_length (drop i es) (omega (arith, length-drop i es))) far)
 
 pub call_is : (e : Expr) (n : List ℕ) (at opened : ℕ) (es : Vec Expr) (list : List Expr) → e ≡ exprs.Call n at opened es → list ≡ es.items → exp e ≡ call n at opened (exp_list list)
@@ -104,7 +104,7 @@ module _ (names : List (List ℕ × Entry)) (signatures : List Signature) (scope
   call_fails e n at opened es f list a (At place kind) is same found h = rw (call_is e n at opened es list is same, found, h) refl
 
   called_beside : (f : Option ℕ) (opened : ℕ) (l : List Expr) (xs : List Expression) (b : Area) (result : Result Expression TypeFault)
-      → Gives (λ t. term t) result (called signatures f opened (exp_list l) (terms xs)) → Turns (λ t. term t) result b (called signatures f opened (exp_list l) (terms xs) >>= λ t. Ok (t, b))
+      → Gives (λ t. expression_of t) result (called signatures f opened (exp_list l) (expressions_of xs)) → Turns (λ t. expression_of t) result b (called signatures f opened (exp_list l) (expressions_of xs) >>= λ t. Ok (t, b))
   called_beside f opened l xs b (Ok x) given = rw given refl
   called_beside f opened l xs b (Err NoMemory) given = tt
   called_beside f opened l xs b (Err (At place kind)) given = rw given refl
@@ -112,11 +112,11 @@ module _ (names : List (List ℕ × Entry)) (signatures : List Signature) (scope
   -- the arguments have their types
   pub call_goes : (e : Expr) (n : List ℕ) (at opened : ℕ) (es : Vec Expr) (f : Option ℕ) (list other : List Expr) (xs : List Expression) (a b : Area) (result : Result Expression TypeFault)
       → e ≡ exprs.Call n at opened es → list ≡ es.items → other ≡ es.items → callee names signatures scope at n ≡ Ok f → type_exps names signatures scope (exp_list list) a
-      ≡ Ok (terms xs, b) → Gives (λ t. term t) result (called signatures f opened (exp_list other) (terms xs)) → Turns (λ t. term t) result b (type_exp names signatures scope (exp e) a)
+      ≡ Ok (expressions_of xs, b) → Gives (λ t. expression_of t) result (called signatures f opened (exp_list other) (expressions_of xs)) → Turns (λ t. expression_of t) result b (type_exp names signatures scope (exp e) a)
   call_goes e n at opened es f list other xs a b result is same again found h given =
       let both : other ≡ list = again ∙ sym same in
       rw (call_is e n at opened es list is same, found, h) (called_beside f opened list xs b result
-      (subst (λ l. Gives (λ t. term t) result (called signatures f opened (exp_list l) (terms xs))) both given))
+      (subst (λ l. Gives (λ t. expression_of t) result (called signatures f opened (exp_list l) (expressions_of xs))) both given))
 
 -- a function that is defined, or is not
 pub signature_found : (all l : List Signature) (n : ℕ) (s : Signature) → l ≡ all → n < length l → s ≡ get_or l n s → slice_get all n ≡ Some s
@@ -127,36 +127,36 @@ signature_missing all l n same test = ap (λ x. slice_get x n) (sym same) ∙ sl
 
 -- a number without a function
 pub called_missing : (signatures : List Signature) (o : Option ℕ) (n opened : ℕ) (es : List Expr) (xs : List Expression) (r : Result Expression TypeFault) → o ≡ Some n
-    → slice_get signatures n ≡ None → r ≡ Err (At opened BadCall) → Gives (λ t. term t) r (called signatures o opened (exp_list es) (terms xs))
+    → slice_get signatures n ≡ None → r ≡ Err (At opened BadCall) → Gives (λ t. expression_of t) r (called signatures o opened (exp_list es) (expressions_of xs))
 called_missing signatures o n opened es xs r is none answered = rw (answered, is, none) refl
 
 -- another number of arguments
 pub called_unlike : (signatures : List Signature) (o : Option ℕ) (n opened : ℕ) (s : Signature) (p : List CType) (es : List Expr) (xs : List Expression) (r : Result Expression TypeFault)
     → o ≡ Some n → slice_get signatures n ≡ Some s → p ≡ s.parameters → (length p ≡ length es → ⊥) → r ≡ Err (At opened BadCall)
-    → Gives (λ t. term t) r (called signatures o opened (exp_list es) (terms xs))
+    → Gives (λ t. expression_of t) r (called signatures o opened (exp_list es) (expressions_of xs))
 called_unlike signatures o n opened s p es xs r is found same unlike answered =
     let test : eqb (length s.parameters) (length es) ≡ false = ne_eqb (length s.parameters) (length es) (λ e. unlike (ap length same ∙ e)) in
     rw (answered, is, found, count_is es, test) refl
 
 -- an argument that its parameter doesn't take
 pub called_unfit : (signatures : List Signature) (o : Option ℕ) (n opened : ℕ) (s : Signature) (p : List CType) (es : List Expr) (xs list : List Expression) (u : Option ℕ) (at : ℕ)
-    (r : Result Expression TypeFault) → o ≡ Some n → slice_get signatures n ≡ Some s → p ≡ s.parameters → length p ≡ length es → list ≡ xs → u ≡ unfit p (exp_list es) (terms list) → u
-    ≡ Some at → r ≡ Err (At at BadType) → Gives (λ t. term t) r (called signatures o opened (exp_list es) (terms xs))
+    (r : Result Expression TypeFault) → o ≡ Some n → slice_get signatures n ≡ Some s → p ≡ s.parameters → length p ≡ length es → list ≡ xs → u ≡ unfit p (exp_list es) (expressions_of list) → u
+    ≡ Some at → r ≡ Err (At at BadType) → Gives (λ t. expression_of t) r (called signatures o opened (exp_list es) (expressions_of xs))
 called_unfit signatures o n opened s p es xs list u at r is found same like listed refused there answered =
     let test : eqb (length s.parameters) (length es) ≡ true = eq-eqb (length s.parameters) (length es) (ap length (sym same) ∙ like) in
-    let fit : unfit s.parameters (exp_list es) (terms xs) ≡ Some at = rw (← same, ← listed, ← refused) there in
+    let fit : unfit s.parameters (exp_list es) (expressions_of xs) ≡ Some at = rw (← same, ← listed, ← refused) there in
     rw (answered, is, found, count_is es, test, fit) refl
 
 -- all arguments are taken
 pub called_runs : (signatures : List Signature) (o : Option ℕ) (n : ℕ) (s : Signature) (opened : ℕ) (es : List Expr) (xs : Vec Expression) (f : Callee) (to : List CType) → o ≡ Some n
-    → slice_get signatures n ≡ Some s → length s.parameters ≡ length es → None ≡ unfit s.parameters (exp_list es) (terms xs.items) → f ≡ callee_of n → to ≡ s.parameters
-    → called signatures o opened (exp_list es) (terms xs.items) ≡ Ok (term (expression.Call s.result f to xs))
+    → slice_get signatures n ≡ Some s → length s.parameters ≡ length es → None ≡ unfit s.parameters (exp_list es) (expressions_of xs.items) → f ≡ callee_of n → to ≡ s.parameters
+    → called signatures o opened (exp_list es) (expressions_of xs.items) ≡ Ok (expression_of (expression.Call s.result f to xs))
 called_runs signatures o n s opened es xs f to is found same fit callee types =
     rw (is, found, count_is es, eq-eqb _ _ same, ← fit, callee, types) (sym (ap Ok (term_call s.result (callee_of n) s.parameters xs)))
 
 -- the first argument that its parameter does not take, by number
 abbrev pub is_unfit : CType × Expression → Bool
-is_unfit p = not (fits p.0 (term p.1))
+is_unfit p = not (fits p.0 (expression_of p.1))
 
 abbrev pub Placed : List Expr → Option ℕ → Option ℕ → Type 0
 Placed es None r = r ≡ None
@@ -169,12 +169,12 @@ tails : (e d : Expr) (es ds : List Expr) → e ∷ es ≡ d ∷ ds → ds ≡ es
 tails e d es ds same = cc
 
 unfit_from : (ps : List CType) (es : List Expr) (xs : List Expression) (all : List Expr) (i : ℕ) → drop i all ≡ es → i + length es ≡ length all → length ps ≡ length es
-    → length xs ≡ length es → Placed all (position_from is_unfit i (zip ps xs)) (unfit ps (exp_list es) (terms xs))
+    → length xs ≡ length es → Placed all (position_from is_unfit i (zip ps xs)) (unfit ps (exp_list es) (expressions_of xs))
 unfit_from [] es xs all i here long same typed = refl
 unfit_from (p ∷ ps) [] xs all i here long same typed = absurd (omega (arith, same))
 unfit_from (p ∷ ps) (e ∷ es) [] all i here long same typed = absurd (omega (arith, typed))
 unfit_from (p ∷ ps) (e ∷ es) (x ∷ xs) all i here long same typed =
-    by (fits p (term x)) (unfit_from ps es xs all (i + 1) (tails e (get_or all i e) es (drop (i + 1) all) (both e)) (omega (arith, long)) (omega (arith, same)) (omega (arith, typed)))
+    by (fits p (expression_of x)) (unfit_from ps es xs all (i + 1) (tails e (get_or all i e) es (drop (i + 1) all) (both e)) (omega (arith, long)) (omega (arith, same)) (omega (arith, typed)))
   where
     lt : i < length all
     lt = omega (arith, long)
@@ -182,12 +182,12 @@ unfit_from (p ∷ ps) (e ∷ es) (x ∷ xs) all i here long same typed =
     both : (d : Expr) → e ∷ es ≡ get_or all i d ∷ drop (i + 1) all
     both d = sym here ∙ drop_more all i d lt
 
-    by : (b : Bool) → Placed all (position_from is_unfit (i + 1) (zip ps xs)) (unfit ps (exp_list es) (terms xs))
-        → Placed all (cond (not b) (Some i) (position_from is_unfit (i + 1) (zip ps xs))) (cond b (unfit ps (exp_list es) (terms xs)) (Some (first (exp e))))
+    by : (b : Bool) → Placed all (position_from is_unfit (i + 1) (zip ps xs)) (unfit ps (exp_list es) (expressions_of xs))
+        → Placed all (cond (not b) (Some i) (position_from is_unfit (i + 1) (zip ps xs))) (cond b (unfit ps (exp_list es) (expressions_of xs)) (Some (first (exp e))))
     by true h = h
     by false h = (lt, λ d. ap (λ (z : Expr). Some (first (exp z))) (sym (heads e (get_or all i d) es (drop (i + 1) all) (both d))))
 
 pub unfit_placed : (ps : List CType) (es : List Expr) (xs : List Expression) (o : Option ℕ) → o ≡ position_from is_unfit 0 (zip ps xs) → length ps ≡ length es
-    → length xs ≡ length es → Placed es o (unfit ps (exp_list es) (terms xs))
+    → length xs ≡ length es → Placed es o (unfit ps (exp_list es) (expressions_of xs))
 unfit_placed ps es xs o is same typed =
-    subst (λ (r : Option ℕ). Placed es r (unfit ps (exp_list es) (terms xs))) (sym is) (unfit_from ps es xs es 0 refl (omega arith) same typed)
+    subst (λ (r : Option ℕ). Placed es r (unfit ps (exp_list es) (expressions_of xs))) (sym is) (unfit_from ps es xs es 0 refl (omega arith) same typed)

@@ -1,7 +1,7 @@
 // The types of expressions.
 ghost use Rattle.std.specs.Prelude.{◌≡◌, length, IfOk, Ok, Err};
 ghost use Rattle.c_types.specs.Answers.{Gives};
-ghost use Rattle.c_types.specs.Typed.{term, terms};
+ghost use Rattle.c_types.specs.Typed.{expression_of, expressions_of};
 ghost use Rattle.c_typed_scope.specs.Answers.{Turns};
 ghost use Rattle.c_phrases.specs.Shapes.{exp, exp_list};
 ghost use Rattle.c_typed_expressions.specs.Functions.{by_functions};
@@ -106,7 +106,7 @@ fn named(
     at: u32,
     name: &Name,
 ) -> Result<Expression, TypeFault>
-    ensures { Gives (λ t. term t) result (by_functions functions.now named (scope blocks.now) at name.now) }
+    ensures { Gives (λ t. expression_of t) result (by_functions functions.now named (scope blocks.now) at name.now) }
 {
     match blocks.lookup(name.as_slice()) {
         Some(Entry::Variable(t, variable)) => Ok(Expression::Read(Place::Variable(t, variable))),
@@ -182,7 +182,7 @@ fn callee_of(number: u32) -> Callee
 fn unfit(parameters: &[CType], arguments: &[Expr], xs: &[Expression]) -> Option<u32>
     requires same { length parameters.now ≡ length arguments.now }
     requires typed { length xs.now ≡ length arguments.now }
-    ensures { result ≡ unfit parameters.now (exp_list arguments.now) (terms xs.now) }
+    ensures { result ≡ unfit parameters.now (exp_list arguments.now) (expressions_of xs.now) }
 {
     let number = parameters
         .iter()
@@ -201,7 +201,7 @@ fn called(
     xs: Vec<Expression>,
 ) -> Result<Expression, TypeFault>
     requires { length xs.items ≡ length arguments.now }
-    ensures { Gives (λ t. term t) result (called functions.now.signatures.items number bracket (exp_list arguments.now) (terms xs.items)) }
+    ensures { Gives (λ t. expression_of t) result (called functions.now.signatures.items number bracket (exp_list arguments.now) (expressions_of xs.items)) }
 {
     let Some(number) = number else {
         return bad_call(bracket);
@@ -245,7 +245,7 @@ pub fn expression(
     e: &Expr,
     layout: &mut Data,
 ) -> Result<Expression, TypeFault>
-    ensures { Turns (λ t. term t) result (area layout.new) (by_functions functions.now type_exp
+    ensures { Turns (λ t. expression_of t) result (area layout.new) (by_functions functions.now type_exp
         (scope blocks.now) (exp e.now) (area layout.old)) }
 {
     match e {
@@ -356,7 +356,7 @@ fn boxed(
     e: &Expr,
     layout: &mut Data,
 ) -> Result<Box<Expression>, TypeFault>
-    ensures { Turns (λ t. term t.value) result (area layout.new) (by_functions functions.now type_exp
+    ensures { Turns (λ t. expression_of t.value) result (area layout.new) (by_functions functions.now type_exp
         (scope blocks.now) (exp e.now) (area layout.old)) }
 {
     Ok(Box::new(alloc, expression(alloc, functions, blocks, e, layout)?)?)
@@ -372,7 +372,7 @@ fn expressions(
     layout: &mut Data,
 ) -> Result<Vec<Expression>, TypeFault>
     ensures same { IfOk result (λ v. length v.items ≡ length es.now) }
-    ensures typed { Turns (λ v. terms v.items) result (area layout.new)
+    ensures typed { Turns (λ v. expressions_of v.items) result (area layout.new)
         (by_functions functions.now type_exps (scope blocks.now) (exp_list es.now) (area layout.old)) }
 {
     let mut xs = Vec::new(alloc);

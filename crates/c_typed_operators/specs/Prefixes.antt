@@ -16,7 +16,7 @@ use Rattle.c_types.specs.declared.typed.Direction.TheVariants as directions
 use Rattle.c_types.specs.declared.fault.TypeKind.TheVariants.{BadType, LeftOut}
 use Rattle.c_types.specs.Answers.{Fault, bad, ◌>>=◌}
 use Rattle.c_types.specs.Types.{is_integer, is_scalar, target, pointer_to, size_of}
-use Rattle.c_types.specs.Typed.{APlace, VariableAt, PointedBy, ElementBy, AnExpression, ReadOf, AddressOf, SizeofTerm}
+use Rattle.c_types.specs.Typed.{APlace, VariableAt, PointedBy, ElementBy, AnExpression, ReadOf, AddressOf, SizeOfExpression}
 use Rattle.c_types.specs.Typed.{SizeOf, StepOf, UnaryOf, CastTo}
 use Rattle.c_types.specs.Typed.{place_type, type_of, operand_size}
 use Rattle.c_typed_operators.specs.Rules.{plus}
@@ -84,7 +84,7 @@ unfoldable pub cast_of : ℕ → CType → AnExpression → Result AnExpression 
 cast_of at t x = if is_scalar t && is_scalar (type_of x) then Ok (CastTo t x) else bad at BadType
 
 unfoldable pub sizeof_of : ℕ → AnExpression → Result AnExpression Fault
-sizeof_of at x = if is_scalar (type_of x) then Ok (SizeofTerm (operand_size x) x) else bad at BadType
+sizeof_of at x = if is_scalar (type_of x) then Ok (SizeOfExpression (operand_size x) x) else bad at BadType
 
 unfoldable pub sizeof_type_of : ℕ → CType → Result AnExpression Fault
 sizeof_type_of at t = if is_scalar t then Ok (SizeOf (size_of t)) else bad at BadType

@@ -1,7 +1,7 @@
 // Assignments, on a left side and a value that have their types. A fault stands at the operator.
 ghost use Rattle.std.specs.Prelude.{◌≡◌};
 ghost use Rattle.c_types.specs.Answers.{Gives};
-ghost use Rattle.c_types.specs.Typed.{term, place_of};
+ghost use Rattle.c_types.specs.Typed.{expression_of, place_of};
 ghost use Rattle.c_typed_operators.specs.Stores.{store, arithmetic_store, plus_store, minus_store, store_by};
 ghost use Rattle.c_typed_operators.specs.Stores.{assign_of};
 
@@ -12,7 +12,7 @@ use c_types::{ArithmeticOperator, CType, Expression, Place, TypeFault};
 
 #[tactic(auto, unfolding(crate::specs::Stores::store))]
 fn store(at: u32, place: Place, y: Box<Expression>) -> Result<Expression, TypeFault>
-    ensures { Gives (λ t. term t) result (store at (place_of place) (term y.value)) }
+    ensures { Gives (λ t. expression_of t) result (store at (place_of place) (expression_of y.value)) }
 {
     if fits(place.ctype(), &y) {
         Ok(Expression::Assign(place, y))
@@ -28,7 +28,7 @@ fn arithmetic_store(
     place: Place,
     y: Box<Expression>,
 ) -> Result<Expression, TypeFault>
-    ensures { Gives (λ t. term t) result (arithmetic_store op at (place_of place) (term y.value)) }
+    ensures { Gives (λ t. expression_of t) result (arithmetic_store op at (place_of place) (expression_of y.value)) }
 {
     if place.ctype().is_integer() && y.ctype().is_integer() {
         Ok(Expression::ArithmeticAssign(op, place, y))
@@ -39,7 +39,7 @@ fn arithmetic_store(
 
 #[tactic(auto, unfolding(crate::specs::Stores::plus_store))]
 fn plus_store(at: u32, place: Place, y: Box<Expression>) -> Result<Expression, TypeFault>
-    ensures { Gives (λ t. term t) result (plus_store at (place_of place) (term y.value)) }
+    ensures { Gives (λ t. expression_of t) result (plus_store at (place_of place) (expression_of y.value)) }
 {
     match place.ctype() {
         CType::Void => bad_type(at),
@@ -62,7 +62,7 @@ fn plus_store(at: u32, place: Place, y: Box<Expression>) -> Result<Expression, T
 
 #[tactic(auto, unfolding(crate::specs::Stores::minus_store))]
 fn minus_store(at: u32, place: Place, y: Box<Expression>) -> Result<Expression, TypeFault>
-    ensures { Gives (λ t. term t) result (minus_store at (place_of place) (term y.value)) }
+    ensures { Gives (λ t. expression_of t) result (minus_store at (place_of place) (expression_of y.value)) }
 {
     match place.ctype() {
         CType::Void => bad_type(at),
@@ -90,7 +90,7 @@ fn store_by(
     place: Place,
     y: Box<Expression>,
 ) -> Result<Expression, TypeFault>
-    ensures { Gives (λ t. term t) result (store_by op at (place_of place) (term y.value)) }
+    ensures { Gives (λ t. expression_of t) result (store_by op at (place_of place) (expression_of y.value)) }
 {
     match op {
         AssignOperator::Assign => store(at, place, y),
@@ -120,7 +120,7 @@ pub fn assign(
     x: Box<Expression>,
     y: Box<Expression>,
 ) -> Result<Expression, TypeFault>
-    ensures { Gives (λ t. term t) result (assign_of op at (term x.value) (term y.value)) }
+    ensures { Gives (λ t. expression_of t) result (assign_of op at (expression_of x.value) (expression_of y.value)) }
 {
     match Box::into_inner(x) {
         Expression::Read(place) => store_by(op, at, place, y),

@@ -1,7 +1,7 @@
 // The table of operators, on operands that have their types. A fault stands at the operator.
 ghost use Rattle.std.specs.Prelude.{◌≡◌};
 ghost use Rattle.c_types.specs.Answers.{Gives};
-ghost use Rattle.c_types.specs.Typed.{term, place_of};
+ghost use Rattle.c_types.specs.Typed.{expression_of, place_of};
 ghost use Rattle.c_typed_operators.specs.Rules.{arithmetic, plus, minus, order, are_comparable, equality, both};
 ghost use Rattle.c_typed_operators.specs.Rules.{either, binary_of, fits};
 ghost use Rattle.c_typed_operators.specs.Prefixes.{unary, negation, indirection, element, index_of, address_of};
@@ -23,7 +23,7 @@ use std::alloc::Global;
 /// the null constant to a pointer.
 #[tactic(auto, unfolding(crate::specs::Rules::fits))]
 pub fn fits(to: CType, x: &Expression) -> bool
-    ensures { result ≡ fits to (term x.now) }
+    ensures { result ≡ fits to (expression_of x.now) }
 {
     match to {
         CType::Void => false,
@@ -39,7 +39,7 @@ fn arithmetic(
     x: Box<Expression>,
     y: Box<Expression>,
 ) -> Result<Expression, TypeFault>
-    ensures { Gives (λ t. term t) result (arithmetic op at (term x.value) (term y.value)) }
+    ensures { Gives (λ t. expression_of t) result (arithmetic op at (expression_of x.value) (expression_of y.value)) }
 {
     if x.ctype().is_integer() && y.ctype().is_integer() {
         Ok(Expression::Arithmetic(op, x, y))
@@ -50,7 +50,7 @@ fn arithmetic(
 
 #[tactic(auto, unfolding(crate::specs::Rules::plus))]
 fn plus(at: u32, x: Box<Expression>, y: Box<Expression>) -> Result<Expression, TypeFault>
-    ensures { Gives (λ t. term t) result (plus at (term x.value) (term y.value)) }
+    ensures { Gives (λ t. expression_of t) result (plus at (expression_of x.value) (expression_of y.value)) }
 {
     match x.ctype() {
         CType::Void => bad_type(at),
@@ -69,7 +69,7 @@ fn plus(at: u32, x: Box<Expression>, y: Box<Expression>) -> Result<Expression, T
 
 #[tactic(auto, unfolding(crate::specs::Rules::minus))]
 fn minus(at: u32, x: Box<Expression>, y: Box<Expression>) -> Result<Expression, TypeFault>
-    ensures { Gives (λ t. term t) result (minus at (term x.value) (term y.value)) }
+    ensures { Gives (λ t. expression_of t) result (minus at (expression_of x.value) (expression_of y.value)) }
 {
     match x.ctype() {
         CType::Void => bad_type(at),
@@ -100,7 +100,7 @@ fn order(
     x: Box<Expression>,
     y: Box<Expression>,
 ) -> Result<Expression, TypeFault>
-    ensures { Gives (λ t. term t) result (order signed unsigned at (term x.value) (term y.value)) }
+    ensures { Gives (λ t. expression_of t) result (order signed unsigned at (expression_of x.value) (expression_of y.value)) }
 {
     match x.ctype() {
         CType::Void => bad_type(at),
@@ -125,7 +125,7 @@ fn order(
 
 #[tactic(auto, unfolding(crate::specs::Rules::are_comparable))]
 fn are_comparable(x: &Expression, y: &Expression) -> bool
-    ensures { result ≡ are_comparable (term x.now) (term y.now) }
+    ensures { result ≡ are_comparable (expression_of x.now) (expression_of y.now) }
 {
     match x.ctype() {
         CType::Void => false,
@@ -145,7 +145,7 @@ fn equality(
     x: Box<Expression>,
     y: Box<Expression>,
 ) -> Result<Expression, TypeFault>
-    ensures { Gives (λ t. term t) result (equality rel at (term x.value) (term y.value)) }
+    ensures { Gives (λ t. expression_of t) result (equality rel at (expression_of x.value) (expression_of y.value)) }
 {
     if are_comparable(&x, &y) {
         Ok(Expression::Compare(rel, x, y))
@@ -156,7 +156,7 @@ fn equality(
 
 #[tactic(auto, unfolding(crate::specs::Rules::both))]
 fn both(at: u32, x: Box<Expression>, y: Box<Expression>) -> Result<Expression, TypeFault>
-    ensures { Gives (λ t. term t) result (both at (term x.value) (term y.value)) }
+    ensures { Gives (λ t. expression_of t) result (both at (expression_of x.value) (expression_of y.value)) }
 {
     if x.ctype().is_scalar() && y.ctype().is_scalar() {
         Ok(Expression::AndAnd(x, y))
@@ -167,7 +167,7 @@ fn both(at: u32, x: Box<Expression>, y: Box<Expression>) -> Result<Expression, T
 
 #[tactic(auto, unfolding(crate::specs::Rules::either))]
 fn either(at: u32, x: Box<Expression>, y: Box<Expression>) -> Result<Expression, TypeFault>
-    ensures { Gives (λ t. term t) result (either at (term x.value) (term y.value)) }
+    ensures { Gives (λ t. expression_of t) result (either at (expression_of x.value) (expression_of y.value)) }
 {
     if x.ctype().is_scalar() && y.ctype().is_scalar() {
         Ok(Expression::OrOr(x, y))
@@ -184,7 +184,7 @@ pub fn binary(
     x: Box<Expression>,
     y: Box<Expression>,
 ) -> Result<Expression, TypeFault>
-    ensures { Gives (λ t. term t) result (binary_of op at (term x.value) (term y.value)) }
+    ensures { Gives (λ t. expression_of t) result (binary_of op at (expression_of x.value) (expression_of y.value)) }
 {
     match op {
         BinaryOperator::OrOr => either(at, x, y),
@@ -210,7 +210,7 @@ pub fn binary(
 
 #[tactic(auto, unfolding(crate::specs::Prefixes::unary))]
 fn unary(op: UnaryOperator, at: u32, x: Box<Expression>) -> Result<Expression, TypeFault>
-    ensures { Gives (λ t. term t) result (unary op at (term x.value)) }
+    ensures { Gives (λ t. expression_of t) result (unary op at (expression_of x.value)) }
 {
     if x.ctype().is_integer() {
         Ok(Expression::Unary(op, x))
@@ -221,7 +221,7 @@ fn unary(op: UnaryOperator, at: u32, x: Box<Expression>) -> Result<Expression, T
 
 #[tactic(auto, unfolding(crate::specs::Prefixes::negation))]
 fn negation(at: u32, x: Box<Expression>) -> Result<Expression, TypeFault>
-    ensures { Gives (λ t. term t) result (negation at (term x.value)) }
+    ensures { Gives (λ t. expression_of t) result (negation at (expression_of x.value)) }
 {
     if x.ctype().is_scalar() {
         Ok(Expression::Unary(UnaryOperator::Not, x))
@@ -232,7 +232,7 @@ fn negation(at: u32, x: Box<Expression>) -> Result<Expression, TypeFault>
 
 #[tactic(auto, unfolding(crate::specs::Prefixes::indirection))]
 fn indirection(at: u32, x: Box<Expression>) -> Result<Expression, TypeFault>
-    ensures { Gives (λ t. term t) result (indirection at (term x.value)) }
+    ensures { Gives (λ t. expression_of t) result (indirection at (expression_of x.value)) }
 {
     match x.ctype() {
         CType::Void => bad_type(at),
@@ -246,7 +246,7 @@ fn indirection(at: u32, x: Box<Expression>) -> Result<Expression, TypeFault>
 
 #[tactic(auto, unfolding(crate::specs::Prefixes::element))]
 fn element(at: u32, sum: Box<Expression>) -> Result<Expression, TypeFault>
-    ensures { Gives (λ t. term t) result (element at (term sum.value)) }
+    ensures { Gives (λ t. expression_of t) result (element at (expression_of sum.value)) }
 {
     match sum.ctype() {
         CType::Void => bad_type(at),
@@ -266,7 +266,7 @@ pub fn index(
     x: Box<Expression>,
     y: Box<Expression>,
 ) -> Result<Expression, TypeFault>
-    ensures { Gives (λ t. term t) result (index_of at (term x.value) (term y.value)) }
+    ensures { Gives (λ t. expression_of t) result (index_of at (expression_of x.value) (expression_of y.value)) }
 {
     let sum = plus(at, x, y)?;
     element(at, Box::new(alloc, sum)?)
@@ -274,7 +274,7 @@ pub fn index(
 
 #[tactic(auto, unfolding(crate::specs::Prefixes::address_of, c_types::specs::Types::pointer_to))]
 fn address_of(at: u32, place: Place) -> Result<Expression, TypeFault>
-    ensures { Gives (λ t. term t) result (address_of at (place_of place)) }
+    ensures { Gives (λ t. expression_of t) result (address_of at (place_of place)) }
 {
     if let Place::Variable(_, Variable::Automatic(_) | Variable::Parameter(_)) = place {
         return Err(TypeFault::At {
@@ -293,7 +293,7 @@ fn address_of(at: u32, place: Place) -> Result<Expression, TypeFault>
 
 #[tactic(auto, unfolding(crate::specs::Prefixes::address))]
 fn address(at: u32, x: Expression) -> Result<Expression, TypeFault>
-    ensures { Gives (λ t. term t) result (address at (term x)) }
+    ensures { Gives (λ t. expression_of t) result (address at (expression_of x)) }
 {
     match x {
         Expression::Read(place) => address_of(at, place),
@@ -304,7 +304,7 @@ fn address(at: u32, x: Expression) -> Result<Expression, TypeFault>
 /// An operator in front of its operand.
 #[tactic(auto, unfolding(crate::specs::Prefixes::prefix_of))]
 pub fn prefix(op: PrefixOperator, at: u32, x: Box<Expression>) -> Result<Expression, TypeFault>
-    ensures { Gives (λ t. term t) result (prefix_of op at (term x.value)) }
+    ensures { Gives (λ t. expression_of t) result (prefix_of op at (expression_of x.value)) }
 {
     match op {
         PrefixOperator::Plus => unary(UnaryOperator::Plus, at, x),
@@ -334,7 +334,7 @@ pub fn step(
     at: u32,
     x: Expression,
 ) -> Result<Expression, TypeFault>
-    ensures { Gives (λ t. term t) result (step moment op at (term x)) }
+    ensures { Gives (λ t. expression_of t) result (step moment op at (expression_of x)) }
 {
     match x {
         Expression::Read(place) => {
@@ -351,7 +351,7 @@ pub fn step(
 /// A cast to this type, from an integer or a pointer.
 #[tactic(auto, unfolding(crate::specs::Prefixes::cast_of))]
 pub fn cast(at: u32, to: CType, x: Box<Expression>) -> Result<Expression, TypeFault>
-    ensures { Gives (λ t. term t) result (cast_of at to (term x.value)) }
+    ensures { Gives (λ t. expression_of t) result (cast_of at to (expression_of x.value)) }
 {
     if to.is_scalar() && x.ctype().is_scalar() {
         Ok(Expression::Cast(to, x))
@@ -363,7 +363,7 @@ pub fn cast(at: u32, to: CType, x: Box<Expression>) -> Result<Expression, TypeFa
 /// `sizeof` of an expression.
 #[tactic(auto, unfolding(crate::specs::Prefixes::sizeof_of))]
 pub fn sizeof_expression(at: u32, x: Box<Expression>) -> Result<Expression, TypeFault>
-    ensures { Gives (λ t. term t) result (sizeof_of at (term x.value)) }
+    ensures { Gives (λ t. expression_of t) result (sizeof_of at (expression_of x.value)) }
 {
     if x.ctype().is_scalar() {
         let size = x.operand_size();
@@ -376,7 +376,7 @@ pub fn sizeof_expression(at: u32, x: Box<Expression>) -> Result<Expression, Type
 /// `sizeof` of a type.
 #[tactic(auto, unfolding(crate::specs::Prefixes::sizeof_type_of))]
 pub fn sizeof_type(at: u32, of: CType) -> Result<Expression, TypeFault>
-    ensures { Gives (λ t. term t) result (sizeof_type_of at of) }
+    ensures { Gives (λ t. expression_of t) result (sizeof_type_of at of) }
 {
     if of.is_scalar() {
         Ok(Expression::SizeofType(of.size()))
@@ -387,7 +387,7 @@ pub fn sizeof_type(at: u32, of: CType) -> Result<Expression, TypeFault>
 
 #[tactic(auto, unfolding(crate::specs::Choices::arms))]
 fn arms(x: &Expression, y: &Expression) -> Option<CType>
-    ensures { result ≡ arms (term x.now) (term y.now) }
+    ensures { result ≡ arms (expression_of x.now) (expression_of y.now) }
 {
     match x.ctype() {
         CType::Void => match y.ctype() {
@@ -434,7 +434,7 @@ pub fn choice(
     x: Box<Expression>,
     y: Box<Expression>,
 ) -> Result<Expression, TypeFault>
-    ensures { Gives (λ t. term t) result (choice_of at (term c.value) (term x.value) (term y.value)) }
+    ensures { Gives (λ t. expression_of t) result (choice_of at (expression_of c.value) (expression_of x.value) (expression_of y.value)) }
 {
     if !c.ctype().is_scalar() {
         return bad_type(at);
@@ -448,7 +448,7 @@ pub fn choice(
 /// `x, y`
 #[tactic(auto, unfolding(crate::specs::Choices::comma_of))]
 pub fn comma(x: Box<Expression>, y: Box<Expression>) -> Expression
-    ensures { term result ≡ comma_of (term x.value) (term y.value) }
+    ensures { expression_of result ≡ comma_of (expression_of x.value) (expression_of y.value) }
 {
     let t = y.ctype();
     Expression::Comma(t, x, y)
@@ -457,7 +457,7 @@ pub fn comma(x: Box<Expression>, y: Box<Expression>) -> Expression
 /// A value that is given to a result or a local of this type; the place is its first token's.
 #[tactic(auto, unfolding(crate::specs::Stores::given))]
 pub fn give(to: CType, place: u32, x: Box<Expression>) -> Result<Expression, TypeFault>
-    ensures { Gives (λ t. term t) result (given to place (term x.value)) }
+    ensures { Gives (λ t. expression_of t) result (given to place (expression_of x.value)) }
 {
     if fits(to, &x) {
         Ok(Expression::Convert(to, x))
@@ -469,7 +469,7 @@ pub fn give(to: CType, place: u32, x: Box<Expression>) -> Result<Expression, Typ
 /// A condition, an integer or a pointer; the place is its first token's.
 #[tactic(auto, unfolding(crate::specs::Choices::condition_of))]
 pub fn condition(place: u32, x: Expression) -> Result<Expression, TypeFault>
-    ensures { Gives (λ t. term t) result (condition_of place (term x)) }
+    ensures { Gives (λ t. expression_of t) result (condition_of place (expression_of x)) }
 {
     if x.ctype().is_scalar() {
         Ok(x)

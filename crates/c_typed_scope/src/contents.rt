@@ -1,6 +1,6 @@
 // What objects hold at first: constants that are wanted, and the bytes and links of initialisers.
 ghost use Rattle.std.specs.Prelude.{◌≡◌, ◌≤◌, ◌<◌, ◌++◌, ◌∷◌, [], ◌+◌, Ok, Err, OnOk, length};
-ghost use Rattle.c_types.specs.Typed.{term};
+ghost use Rattle.c_types.specs.Typed.{expression_of};
 ghost use Rattle.c_types.specs.Answers.{Gives};
 ghost use Rattle.c_typed_scope.specs.Answers.{OnlyTurns};
 ghost use Rattle.c_typed_scope.specs.Views.{area, filled_so_far};
@@ -35,7 +35,7 @@ fn bad_constant<T>(place: u32) -> Result<T, TypeFault>
 /// none.
 #[tactic(auto, unfolding(crate::specs::Contents::length_of))]
 pub fn length_of(place: u32, x: &Expression) -> Result<u32, TypeFault>
-    ensures { Gives (λ n. n) result (wanted (length_of (term x.now)) place) }
+    ensures { Gives (λ n. n) result (wanted (length_of (expression_of x.now)) place) }
 {
     if !x.ctype().is_integer() {
         return bad_constant(place);
@@ -55,7 +55,7 @@ pub fn length_of(place: u32, x: &Expression) -> Result<u32, TypeFault>
 // The object whose address a pointer may be initialised with.
 #[tactic(auto, unfolding(crate::specs::Contents::linked))]
 fn linked(x: &Expression) -> Option<u32>
-    ensures { result ≡ linked (term x.now) }
+    ensures { result ≡ linked (expression_of x.now) }
 {
     match x {
         Expression::Literal(object, _) => Some(*object),
@@ -132,7 +132,7 @@ impl Contents {
         x: &Expression,
         objects: &[Object],
     ) -> Result<(), TypeFault>
-        ensures { OnlyTurns result (filled_so_far self.new) (pointer_element to place (term x.now) objects.now (filled_so_far self.old)) }
+        ensures { OnlyTurns result (filled_so_far self.new) (pointer_element to place (expression_of x.now) objects.now (filled_so_far self.old)) }
     {
         if x.is_null() {
             self.put_number(4, 0)?;
@@ -160,7 +160,7 @@ impl Contents {
         x: &Expression,
         objects: &[Object],
     ) -> Result<(), TypeFault>
-        ensures { OnlyTurns result (filled_so_far self.new) (element_of to place (term x.now) objects.now (filled_so_far self.old)) }
+        ensures { OnlyTurns result (filled_so_far self.new) (element_of to place (expression_of x.now) objects.now (filled_so_far self.old)) }
     {
         match to {
             CType::Void => bad_type(place),

@@ -1,7 +1,7 @@
 // The objects of the data area, while they are laid out.
 ghost use Rattle.std.specs.Prelude.{◌≡◌, ◌++◌, ◌∷◌, [], ◌<◌, ◌≤◌, ◌+◌, IfOk, OnOk, length};
 ghost use Rattle.std.specs.Fmt.{decimal};
-ghost use Rattle.c_types.specs.Typed.{term};
+ghost use Rattle.c_types.specs.Typed.{expression_of};
 ghost use Rattle.c_typed_scope.specs.Layout.{aligned, placed, literal};
 ghost use Rattle.c_typed_scope.specs.Views.{area};
 ghost use Rattle.c_typed_scope.specs.Answers.{Turns};
@@ -108,7 +108,7 @@ pub fn literal(
     at: u32,
     bytes: &Bytes,
 ) -> Result<Expression, TypeFault>
-    ensures { Turns (λ t. term t) result (area layout.new) (literal at bytes.now (area layout.old)) }
+    ensures { Turns (λ t. expression_of t) result (area layout.new) (literal at bytes.now (area layout.old)) }
 {
     let len = bytes.as_slice().len();
     if len >= 0xffff_ffff {

@@ -1,6 +1,6 @@
 // The types of statements.
 ghost use Rattle.std.specs.Prelude.{◌≡◌};
-ghost use Rattle.c_types.specs.Typed.{term};
+ghost use Rattle.c_types.specs.Typed.{expression_of};
 ghost use Rattle.c_typed_scope.specs.Answers.{Turns};
 ghost use Rattle.c_phrases.specs.Shapes.{exp};
 ghost use Rattle.c_phrases.specs.Units.{no_items};
@@ -29,7 +29,7 @@ fn full(
     e: &Expr,
     environment: &mut Environment,
 ) -> Result<Expression, TypeFault>
-    ensures { Turns (λ t. term t) result (state environment.new) (by_functions functions.now type_full
+    ensures { Turns (λ t. expression_of t) result (state environment.new) (by_functions functions.now type_full
         (exp e.now) (state environment.old)) }
 {
     expression(
@@ -48,7 +48,7 @@ fn tested(
     e: &Expr,
     environment: &mut Environment,
 ) -> Result<Expression, TypeFault>
-    ensures { Turns (λ t. term t) result (state environment.new) (by_functions functions.now type_condition
+    ensures { Turns (λ t. expression_of t) result (state environment.new) (by_functions functions.now type_condition
         (exp e.now) (state environment.old)) }
 {
     let x = full(alloc, functions, e, environment)?;

@@ -9,7 +9,7 @@ use Rattle.c_types.specs.declared.typed.UnaryOperator.TheVariants as unaries
 use Rattle.c_types.specs.declared.typed.ArithmeticOperator.{ArithmeticOperator}
 use Rattle.c_types.specs.declared.typed.ArithmeticOperator.TheVariants as ariths
 use Rattle.c_types.specs.Types.{kept, size_of, target}
-use Rattle.c_types.specs.Typed.{AnExpression, Constant, SizeofTerm, SizeOf, UnaryOf, CastTo, ArithmeticOf, CompareOf}
+use Rattle.c_types.specs.Typed.{AnExpression, Constant, SizeOfExpression, SizeOf, UnaryOf, CastTo, ArithmeticOf, CompareOf}
 use Rattle.c_types.specs.Typed.{BothOf, EitherOf, AdvanceOf, AdvanceByOf, RetreatOf, DistanceOf, ChoiceOf}
 
 -- what becomes of a value that is converted to a type
@@ -68,7 +68,7 @@ distance t p q = div32 (sub32 p q) (scale t)
 -- built of numbers, sizes and operators alone
 unfoldable pub is_constant : AnExpression → Bool
 is_constant (Constant n) = true
-is_constant (SizeofTerm n e) = true
+is_constant (SizeOfExpression n e) = true
 is_constant (SizeOf n) = true
 is_constant (UnaryOf op e) = is_constant e
 is_constant (CastTo t e) = is_constant e
@@ -90,7 +90,7 @@ option_of (Some x) f = f x
 -- the value, where none traps; only what is needed is evaluated
 unfoldable pub value_of : AnExpression → Option ℕ
 value_of (Constant n) = Some n
-value_of (SizeofTerm n e) = Some n
+value_of (SizeOfExpression n e) = Some n
 value_of (SizeOf n) = Some n
 value_of (UnaryOf op e) = option_of (value_of e) (λ v. Some (apply_unary op v))
 value_of (CastTo t e) = option_of (value_of e) (λ v. Some (converted t v))

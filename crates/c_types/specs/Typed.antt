@@ -27,7 +27,7 @@ mutual
     LiteralAt : (object : ℕ) (size : ℕ) → AnExpression
     ArrayAt : (t : CType) (v : Variable) (size : ℕ) → AnExpression
     ReadOf : (p : APlace) → AnExpression
-    SizeofTerm : (n : ℕ) (e : AnExpression) → AnExpression
+    SizeOfExpression : (n : ℕ) (e : AnExpression) → AnExpression
     SizeOf : (n : ℕ) → AnExpression
     AddressOf : (t : CType) (p : APlace) → AnExpression
     CallOf : (t : CType) (f : Callee) (to : List CType) (es : SomeExpressions) → AnExpression
@@ -57,44 +57,44 @@ mutual
 abbrev mutual
   pub place_of : Place → APlace
   place_of (places.Variable t v) = VariableAt t v
-  place_of (places.Indirection' t q e) = PointedBy t (term e)
-  place_of (places.Index' t q e) = ElementBy t (term e)
+  place_of (places.Indirection' t q e) = PointedBy t (expression_of e)
+  place_of (places.Index' t q e) = ElementBy t (expression_of e)
 
-  pub term : Expression → AnExpression
-  term (expression.Number n) = Constant n
-  term (expression.Literal object size) = LiteralAt object size
-  term (expression.Array t v size) = ArrayAt t v size
-  term (expression.Read p) = ReadOf (place_of p)
-  term (expression.SizeofExpression' n q1 e) = SizeofTerm n (term e)
-  term (expression.SizeofType n) = SizeOf n
-  term (expression.Address t p) = AddressOf t (place_of p)
-  term (expression.Call' t f to shape row) = CallOf t f to (term_row row)
-  term (expression.Step m by p) = StepOf m by (place_of p)
-  term (expression.Unary' op q1 e) = UnaryOf op (term e)
-  term (expression.Cast' t q1 e) = CastTo t (term e)
-  term (expression.Convert' t q1 e) = ConvertTo t (term e)
-  term (expression.Arithmetic' op q1 l q2 r) = ArithmeticOf op (term l) (term r)
-  term (expression.Compare' rel q1 l q2 r) = CompareOf rel (term l) (term r)
-  term (expression.AndAnd' q1 l q2 r) = BothOf (term l) (term r)
-  term (expression.OrOr' q1 l q2 r) = EitherOf (term l) (term r)
-  term (expression.Advance' t q1 l q2 r) = AdvanceOf t (term l) (term r)
-  term (expression.AdvanceBy' t q1 l q2 r) = AdvanceByOf t (term l) (term r)
-  term (expression.Retreat' t q1 l q2 r) = RetreatOf t (term l) (term r)
-  term (expression.Distance' t q1 l q2 r) = DistanceOf t (term l) (term r)
-  term (expression.Choice' t q1 c q2 l q3 r) = ChoiceOf t (term c) (term l) (term r)
-  term (expression.Assign' p q1 e) = AssignTo (place_of p) (term e)
-  term (expression.ArithmeticAssign' op p q1 e) = ArithmeticAssignTo op (place_of p) (term e)
-  term (expression.AdvanceAssign' p q1 e) = AdvanceAssignTo (place_of p) (term e)
-  term (expression.RetreatAssign' p q1 e) = RetreatAssignTo (place_of p) (term e)
-  term (expression.Comma' t q1 l q2 r) = CommaOf t (term l) (term r)
+  pub expression_of : Expression → AnExpression
+  expression_of (expression.Number n) = Constant n
+  expression_of (expression.Literal object size) = LiteralAt object size
+  expression_of (expression.Array t v size) = ArrayAt t v size
+  expression_of (expression.Read p) = ReadOf (place_of p)
+  expression_of (expression.SizeofExpression' n q1 e) = SizeOfExpression n (expression_of e)
+  expression_of (expression.SizeofType n) = SizeOf n
+  expression_of (expression.Address t p) = AddressOf t (place_of p)
+  expression_of (expression.Call' t f to shape row) = CallOf t f to (expressions_in row)
+  expression_of (expression.Step m by p) = StepOf m by (place_of p)
+  expression_of (expression.Unary' op q1 e) = UnaryOf op (expression_of e)
+  expression_of (expression.Cast' t q1 e) = CastTo t (expression_of e)
+  expression_of (expression.Convert' t q1 e) = ConvertTo t (expression_of e)
+  expression_of (expression.Arithmetic' op q1 l q2 r) = ArithmeticOf op (expression_of l) (expression_of r)
+  expression_of (expression.Compare' rel q1 l q2 r) = CompareOf rel (expression_of l) (expression_of r)
+  expression_of (expression.AndAnd' q1 l q2 r) = BothOf (expression_of l) (expression_of r)
+  expression_of (expression.OrOr' q1 l q2 r) = EitherOf (expression_of l) (expression_of r)
+  expression_of (expression.Advance' t q1 l q2 r) = AdvanceOf t (expression_of l) (expression_of r)
+  expression_of (expression.AdvanceBy' t q1 l q2 r) = AdvanceByOf t (expression_of l) (expression_of r)
+  expression_of (expression.Retreat' t q1 l q2 r) = RetreatOf t (expression_of l) (expression_of r)
+  expression_of (expression.Distance' t q1 l q2 r) = DistanceOf t (expression_of l) (expression_of r)
+  expression_of (expression.Choice' t q1 c q2 l q3 r) = ChoiceOf t (expression_of c) (expression_of l) (expression_of r)
+  expression_of (expression.Assign' p q1 e) = AssignTo (place_of p) (expression_of e)
+  expression_of (expression.ArithmeticAssign' op p q1 e) = ArithmeticAssignTo op (place_of p) (expression_of e)
+  expression_of (expression.AdvanceAssign' p q1 e) = AdvanceAssignTo (place_of p) (expression_of e)
+  expression_of (expression.RetreatAssign' p q1 e) = RetreatAssignTo (place_of p) (expression_of e)
+  expression_of (expression.Comma' t q1 l q2 r) = CommaOf t (expression_of l) (expression_of r)
 
-  pub term_row : {m : _} → Row_of-Expression m → SomeExpressions
-  term_row end_of-Expression = NoExpressions
-  term_row (more_of-Expression e rest) = MoreExpressions (term e) (term_row rest)
+  pub expressions_in : {m : _} → Row_of-Expression m → SomeExpressions
+  expressions_in end_of-Expression = NoExpressions
+  expressions_in (more_of-Expression e rest) = MoreExpressions (expression_of e) (expressions_in rest)
 
-abbrev pub terms : List Expression → SomeExpressions
-terms [] = NoExpressions
-terms (e ∷ rest) = MoreExpressions (term e) (terms rest)
+abbrev pub expressions_of : List Expression → SomeExpressions
+expressions_of [] = NoExpressions
+expressions_of (e ∷ rest) = MoreExpressions (expression_of e) (expressions_of rest)
 
 -- the type of what is kept in a place
 unfoldable pub place_type : APlace → CType
@@ -108,7 +108,7 @@ type_of (Constant n) = types.Integer ints.Int
 type_of (LiteralAt object size) = types.Pointer ints.Char 0
 type_of (ArrayAt t v size) = t
 type_of (ReadOf p) = place_type p
-type_of (SizeofTerm n e) = types.Integer ints.Int
+type_of (SizeOfExpression n e) = types.Integer ints.Int
 type_of (SizeOf n) = types.Integer ints.Int
 type_of (AddressOf t p) = t
 type_of (CallOf t f to es) = t

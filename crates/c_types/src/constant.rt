@@ -1,6 +1,6 @@
 // Values of constant expressions.
 ghost use Rattle.std.specs.Prelude.{◌≡◌};
-ghost use Rattle.c_types.specs.Typed.{term};
+ghost use Rattle.c_types.specs.Typed.{expression_of};
 ghost use Rattle.c_types.specs.Constants.{converted, truth, apply_unary, apply, scale, advanced, retreated, distance, is_constant};
 ghost use Rattle.c_types.specs.Constants.{value_of, constant_of};
 
@@ -103,7 +103,7 @@ pub fn distance(of: CType, pointer: u32, other: u32) -> Option<u32>
 // Whether it is built of numbers, sizes and operators alone.
 #[tactic(auto, unfolding(crate::specs::Constants::is_constant))]
 fn is_constant(x: &Expression) -> bool
-    ensures { result ≡ is_constant (term x.now) }
+    ensures { result ≡ is_constant (expression_of x.now) }
 {
     match x {
         Expression::Number(_) => true,
@@ -127,7 +127,7 @@ fn is_constant(x: &Expression) -> bool
 // The value; None where it traps, or where it isn't built of constants.
 #[tactic(auto, unfolding(crate::specs::Constants::value_of))]
 fn value(x: &Expression) -> Option<u32>
-    ensures { result ≡ value_of (term x.now) }
+    ensures { result ≡ value_of (expression_of x.now) }
 {
     match x {
         Expression::Number(value) => Some(*value),
@@ -167,7 +167,7 @@ fn value(x: &Expression) -> Option<u32>
 /// that aren't evaluated, or where its value traps.
 #[tactic(auto, unfolding(crate::specs::Constants::constant_of))]
 pub fn constant(x: &Expression) -> Option<u32>
-    ensures { result ≡ constant_of (term x.now) }
+    ensures { result ≡ constant_of (expression_of x.now) }
 {
     if is_constant(x) { value(x) } else { None }
 }

@@ -1,6 +1,6 @@
 // Phrases with their types. Names are numbers; each reading, writing, scaling and conversion is a node or has its type beside it.
 ghost use Rattle.std.specs.Prelude.{◌≡◌};
-ghost use Rattle.c_types.specs.Typed.{term, place_type, type_of, is_null, operand_size};
+ghost use Rattle.c_types.specs.Typed.{expression_of, place_type, type_of, is_null, operand_size};
 
 use crate::types::{CType, Integer, Types};
 use gg_base::Rel;
@@ -144,7 +144,7 @@ impl Expression {
     /// The type of its value.
     #[tactic(auto, unfolding(crate::specs::Typed::type_of))]
     pub fn ctype(&self) -> CType
-        ensures { result ≡ type_of (term self.now) }
+        ensures { result ≡ type_of (expression_of self.now) }
     {
         match self {
             Expression::Number(_) => CType::Integer(Integer::Int),
@@ -179,7 +179,7 @@ impl Expression {
     /// Whether it is the null constant, the number 0 as it is written.
     #[tactic(auto, unfolding(crate::specs::Typed::is_null))]
     pub fn is_null(&self) -> bool
-        ensures { result ≡ is_null (term self.now) }
+        ensures { result ≡ is_null (expression_of self.now) }
     {
         match self {
             Expression::Number(value) => *value == 0,
@@ -190,7 +190,7 @@ impl Expression {
     /// What `sizeof` makes of it: the bytes of an array or a literal, else those of its type.
     #[tactic(auto, unfolding(crate::specs::Typed::operand_size))]
     pub fn operand_size(&self) -> u32
-        ensures { result ≡ operand_size (term self.now) }
+        ensures { result ≡ operand_size (expression_of self.now) }
     {
         match self {
             Expression::Array(_, _, size) => *size,

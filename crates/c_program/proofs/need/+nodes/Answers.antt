@@ -1,14 +1,14 @@
 use Rattle.std.proofs.Common.{rules, arith, ◌≡◌, ◌+◌, ◌≤◌, ℕ, List, drop, length, min, subst}
 use Rattle.std.proofs.lemmas.List.{drop_all}
 use Rattle.c_types.specs.declared.typed.Expression.{Expression}
-use Rattle.c_types.specs.Typed.{terms}
+use Rattle.c_types.specs.Typed.{expressions_of}
 use Rattle.c_types.proofs.Rows.{call_is}
 use Rattle.c_program.specs.Need.{all_nodes}
 use Rattle.c_program.proofs.need.+nodes.Goals as goal
 
-total : (es : List Expression) (i sum x : ℕ) → length es ≤ i → sum ≤ 4294967295 → min (sum + all_nodes (terms (drop i es))) 4294967295 ≡ x → sum ≡ x
+total : (es : List Expression) (i sum x : ℕ) → length es ≤ i → sum ≤ 4294967295 → min (sum + all_nodes (expressions_of (drop i es))) 4294967295 ≡ x → sum ≡ x
 total es i sum x le small h =
-    let e : min (sum + 0) 4294967295 ≡ x = subst (λ l. min (sum + all_nodes (terms l)) 4294967295 ≡ x) (drop_all i es le) h in
+    let e : min (sum + 0) 4294967295 ≡ x = subst (λ l. min (sum + all_nodes (expressions_of l)) 4294967295 ≡ x) (drop_all i es le) h in
     omega arith
 
 pub all_nodes-returns : goal.all_nodes-returns

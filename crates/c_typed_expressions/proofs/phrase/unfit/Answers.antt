@@ -6,7 +6,7 @@ use Rattle.std.specs.List.{zip}
 use borrow.Author.Tests.{tests}
 use Rattle.c_phrases.specs.declared.tree.Expr.{Expr}
 use Rattle.c_phrases.specs.Shapes.{exp, exp_list}
-use Rattle.c_types.specs.Typed.{terms}
+use Rattle.c_types.specs.Typed.{expressions_of}
 use Rattle.c_typed_expressions.specs.Phrases.{first}
 use Rattle.c_typed_expressions.specs.Calls.{unfit}
 use Rattle.c_typed_expressions.proofs.Rows.{is_unfit, Placed, unfit_placed}
@@ -14,7 +14,7 @@ use Rattle.c_typed_expressions.proofs.phrase.unfit.Goals as goal
 
 pub returns-in_err-number : goal.returns-in_err-number
 returns-in_err-number c =
-    let wanted = unfit c.args.parameters.now (exp_list c.args.arguments.now) (terms c.args.xs.now) in
+    let wanted = unfit c.args.parameters.now (exp_list c.args.arguments.now) (expressions_of c.args.xs.now) in
     let placed : Placed c.args.arguments.now c.position.result wanted =
     unfit_placed c.args.parameters.now c.args.arguments.now c.args.xs.now c.position.result
     (position_from_yields_List {s = c.zip.result} is_unfit c.position.new.self _ c.position.result c.position.ensures.ran
@@ -26,7 +26,7 @@ returns-in_err-number c =
 
 pub returns : goal.returns
 returns c =
-    let wanted = unfit c.args.parameters.now (exp_list c.args.arguments.now) (terms c.args.xs.now) in
+    let wanted = unfit c.args.parameters.now (exp_list c.args.arguments.now) (expressions_of c.args.xs.now) in
     let placed : Placed c.args.arguments.now c.position.result wanted =
     unfit_placed c.args.parameters.now c.args.arguments.now c.args.xs.now c.position.result
     (position_from_yields_List {s = c.zip.result} is_unfit c.position.new.self _ c.position.result c.position.ensures.ran

@@ -1,5 +1,5 @@
 use Rattle.std.proofs.lemmas.Result.{err_from_is_err_and}
-use Rattle.c_types.specs.Typed.{term}
+use Rattle.c_types.specs.Typed.{expression_of}
 use Rattle.c_phrases.specs.Shapes.{exp}
 use Rattle.c_typed_objects.specs.Views.{state}
 use Rattle.c_typed_statements.proofs.Conditions.{condition_turns, condition_fails}
@@ -12,4 +12,4 @@ returns-in_err-x c =
 
 pub returns : goal.returns
 returns c = condition_turns c.args.functions.now.names c.args.functions.now.signatures.items (exp c.args.e.now) (state c.args.environment.now) (state c.full.new.environment)
-    (term c.in_ok-x.x) c.first.result c.condition.result c.in_ok-x.ensures c.first.ensures c.condition.ensures
+    (expression_of c.in_ok-x.x) c.first.result c.condition.result c.in_ok-x.ensures c.first.ensures c.condition.ensures
