@@ -3,6 +3,7 @@ pub mod Sizes
 pub mod LittleEndian
 pub mod Relations
 pub mod Arithmetic
+pub mod Numbers
 pub mod Fronts
 pub mod Runs
 pub mod Turns

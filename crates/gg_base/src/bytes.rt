@@ -1,6 +1,7 @@
 // Names, bytes and texts, which contracts see as lists of bytes.
 ghost use Rattle.std.specs.Fmt.{decimal};
 ghost use Rattle.std.specs.Prelude.{◌≡◌, ◌++◌, IfOk, OnOk};
+ghost use Rattle.gg_base.specs.Numbers.{signed_text};
 
 use itoa::Buffer;
 use std::alloc::{AllocError, Global};
@@ -131,4 +132,16 @@ pub fn put_decimal(into: &mut Vec<u8>, number: u64) -> Result<(), AllocError>
     let mut buffer = Buffer::new();
     into.extend_from_slice(buffer.format(number).as_bytes())?;
     Ok(())
+}
+
+/// Appends 32 bits as a signed number, in decimal digits behind its sign.
+pub fn put_signed(into: &mut Vec<u8>, n: u32) -> Result<(), AllocError>
+    ensures { OnOk result (into.new.items ≡ into.old.items ++ signed_text n) }
+{
+    if n < 0x8000_0000 {
+        put_decimal(into, u64::from(n))
+    } else {
+        into.push(b'-')?;
+        put_decimal(into, u64::from(n.wrapping_neg()))
+    }
 }

@@ -14,7 +14,7 @@ pub mod run;
 pub mod size;
 
 pub use arithmetic as w32;
-pub use bytes::{Bytes, Name, Text, put_decimal};
+pub use bytes::{Bytes, Name, Text, put_decimal, put_signed};
 pub use memory::{NoMemory, number_of};
 pub use place::Place;
 pub use relation::Rel;

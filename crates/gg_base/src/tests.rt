@@ -1,5 +1,5 @@
 // The rows: arithmetic and relations, with values worked out on the signed numbers.
-use crate::{Bytes, Name, Rel, Size, Text, w32};
+use crate::{Bytes, Name, Rel, Size, Text, put_signed, w32};
 use std::test::Fail;
 
 const MIN: u32 = 0x8000_0000;
@@ -75,6 +75,23 @@ fn relations(rt: HostRuntime) {
         ];
         assert_eq!(rt; found, wanted);
     }
+}
+
+#[test]
+fn signed_numbers(rt: HostRuntime) -> Result<(), Fail> {
+    let rows = [
+        (0, b"0".as_slice()),
+        (5, b"5".as_slice()),
+        (0x7fff_ffff, b"2147483647".as_slice()),
+        (MIN, b"-2147483648".as_slice()),
+        (MINUS_ONE, b"-1".as_slice()),
+    ];
+    for (number, wanted) in rows {
+        let mut written = Vec::new(rt.alloc());
+        put_signed(&mut written, number)?;
+        assert_eq!(rt; written.as_slice(), wanted);
+    }
+    Ok(())
 }
 
 #[test]

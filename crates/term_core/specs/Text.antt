@@ -1,7 +1,7 @@
 -- How terms are written.
-use Rattle.std.specs.Prelude.{ℕ, List, ◌++◌, codes, nat_lt, if◌then◌else◌, ◌^◌}
+use Rattle.std.specs.Prelude.{ℕ, List, ◌++◌, codes}
 use Rattle.std.specs.Fmt.{decimal}
-use Rattle.gg_base.specs.Arithmetic.{neg32}
+use Rattle.gg_base.specs.Numbers.{signed_text}
 use Rattle.gg_base.specs.declared.size.Size.{Size}
 use Rattle.gg_base.specs.declared.size.Size.TheVariants.{Byte, Word, Long}
 use Rattle.term_core.specs.Operators.{unary_name, binary_name}
@@ -11,10 +11,6 @@ abbrev pub size_name : Size → List ℕ
 size_name Byte = codes "b"
 size_name Word = codes "w"
 size_name Long = codes "l"
-
--- a longword with its sign
-abbrev pub signed_text : ℕ → List ℕ
-signed_text n = if nat_lt n (2 ^ 31) then decimal n else codes "-" ++ decimal (neg32 n)
 
 abbrev pub term_text : Shape → List ℕ
 term_text (Constant n) = codes "K" ++ signed_text n

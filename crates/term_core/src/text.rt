@@ -4,10 +4,10 @@ ghost use Rattle.std.specs.Prelude.{◌≡◌, ◌++◌, OnOk};
 ghost use Rattle.std.specs.Fmt.{decimal};
 ghost use Rattle.term_core.specs.Shape.{shape_of};
 ghost use Rattle.term_core.specs.Form.{shape_of_form};
-ghost use Rattle.term_core.specs.Text.{size_name, signed_text, term_text};
+ghost use Rattle.term_core.specs.Text.{size_name, term_text};
 
 use crate::term::{Form, Term, form_of};
-use gg_base::{Size, put_decimal, w32};
+use gg_base::{Size, put_decimal, put_signed};
 use std::alloc::AllocError;
 
 /// The letter of a size.
@@ -27,17 +27,6 @@ pub fn put_text(into: &mut Vec<u8>, text: &str) -> Result<(), AllocError>
 {
     into.extend_from_slice(text.as_bytes())?;
     Ok(())
-}
-
-fn put_signed(into: &mut Vec<u8>, n: u32) -> Result<(), AllocError>
-    ensures { OnOk result (into.new.items ≡ into.old.items ++ signed_text n) }
-{
-    if n < 0x8000_0000 {
-        put_decimal(into, u64::from(n))
-    } else {
-        put_text(into, "-")?;
-        put_decimal(into, u64::from(w32::neg(n)))
-    }
 }
 
 /// Appends the text of a term.

@@ -16,7 +16,8 @@ use Rattle.std.proofs.lemmas.Str.Parse.{IsNumeralModel, numerals_by_value, tells
 use Rattle.std.proofs.lemmas.Fmt.{digits_decimal, digits_value-decimal, decimal-digits_value, decimal_digit, first_decimal, decimal_nonempty}
 use Rattle.gg_base.proofs.Facts.{guarded, unguarded}
 use Rattle.gg_base.specs.Fronts.{run_len}
-use Rattle.vax_core.specs.Text.{signed_text, offset_text}
+use Rattle.gg_base.specs.Numbers.{signed_text}
+use Rattle.vax_core.specs.Text.{offset_text}
 use Rattle.vax_reader.specs.Fronts.{strip, is_padded, number_of, number_front, at_most, at_least, up_to, from_one, below_zero, minus_front, signed_front, offset_front}
 use Rattle.vax_reader.proofs.Choices.{map_or_some, map_some}
 

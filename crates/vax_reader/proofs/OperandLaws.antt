@@ -6,6 +6,7 @@ use Rattle.std.specs.Option.{option_and_then, option_map_or}
 use Rattle.std.specs.Fmt.{decimal}
 use Rattle.std.proofs.lemmas.Bool.{eqb-true, ltb-true, lt-ltb, and_parts, or_cases, not-true}
 use Rattle.std.proofs.lemmas.Option.{none-some, same_Some, option_and_then_some}
+use Rattle.gg_base.specs.Numbers.{signed_text}
 use Rattle.vax_core.specs.declared.register.Reg.{Reg}
 use Rattle.vax_core.specs.declared.register.Reg.TheVariants.{R0, R1, R2, R3, R4, R5, R6, R7, R8, R9, R10, R11, Ap, Fp, Sp}
 use Rattle.vax_core.specs.declared.operand.Addr.{Addr}
@@ -13,7 +14,7 @@ use Rattle.vax_core.specs.declared.operand.Base.{Base}
 use Rattle.vax_core.specs.declared.operand.Base.TheVariants as bases
 use Rattle.vax_core.specs.declared.operand.Operand.{Operand}
 use Rattle.vax_core.specs.Registers.{reg_text}
-use Rattle.vax_core.specs.Text.{signed_text, offset_text, addr_text_of, addr_text, at_text, base_text, index_text, operand_text}
+use Rattle.vax_core.specs.Text.{offset_text, addr_text_of, addr_text, at_text, base_text, index_text, operand_text}
 use Rattle.vax_core.specs.Valid.{is_name_start, is_name, is_long, is_named_addr, is_addr_of, is_addr, is_base}
 use Rattle.vax_core.proofs.ValidLaws.{named_is_addr}
 use Rattle.vax_reader.specs.Fronts.{strip, number_front, signed_front, offset_front, name_front, reg_front, closed, at_front}

@@ -10,6 +10,7 @@ use Rattle.std.proofs.lemmas.Bool.Decides.{nat_tests}
 use Rattle.std.proofs.lemmas.List.Folds.{list_all-append}
 use Rattle.std.proofs.lemmas.Str.{IsUtf8-from_ascii}
 use Rattle.gg_base.specs.Names.{is_name_part}
+use Rattle.gg_base.specs.Numbers.{signed_text}
 use Rattle.vax_core.specs.declared.register.Reg.{Reg}
 use Rattle.vax_core.specs.declared.register.Reg.TheVariants.{R0, R1, R2, R3, R4, R5, R6, R7, R8, R9, R10, R11, Ap, Fp, Sp}
 use Rattle.vax_core.specs.declared.operand.Base.{Base}
@@ -26,7 +27,7 @@ use Rattle.vax_core.specs.declared.code.CodeItem.TheVariants as item_kind
 use Rattle.vax_core.specs.declared.code.Code.{Code}
 use Rattle.vax_core.specs.Registers.{reg_text}
 use Rattle.vax_core.specs.Ops.{shape}
-use Rattle.vax_core.specs.Text.{signed_text, offset_text, addr_text_of, addr_text, at_text, base_text, index_text, operand_text, operands_text, tail_text, instr_text, area_line, item_line, asm_text}
+use Rattle.vax_core.specs.Text.{offset_text, addr_text_of, addr_text, at_text, base_text, index_text, operand_text, operands_text, tail_text, instr_text, area_line, item_line, asm_text}
 use Rattle.vax_core.specs.Valid.{is_name_start, is_name, is_named_addr, is_addr_of, is_base, is_operand, are_operands, is_target, is_instr, is_area_item}
 use Rattle.vax_core.specs.Valid.{is_code_item, is_code, allows, is_index}
 

@@ -1,26 +1,14 @@
 // Numbers, addresses and operands.
 ghost use Rattle.std.specs.Prelude.{◌≡◌, ◌++◌, OnOk};
-ghost use Rattle.std.specs.Fmt.{decimal};
 ghost use Rattle.vax_core.specs.Registers.{reg_text};
-ghost use Rattle.vax_core.specs.Text.{signed_text, offset_text, addr_text, at_text, base_text, index_text, operand_text, operands_text};
+ghost use Rattle.vax_core.specs.Text.{offset_text, addr_text, at_text, base_text, index_text, operand_text, operands_text};
 
-use gg_base::{Name, put_decimal};
+use gg_base::{Name, put_signed};
 use std::alloc::AllocError;
 use vax_core::{Addr, Base, Operand, Reg};
 
 /// The least number whose sign bit is set.
 const SIGN: u32 = 0x8000_0000;
-
-fn put_signed(into: &mut Vec<u8>, n: u32) -> Result<(), AllocError>
-    ensures { OnOk result (into.new.items ≡ into.old.items ++ signed_text n) }
-{
-    if n < SIGN {
-        put_decimal(into, u64::from(n))
-    } else {
-        into.push(b'-')?;
-        put_decimal(into, u64::from(n.wrapping_neg()))
-    }
-}
 
 fn put_offset(into: &mut Vec<u8>, n: u32) -> Result<(), AllocError>
     ensures { OnOk result (into.new.items ≡ into.old.items ++ offset_text n) }
@@ -30,11 +18,8 @@ fn put_offset(into: &mut Vec<u8>, n: u32) -> Result<(), AllocError>
     }
     if n < SIGN {
         into.push(b'+')?;
-        put_decimal(into, u64::from(n))
-    } else {
-        into.push(b'-')?;
-        put_decimal(into, u64::from(n.wrapping_neg()))
     }
+    put_signed(into, n)
 }
 
 /// Appends a name with its offset, or a number.
