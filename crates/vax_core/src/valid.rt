@@ -8,10 +8,7 @@ ghost use Rattle.vax_core.specs.Valid.{is_code_item, is_code};
 
 use crate::{Access, Addr, AreaItem, Base, Code, CodeItem, Instr, Operand, OperandKind, Reg};
 use gg_base::Name;
-use gg_base::limits::TEXT_NAME_LIMIT;
-
-/// The longest `.space`, which is the longest data area.
-const SPACE_LIMIT: u32 = 1_048_576;
+use gg_base::limits::{AREA_LIMIT, TEXT_NAME_LIMIT};
 
 /// An offset that no sign and number can be written of behind a name.
 const UNWRITABLE_OFFSET: u32 = 0x8000_0000;
@@ -181,7 +178,7 @@ fn is_area_item(item: &AreaItem) -> bool
             true
         }
         AreaItem::Long(a) => is_addr(a),
-        AreaItem::Space(n) => 1 <= *n && *n <= SPACE_LIMIT,
+        AreaItem::Space(n) => 1 <= *n && *n <= AREA_LIMIT,
     }
 }
 
