@@ -19,29 +19,27 @@ use Rattle.c_lower_follows.proofs.Steps.{label_step, label_counts, jump_step, De
 use Rattle.c_lower_follows.proofs.Agreeing.{Since, set_same, set_other, not_nil, back_nil}
 use Rattle.gg_base.specs.declared.relation.Rel.{Rel}
 use Rattle.gg_base.specs.Relations.{holds}
-use Rattle.c_types.specs.Constants.{truth, apply_unary}
+use Rattle.gg_base.specs.Numbers.{truth}
+use Rattle.c_types.specs.Constants.{apply_unary}
 use Rattle.c_types.specs.declared.typed.UnaryOperator.TheVariants as unaries
 use Rattle.c_lower_follows.proofs.Doing.{either_way, Agrees, here, Does, DoesTwo, Drops, Asks, Delivers, DoesWay, assoc, save_temp, since_both, since_more, two_does}
 use Rattle.c_lower_follows.proofs.Doing.{test_asks, delivered_does, arrives_behind}
 use Rattle.c_lower_follows.proofs.Storing.{use_number}
 
 chosen_truth : (b : Bool) (κ : Rest) (st : State) → κ (truth b) st ≡ chosen (truth b) (κ 1 st) (κ 0 st)
-unfolding truth
 chosen_truth true κ st = refl
 chosen_truth false κ st = refl
 
 truth_met : (b : Bool) (r q : Runs) → b ≡ true → chosen (truth b) r q ≡ r
-unfolding truth
 truth_met true r q e = refl
 truth_met false r q e = absurd (cc)
 
 truth_unmet : (b : Bool) (r q : Runs) → b ≡ false → chosen (truth b) r q ≡ q
-unfolding truth
 truth_unmet false r q e = refl
 truth_unmet true r q e = absurd (cc)
 
 not_zero : (v : ℕ) (r q : Runs) → chosen (apply_unary unaries.Not v) r q ≡ chosen v q r
-unfolding apply_unary truth
+unfolding apply_unary
 not_zero zero r q = refl
 not_zero (suc v) r q = ap (λ b. chosen (truth b) r q) (ne_eqb (suc v) 0 (λ e. omega arith))
 
@@ -238,12 +236,8 @@ module _ (program : TreeProgram) (code : List TreeItem) (callers : List Activati
   sided true x r q = chosen x r q
   sided false x r q = chosen x q r
 
-  abbrev pub bit : Bool → ℕ
-  bit true = 1
-  bit false = 0
-
   abbrev pub Chained : Bool → (Rest → State → Runs) → (Rest → State → Runs) → Rest → State → Runs
-  Chained stop m n κ = m (λ x st. sided stop x (κ (bit stop) st) (n (λ y. κ (logical y)) st))
+  Chained stop m n κ = m (λ x st. sided stop x (κ (truth stop) st) (n (λ y. κ (logical y)) st))
 
   pub then_asks_low : (k l : ℕ) (is : List Item) (d : Desk) (r : Runs) → Leads k r (counted (going is d)) → Leads k r (counted (going (Label l ∷ is) d))
   then_asks_low k l is d r h = label_counts program code callers k l is d r h

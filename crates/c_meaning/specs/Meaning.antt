@@ -2,8 +2,9 @@
 use Rattle.std.specs.Prelude.{ℕ, List, [], ◌∷◌, Option, Some, None}
 use Rattle.gg_base.specs.Runs.{Runs, counted}
 use Rattle.gg_base.specs.Relations.{holds}
+use Rattle.gg_base.specs.Numbers.{truth}
 use Rattle.c_types.specs.declared.types.CType.{CType}
-use Rattle.c_types.specs.Constants.{converted, truth, apply_unary, apply, advanced, retreated, distance}
+use Rattle.c_types.specs.Constants.{converted, apply_unary, apply, advanced, retreated, distance}
 use Rattle.c_types.specs.Typed.{APlace, VariableAt, PointedBy, ElementBy, AnExpression, Constant, LiteralAt, ArrayAt}
 use Rattle.c_types.specs.Typed.{ReadOf, SizeOfExpression, SizeOf, AddressOf, CallOf, StepOf}
 use Rattle.c_types.specs.Typed.{UnaryOf, CastTo, ConvertTo, ArithmeticOf, CompareOf, BothOf, EitherOf, AdvanceOf}

@@ -3,9 +3,10 @@ use Rattle.std.specs.Prelude.{ℕ, ◌-◌, ◌^◌, List, [], ◌∷◌, Option
 use Rattle.std.specs.Borrow.{Bor}
 use Rattle.gg_base.specs.Runs.{Runs}
 use Rattle.gg_base.specs.Relations.{holds}
+use Rattle.gg_base.specs.Numbers.{truth}
 use Rattle.c_types.specs.declared.types.CType.{CType}
 use Rattle.c_types.specs.declared.typed.Expression.{Expression}
-use Rattle.c_types.specs.Constants.{truth, apply, advanced, retreated, distance}
+use Rattle.c_types.specs.Constants.{apply, advanced, retreated, distance}
 use Rattle.c_types.specs.Typed.{AnExpression}
 use Rattle.c_types.specs.Typed.{expression_of}
 use Rattle.c_program.specs.Statements.{act}

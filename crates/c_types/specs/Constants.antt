@@ -2,6 +2,7 @@
 use Rattle.std.specs.Prelude.{ℕ, ◌==◌, Bool, true, false, not, ◌&&◌, Option, Some, None, if◌then◌else◌}
 use Rattle.gg_base.specs.Relations.{holds}
 use Rattle.gg_base.specs.Arithmetic.{add32, sub32, mul32, and32, or32, xor32, neg32, com32, div32, ash32}
+use Rattle.gg_base.specs.Numbers.{truth}
 use Rattle.c_types.specs.declared.types.CType.{CType}
 use Rattle.c_types.specs.declared.types.CType.TheVariants.{Void, Integer, Pointer}
 use Rattle.c_types.specs.declared.typed.UnaryOperator.{UnaryOperator}
@@ -17,11 +18,6 @@ unfoldable pub converted : CType → ℕ → ℕ
 converted Void v = v
 converted (Integer b) v = kept b v
 converted (Pointer b n) v = v
-
--- 1 or 0
-unfoldable pub truth : Bool → ℕ
-truth true = 1
-truth false = 0
 
 abbrev pub is_zero : ℕ → Bool
 is_zero v = v == 0

@@ -1,7 +1,8 @@
 // Values of constant expressions.
 ghost use Rattle.std.specs.Prelude.{◌≡◌};
+ghost use Rattle.gg_base.specs.Numbers.{truth};
 ghost use Rattle.c_types.specs.Typed.{expression_of};
-ghost use Rattle.c_types.specs.Constants.{converted, truth, apply_unary, apply, scale, advanced, retreated, distance, is_constant};
+ghost use Rattle.c_types.specs.Constants.{converted, apply_unary, apply, scale, advanced, retreated, distance, is_constant};
 ghost use Rattle.c_types.specs.Constants.{value_of, constant_of};
 
 use crate::typed::{ArithmeticOperator, Expression, UnaryOperator};
@@ -22,7 +23,6 @@ pub fn convert(to: CType, value: u32) -> u32
 }
 
 /// 1 for true, 0 for false.
-#[tactic(auto, unfolding(crate::specs::Constants::truth))]
 pub fn truth(holds: bool) -> u32
     ensures { result ≡ truth holds }
 {

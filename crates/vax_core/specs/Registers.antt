@@ -1,8 +1,9 @@
 -- How registers are written, and their bits in an entry mask.
-use Rattle.std.specs.Prelude.{◌≡◌, ℕ, ◌^◌, Bool, true, false, ◌==◌, ◌&&◌, ◌||◌, nat_lt, if◌then◌else◌, bit_or, List}
+use Rattle.std.specs.Prelude.{◌≡◌, ℕ, ◌^◌, Bool, false, ◌==◌, ◌&&◌, ◌||◌, nat_lt, if◌then◌else◌, bit_or, List}
 use Rattle.std.specs.Prelude.{Option, Some, None, codes}
 use Rattle.std.specs.List.{list_any}
 use Rattle.std.specs.Int.{bit_at}
+use Rattle.gg_base.specs.Numbers.{truth}
 use Rattle.vax_core.specs.declared.register.Reg.{Reg}
 use Rattle.vax_core.specs.declared.register.Reg.TheVariants.{R0, R1, R2, R3, R4, R5, R6, R7, R8, R9, R10, R11, Ap, Fp, Sp}
 use Rattle.vax_core.specs.declared.operand.Base.{Base}
@@ -82,11 +83,6 @@ named_bits (Some r) = reg_bit r
 abbrev pub operand_bits : Operand → ℕ
 operand_bits o = bit_or (named_bits (base_register o.base)) (named_bits o.index)
 
--- a bit as a number
-abbrev pub bit : Bool → ℕ
-bit true = 1
-bit false = 0
-
 -- bit n of the set is there exactly where rn is named
 abbrev pub IsSetOf : ℕ → (ℕ → Bool) → Type 0
-IsSetOf set named = (n : ℕ) → bit_at set n ≡ bit (named n)
+IsSetOf set named = (n : ℕ) → bit_at set n ≡ truth (named n)

@@ -3,9 +3,10 @@ use Rattle.std.proofs.Common.{◌≡◌, ℕ, ◌+◌, ◌/◌, ◌%◌, ◌^◌
 use Rattle.std.specs.Int.{bit_at}
 use Rattle.std.proofs.lemmas.Bool.{or_parts, le-leb, lt-ltb, true≢false}
 use Rattle.std.proofs.lemmas.Nat.Bits.{bit_at_lowest, bit_at-suc}
+use Rattle.gg_base.specs.Numbers.{truth}
 use Rattle.vax_core.specs.declared.code.CodeItem.{CodeItem}
 use Rattle.vax_core.specs.declared.code.CodeItem.TheVariants as item_kind
-use Rattle.vax_core.specs.Registers.{bit, operands_name}
+use Rattle.vax_core.specs.Registers.{operands_name}
 use Rattle.vax_frames.specs.Frames.{item_names, body_names, is_kept, IsMaskOf, IsFrameCode}
 use Rattle.vax_frames_law.specs.Calling.{IsMask}
 use Rattle.vax_frames_law.specs.Guarding.{has}
@@ -14,13 +15,13 @@ use Rattle.vax_frames_law.specs.Within.{KeepWithin, StaysInside, FrameCodesKeepW
 is_kept_so : (r : ℕ) → 2 ≤ r → r < 12 → is_kept r ≡ true
 is_kept_so r low high = rw (le-leb 2 r low, lt-ltb r 12 high) refl
 
-unnamed_by : (b : Bool) (k : ℕ) → k ≡ bit b → eqb k 1 ≡ false → b ≡ false
+unnamed_by : (b : Bool) (k : ℕ) → k ≡ truth b → eqb k 1 ≡ false → b ≡ false
 unnamed_by false k e f = refl
 unnamed_by true k e f = absurd (true≢false (sym (ap (λ (n : ℕ). eqb n 1) e) ∙ f))
 
 module _ (mask : ℕ) (body : List CodeItem) (h : IsMaskOf mask body) where
   unnamed : (r : ℕ) → 2 ≤ r → r < 12 → has mask r ≡ false → body_names body r ≡ false
-  unnamed r low high out = unnamed_by (body_names body r) (bit_at mask r) (h r ∙ ap (λ (b : Bool). bit (b && body_names body r)) (is_kept_so r low high)) out
+  unnamed r low high out = unnamed_by (body_names body r) (bit_at mask r) (h r ∙ ap (λ (b : Bool). truth (b && body_names body r)) (is_kept_so r low high)) out
 
   within : (rest : List CodeItem) → ((r : ℕ) → 2 ≤ r → r < 12 → has mask r ≡ false → body_names rest r ≡ false) → StaysInside body rest → KeepWithin body mask rest
   within [] named inside = tt

@@ -8,6 +8,7 @@ use Rattle.gg_base.specs.declared.size.Size.{Size}
 use Rattle.gg_base.specs.declared.size.Size.TheVariants.{Long}
 use Rattle.gg_base.specs.Sizes.{bytes_of, low}
 use Rattle.gg_base.specs.Arithmetic.{add32, mul32}
+use Rattle.gg_base.specs.Numbers.{truth}
 use Rattle.tree_core.specs.declared.program.TreeProgram.{TreeProgram}
 use Rattle.vax_target_lines.specs.tree_meaning.specs.State.{State as Trees, Extent}
 use Rattle.vax_target_lines.specs.sel_target.specs.Meaning.{Spot, RegAt}
@@ -17,7 +18,7 @@ use Rattle.vax_core.specs.declared.register.Reg.TheVariants.{Fp, Ap, Sp}
 use Rattle.vax_core.specs.declared.operand.Base.{Base}
 use Rattle.vax_core.specs.declared.operand.Base.TheVariants as bases
 use Rattle.vax_core.specs.declared.operand.Operand.{Operand}
-use Rattle.vax_core.specs.Registers.{reg_number, base_register, is_named, operand_names, operand_bits, bit}
+use Rattle.vax_core.specs.Registers.{reg_number, base_register, is_named, operand_names, operand_bits}
 use Rattle.vax_core.proofs.RegisterLaws.{operand_named}
 use Rattle.vax_machine.specs.declared.function.Conditions.{Conditions}
 use Rattle.vax_machine.specs.State.{State, reg}
@@ -104,7 +105,7 @@ named_true r n lt e = ap (λ b. b && nat_lt n 12) (eq-eqb (reg_number r) n e) �
 
 names_both : (o : Operand) (n : ℕ) (r : Reg) → n < 12 → reg_number r ≡ n → (bit_at (operand_bits o) n == 1) ≡ false → operand_names o n ≡ true → ⊥
 names_both o n r lt e off on =
-    let is : bit_at (operand_bits o) n ≡ 1 = operand_named o n ∙ ap bit on in
+    let is : bit_at (operand_bits o) n ≡ 1 = operand_named o n ∙ ap truth on in
     let same : true ≡ false = sym (eq-eqb (bit_at (operand_bits o) n) 1 is) ∙ off in
     cc
 

@@ -17,7 +17,7 @@ use Rattle.vax_target_lines.specs.sel_target.specs.Instances.{attr_touches}
 use Rattle.vax_core.specs.declared.register.Reg.{Reg}
 use Rattle.vax_core.specs.declared.operand.Operand.{Operand}
 use Rattle.vax_core.specs.Homes.{at_home}
-use Rattle.vax_core.specs.Registers.{reg_number, base_register, operand_bits, bit}
+use Rattle.vax_core.specs.Registers.{reg_number, base_register, operand_bits}
 use Rattle.vax_core.proofs.RegisterLaws.{none_named}
 use Rattle.vax_machine.specs.State.{State}
 use Rattle.vax_machine.specs.Area.{resolved}

@@ -4,13 +4,14 @@ use Rattle.std.specs.Prelude.{nat_le}
 use Rattle.std.proofs.lemmas.Bool.{lt-ltb, le-leb}
 use Rattle.gg_base.proofs.Facts.{is_zero}
 use Rattle.gg_base.proofs.Words.{neg_twice}
+use Rattle.gg_base.specs.Numbers.{truth}
 use Rattle.tree_core.specs.declared.token.Tok.TheVariants as tok
 use Rattle.vax_templates.specs.sel_target.specs.Meaning.{Spot, RegAt, WordAt, touches, is_word}
 use Rattle.vax_core.specs.declared.register.Reg.{Reg}
 use Rattle.vax_core.specs.declared.operand.Base.{Base}
 use Rattle.vax_core.specs.declared.operand.Base.TheVariants as bases
 use Rattle.vax_core.specs.declared.operand.Operand.{Operand}
-use Rattle.vax_core.specs.Registers.{base_register, is_named, operand_names, operand_bits, bit}
+use Rattle.vax_core.specs.Registers.{base_register, is_named, operand_names, operand_bits}
 use Rattle.vax_core.specs.Same.{same_operand}
 use Rattle.vax_core.specs.Homes.{home, at_home, argument_home}
 use Rattle.vax_core.proofs.RegisterLaws.{operand_named}
@@ -83,7 +84,7 @@ abbrev pub base_at : Base → Spot → Bool
 base_at b (RegAt n) = is_named (base_register b) n
 base_at b (WordAt w) = is_word (word_of b) w
 
-as_bit : (b : Bool) → (bit b == 1) ≡ b
+as_bit : (b : Bool) → (truth b == 1) ≡ b
 as_bit true = refl
 as_bit false = refl
 
