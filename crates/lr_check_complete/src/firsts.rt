@@ -12,10 +12,10 @@ ghost use Rattle.lr_check_complete.specs.Firsts.{AddsList, AddsLists, FirstKid, 
 
 use crate::look::Look;
 use gg_base::NoMemory;
-use lr_check_found::{Found, Item, Origin, Place, may, tokens};
+use lr_check_found::{Found, Item, Origin, Place, may};
 use lr_tables::State;
 use std::alloc::Global;
-use tree_core::{Sort, Tok};
+use tree_core::{Sort, Tok, tokens};
 
 // Whether some of the sums has the list.
 fn has_list(found: &Found, sums: &[usize], list: usize) -> bool

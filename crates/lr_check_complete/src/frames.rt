@@ -11,11 +11,11 @@ ghost use Rattle.lr_check_complete.specs.Kids.{OnlyIn, KidsIn, IsFrame, AtPlaces
 
 use crate::look::Look;
 use gg_base::NoMemory;
-use lr_check_found::{How, Item, Place, tokens};
+use lr_check_found::{How, Item, Place};
 use lr_tables::State;
 use md_reader::Sym;
 use std::alloc::Global;
-use tree_core::{Sort, Tok};
+use tree_core::{Sort, Tok, tokens};
 
 impl<'a> Look<'a> {
     // A token without kids settles at each of the places.

@@ -10,9 +10,9 @@ ghost use Rattle.lr_check_complete.specs.Kids.{OneKid, OneIn, OnlyAt, OnlyIn};
 
 use crate::look::Look;
 use gg_base::NoMemory;
-use lr_check_found::{How, Item, Origin, Place, may, tokens};
+use lr_check_found::{How, Item, Origin, Place, may};
 use lr_tables::State;
-use tree_core::{Sort, Tok};
+use tree_core::{Sort, Tok, tokens};
 
 impl<'a> Look<'a> {
     // A sum of the kid, unless both are old.

@@ -16,10 +16,10 @@ ghost use Rattle.lr_check_complete.specs.Kids.{FrameIn, ReducesIn};
 use crate::look::Look;
 use crate::window::Window;
 use gg_base::NoMemory;
-use lr_check_found::{Found, Item, Origin, Place, may, tokens};
+use lr_check_found::{Found, Item, Origin, Place, may};
 use lr_tables::{State, Tables};
 use std::alloc::Global;
-use tree_core::{Sort, Tok};
+use tree_core::{Sort, Tok, tokens};
 
 impl<'a> Look<'a> {
     // The whole tree's place that begins with the token, if it may.

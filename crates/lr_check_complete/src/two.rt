@@ -14,10 +14,10 @@ ghost use Rattle.lr_check_complete.specs.Seconds.{SecondKid, SecondFound};
 
 use crate::look::Look;
 use gg_base::NoMemory;
-use lr_check_found::{Found, How, Item, Origin, Place, may, tokens};
+use lr_check_found::{Found, How, Item, Origin, Place, may};
 use lr_tables::State;
 use std::alloc::Global;
-use tree_core::{Sort, Tok};
+use tree_core::{Sort, Tok, tokens};
 
 // The state behind the list of the settling with the number, if it leads to one.
 fn behind(found: &Found, number: usize) -> Option<State>

@@ -13,4 +13,3 @@ pub mod Counting
 pub mod Added
 pub mod Below
 pub mod Leading
-mod Listing

@@ -14,5 +14,5 @@ pub use adding::Stop;
 pub use choices::{Leads, Seen, can_block, candidate, free_choices};
 pub use found::Found;
 pub use lists::Lists;
-pub use places::{Origin, Place, may, tokens};
+pub use places::{Origin, Place, may};
 pub use settlings::{How, Item, Settling};

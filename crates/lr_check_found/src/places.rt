@@ -1,62 +1,10 @@
 // The places at which a subtree may begin.
-ghost use Rattle.std.specs.Prelude.{◌≡◌, IsTrue, Contains};
-ghost use Rattle.tree_core.specs.declared.token.Tok.{Tok};
+ghost use Rattle.std.specs.Prelude.{◌≡◌, IsTrue};
 ghost use Rattle.lr_check_sets.specs.Trees.{may};
 ghost use Rattle.lr_check_found.specs.Found.{slot};
 
 use lr_tables::{State, number};
 use tree_core::{Sort, Tok};
-
-// The tokens, in table order.
-const TOKENS: [Tok; 40] = [
-    Tok::Zero,
-    Tok::One,
-    Tok::Two,
-    Tok::Four,
-    Tok::Eight,
-    Tok::Const,
-    Tok::Gaddr,
-    Tok::Loc,
-    Tok::Arg,
-    Tok::IndirB,
-    Tok::IndirW,
-    Tok::IndirL,
-    Tok::Plus,
-    Tok::Minus,
-    Tok::Mul,
-    Tok::Div,
-    Tok::Mod,
-    Tok::And,
-    Tok::Or,
-    Tok::Xor,
-    Tok::Lsh,
-    Tok::Rsh,
-    Tok::Neg,
-    Tok::Com,
-    Tok::Sxb,
-    Tok::Zxb,
-    Tok::Sxw,
-    Tok::Zxw,
-    Tok::Ncb,
-    Tok::Ncw,
-    Tok::AssignB,
-    Tok::AssignW,
-    Tok::AssignL,
-    Tok::Cbr,
-    Tok::Push,
-    Tok::Ret,
-    Tok::Call,
-    Tok::Save,
-    Tok::Jump,
-    Tok::End,
-];
-
-/// All tokens, in table order.
-pub fn tokens() -> &'static [Tok]
-    ensures { (k : Tok) → Contains result.now k }
-{
-    &TOKENS
-}
 
 /// Whether a tree that begins with the token may stand where the sort is wanted.
 pub fn may(token: Tok, wanted: Sort) -> bool

@@ -13,3 +13,4 @@ pub mod Law
 pub mod Apart
 pub mod Naming
 pub mod Sorts
+mod Listing

@@ -17,7 +17,7 @@ mod window;
 
 pub use lists::{Leaves, Links, Objects, TreeFns, TreeItems};
 pub use program::{Link, Object, TreeFn, TreeItem, TreeProgram};
-pub use token::{AttKind, Sort, Tok};
+pub use token::{AttKind, Sort, TOKENS, Tok, tokens};
 pub use tree::{Att, Leaf, Tree, linear, show_tree};
 pub use typing::{trees_grow_back, typed};
 pub use valid::args_of;

@@ -1,7 +1,8 @@
 // The tokens of the tree language, and the sorts of its trees.
 
-ghost use Rattle.std.specs.Prelude.{◌≡◌};
+ghost use Rattle.std.specs.Prelude.{◌≡◌, Contains};
 ghost use Rattle.std.specs.Option.{option_map};
+ghost use Rattle.tree_core.specs.declared.token.Tok.{Tok};
 ghost use Rattle.tree_core.specs.Attributes.{attribute_of};
 ghost use Rattle.tree_core.specs.Names.{name_of};
 ghost use Rattle.tree_core.specs.Grammar.{production, kids, sort_of, fits};
@@ -63,6 +64,50 @@ pub enum Tok {
     End,
 }
 
+/// All tokens, in the order in which tables list them, `End` last.
+pub const TOKENS: [Tok; 40] = [
+    Tok::Zero,
+    Tok::One,
+    Tok::Two,
+    Tok::Four,
+    Tok::Eight,
+    Tok::Const,
+    Tok::Gaddr,
+    Tok::Loc,
+    Tok::Arg,
+    Tok::IndirB,
+    Tok::IndirW,
+    Tok::IndirL,
+    Tok::Plus,
+    Tok::Minus,
+    Tok::Mul,
+    Tok::Div,
+    Tok::Mod,
+    Tok::And,
+    Tok::Or,
+    Tok::Xor,
+    Tok::Lsh,
+    Tok::Rsh,
+    Tok::Neg,
+    Tok::Com,
+    Tok::Sxb,
+    Tok::Zxb,
+    Tok::Sxw,
+    Tok::Zxw,
+    Tok::Ncb,
+    Tok::Ncw,
+    Tok::AssignB,
+    Tok::AssignW,
+    Tok::AssignL,
+    Tok::Cbr,
+    Tok::Push,
+    Tok::Ret,
+    Tok::Call,
+    Tok::Save,
+    Tok::Jump,
+    Tok::End,
+];
+
 /// The kinds of attributes.
 #[derive(Clone, Copy, Debug, PartialEq, Eq)]
 pub enum AttKind {
@@ -81,6 +126,13 @@ pub enum AttKind {
     Label,
     /// A function and a number of arguments, at most 255.
     Callee,
+}
+
+/// All tokens, in the order in which tables list them.
+pub fn tokens() -> &'static [Tok]
+    ensures { (k : Tok) → Contains result.now k }
+{
+    &TOKENS
 }
 
 impl Tok {

@@ -2,7 +2,7 @@
 use Rattle.std.proofs.Common.{List, Contains, refl, arith, sym, subst, ◌≡◌}
 use Rattle.tree_core.specs.declared.token.Tok.{Tok}
 use Rattle.tree_core.specs.declared.token.Tok.TheVariants as tok
-use Rattle.lr_check_found.specs.declared.places.TheConstants.{TOKENS}
+use Rattle.tree_core.specs.declared.token.TheConstants.{TOKENS}
 
 listed : (k : Tok) → Contains TOKENS k
 listed tok.Zero = (0, omega arith, refl)
