@@ -36,9 +36,8 @@ use Rattle.md_reader.specs.declared.forms.Saved.{Saved}
 use Rattle.md_reader.specs.declared.forms.Saved.TheVariants as saved
 use Rattle.md_reader.specs.declared.reading.Stage.{Stage}
 use Rattle.md_reader.specs.declared.reading.Stage.TheVariants as stage
-use Rattle.md_reader.specs.declared.symbols.TheConstants.{TOKENS}
 use Rattle.md_reader.specs.Patterns.{kids_of, sort_of_kind, sort_of_symbol, sorted_test, walk, count}
-use Rattle.md_reader.specs.Symbols.{token_among, token_of, class_from, class_of, symbol_of, symbols_of}
+use Rattle.md_reader.specs.Symbols.{token_among, tree_tokens, token_of, class_from, class_of, symbol_of, symbols_of}
 use Rattle.md_reader.specs.Forms.{is_skipped, is_name, kind_form, class_form, spill_form, saved_number}
 use Rattle.md_reader.specs.RuleForms.{rule_form, give_form, plain_give, has_register, gives_register, is_passed}
 use Rattle.md_reader.specs.RuleForms.{register_behind}
@@ -341,7 +340,7 @@ symbol_again : (cs : List Class) (s : Sym) (y : Sort) → AreClasses cs → sort
 symbol_again cs (grammar_symbol.Tok t) y h e = rw (token_again t y e) refl
 symbol_again cs (grammar_symbol.Class c) y h e =
     let lt = declared cs c y e in
-    rw (token_free TOKENS _ (named_at cs c h.named lt), class_of_again cs c lt h.apart) refl
+    rw (token_free tree_tokens _ (named_at cs c h.named lt), class_of_again cs c lt h.apart) refl
 
 pub has_sort : (o : Option Sort) (x : Sort) → sort_fits o x ≡ true → (y : Sort) × (o ≡ Some y)
 has_sort None x e = absurd (false≢true e)

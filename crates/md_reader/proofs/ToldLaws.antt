@@ -30,9 +30,8 @@ use Rattle.md_reader.specs.declared.faults.DescFault.{DescFault}
 use Rattle.md_reader.specs.declared.forms.Saved.{Saved}
 use Rattle.md_reader.specs.declared.reading.Stage.{Stage}
 use Rattle.md_reader.specs.declared.reading.Stage.TheVariants as stage
-use Rattle.md_reader.specs.declared.symbols.TheConstants.{TOKENS}
 use Rattle.md_reader.specs.Patterns.{kind_at, sorted_test, walk, count}
-use Rattle.md_reader.specs.Symbols.{token_among, token_of, token_or_class, class_from, class_of, symbol_of, symbols_of}
+use Rattle.md_reader.specs.Symbols.{token_among, tree_tokens, token_of, token_or_class, class_from, class_of, symbol_of, symbols_of}
 use Rattle.md_reader.specs.Forms.{is_skipped, are_both, pool_form, class_form, spill_form, saved_number}
 use Rattle.md_reader.specs.RuleForms.{rule_form, if_form, do_form, give_form, plain_give, register_behind}
 use Rattle.md_reader.specs.Restrictions.{restriction_fits}
@@ -92,7 +91,7 @@ symbol_named cs w s e = at (token_of w) refl e
     class (Some j) f e = rw (← same_Some (grammar_symbol.Class j) s e) (class_named cs w j f)
 
     at : (o : Option Tok) → token_of w ≡ o → token_or_class o (class_of cs w) ≡ Some s → symbol_word cs s ≡ w
-    at (Some t) f e = rw (← same_Some (grammar_symbol.Tok t) s e) (token_named TOKENS w t f)
+    at (Some t) f e = rw (← same_Some (grammar_symbol.Tok t) s e) (token_named tree_tokens w t f)
     at None f e = class _ refl e
 
 symbols_named : (cs : List Class) (ws : List (List ℕ)) (right : List Sym) → symbols_of cs ws ≡ Some right → map (symbol_word cs) right ≡ ws

@@ -1,22 +1,26 @@
 -- What the words of a rule's head name.
-use Rattle.std.specs.Prelude.{ℕ, ◌+◌, List, [], ◌∷◌, Option, Some, None, if◌then◌else◌}
+use Rattle.std.specs.Prelude.{ℕ, ◌+◌, List, [], ◌∷◌, take, Option, Some, None, if◌then◌else◌}
 use Rattle.std.specs.Option.{option_map, option_and_then}
 use Rattle.md_reader_text.specs.Words.{same}
 use Rattle.tree_core.specs.declared.token.Tok.{Tok}
+use Rattle.tree_core.specs.declared.token.TheConstants.{TOKENS}
 use Rattle.tree_core.specs.Names.{name_of}
 use Rattle.md_reader.specs.declared.types.Class.{Class}
 use Rattle.md_reader.specs.declared.types.Sym.{Sym}
 use Rattle.md_reader.specs.declared.types.Sym.TheVariants as grammar_symbol
-use Rattle.md_reader.specs.declared.symbols.TheConstants.{TOKENS}
 
 -- the first of these tokens with this name
 abbrev pub token_among : List Tok → List ℕ → Option Tok
 token_among [] w = None
 token_among (t ∷ ts) w = if same w (name_of t) then Some t else token_among ts w
 
+-- the tokens that may stand in a tree: all but `End`, the last
+abbrev pub tree_tokens : List Tok
+tree_tokens = take 39 TOKENS
+
 -- a token that may stand in a tree
 abbrev pub token_of : List ℕ → Option Tok
-token_of w = token_among TOKENS w
+token_of w = token_among tree_tokens w
 
 -- the number of the first class with this name, counted on from a number
 abbrev pub class_from : ℕ → List Class → List ℕ → Option ℕ

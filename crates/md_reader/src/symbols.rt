@@ -8,50 +8,7 @@ use crate::faults::{DescKind, LineFault};
 use crate::types::{Class, Sym};
 use md_reader_text::{is_word, next_word};
 use std::alloc::Global;
-use tree_core::Tok;
-
-/// The tokens of trees, which have the first numbers of symbols in this order.
-pub const TOKENS: [Tok; 39] = [
-    Tok::Zero,
-    Tok::One,
-    Tok::Two,
-    Tok::Four,
-    Tok::Eight,
-    Tok::Const,
-    Tok::Gaddr,
-    Tok::Loc,
-    Tok::Arg,
-    Tok::IndirB,
-    Tok::IndirW,
-    Tok::IndirL,
-    Tok::Plus,
-    Tok::Minus,
-    Tok::Mul,
-    Tok::Div,
-    Tok::Mod,
-    Tok::And,
-    Tok::Or,
-    Tok::Xor,
-    Tok::Lsh,
-    Tok::Rsh,
-    Tok::Neg,
-    Tok::Com,
-    Tok::Sxb,
-    Tok::Zxb,
-    Tok::Sxw,
-    Tok::Zxw,
-    Tok::Ncb,
-    Tok::Ncw,
-    Tok::AssignB,
-    Tok::AssignW,
-    Tok::AssignL,
-    Tok::Cbr,
-    Tok::Push,
-    Tok::Ret,
-    Tok::Call,
-    Tok::Save,
-    Tok::Jump,
-];
+use tree_core::{TOKENS, Tok};
 
 fn token_among(tokens: &[Tok], word: &[u8]) -> Option<Tok>
     ensures { result ≡ token_among tokens.now word.now }
@@ -64,7 +21,7 @@ ghost use Rattle.md_reader.specs.Symbols.{token_among};
 fn token_of(word: &[u8]) -> Option<Tok>
     ensures { result ≡ token_of word.now }
 {
-    token_among(&TOKENS, word)
+    token_among(&TOKENS[..39], word)
 }
 
 fn is_named(class: &Class, word: &[u8]) -> bool
