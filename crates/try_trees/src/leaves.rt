@@ -1,50 +1,7 @@
 // Leaves as text: a token's name, and behind it in brackets what it stands with.
 use gg_base::Rel;
 use std::alloc::{AllocError, Global};
-use tree_core::{Att, AttKind, Leaf, Sort, Tok};
-
-static TOKENS: [Tok; 40] = [
-    Tok::Zero,
-    Tok::One,
-    Tok::Two,
-    Tok::Four,
-    Tok::Eight,
-    Tok::Const,
-    Tok::Gaddr,
-    Tok::Loc,
-    Tok::Arg,
-    Tok::IndirB,
-    Tok::IndirW,
-    Tok::IndirL,
-    Tok::Plus,
-    Tok::Minus,
-    Tok::Mul,
-    Tok::Div,
-    Tok::Mod,
-    Tok::And,
-    Tok::Or,
-    Tok::Xor,
-    Tok::Lsh,
-    Tok::Rsh,
-    Tok::Neg,
-    Tok::Com,
-    Tok::Sxb,
-    Tok::Zxb,
-    Tok::Sxw,
-    Tok::Zxw,
-    Tok::Ncb,
-    Tok::Ncw,
-    Tok::AssignB,
-    Tok::AssignW,
-    Tok::AssignL,
-    Tok::Cbr,
-    Tok::Push,
-    Tok::Ret,
-    Tok::Call,
-    Tok::Save,
-    Tok::Jump,
-    Tok::End,
-];
+use tree_core::{Att, AttKind, Leaf, Sort, Tok, tokens};
 
 static RELATIONS: [(&str, Rel); 10] = [
     ("Eq", Rel::Eq),
@@ -60,7 +17,7 @@ static RELATIONS: [(&str, Rel); 10] = [
 ];
 
 fn token_named(name: &str) -> Option<Tok> {
-    TOKENS.iter().copied().find(|tok| tok.name() == name)
+    tokens().iter().copied().find(|tok| tok.name() == name)
 }
 
 fn relation_named(name: &str) -> Option<Rel> {
