@@ -1,5 +1,5 @@
 -- What the grammar says of the front of a text is what is read there.
-use Rattle.std.proofs.Common.{◌≡◌, ◌≢◌, ◌≤◌, ℕ, suc, ◌+◌, ◌-◌, Bool, true, false, eqb, List, [], ◌∷◌, ◌++◌, length, take, drop, Option, Some, None, Ok, Err, refl, sym, ◌∙◌}
+use Rattle.std.proofs.Common.{◌≡◌, ◌≤◌, ℕ, suc, ◌+◌, ◌-◌, Bool, true, false, eqb, List, [], ◌∷◌, ◌++◌, length, take, drop, Option, Some, None, Ok, Err, refl, sym, ◌∙◌}
 use Rattle.std.proofs.Common.{ap, arith, subst, length-drop, length-append}
 use Rattle.std.specs.Prelude.{◌&&◌}
 use Rattle.std.specs.Option.{option_map}
@@ -180,9 +180,6 @@ piece_reads _ _ _ (string text vs rest s) =
       within = omega arith;
     }
 piece_reads _ _ _ (mark text m rest e most c) = mark_piece_reads text m rest e (mark_reads text m rest e most) c
-
-plain_front : (b : ℕ) (bs : List ℕ) → is_blank b ≡ false → is_letter b ≡ false → is_digit b ≡ false → b ≢ 39 → b ≢ 34 → Front (b ∷ bs)
-plain_front b bs e f g h i = (e, f, g, ne_eqb b 39 h, ne_eqb b 34 i)
 
 here : (at : ℕ) (kind : TokenKind) → wrong {A = Piece} at kind ≡ Err (At (at + 0) kind)
 here at kind = let e : at + 0 ≡ at = omega arith in rw e refl

@@ -88,10 +88,6 @@ module _ (rules : List Rule) (stmt classes : ℕ) (g : IsGrammar rules stmt clas
       (λ later. all_there k (marked_before (next rules stmt j) m) i c (length-before (next rules stmt j) m ∙ l) later e)
       at
 
-  -- an item of the list stands before the class
-  Before : List Item → ℕ → Type 0
-  Before k c = (i : Item) × In i k × (next rules stmt i ≡ Some (grammar_symbol.Class c))
-
   all_sound : (k : List Item) (m : List Bool) (c : ℕ) → Marked (marked_all rules stmt k m) c → Marked m c ⊎ ((i : Item) × In i k × (next rules stmt i ≡ Some (grammar_symbol.Class c)))
   all_sound [] m c h = inl h
   all_sound (j ∷ k) m c h =
@@ -141,10 +137,6 @@ module _ (rules : List Rule) (stmt classes : ℕ) (g : IsGrammar rules stmt clas
   opened_only : (rs : List Rule) (m : List Bool) (k : ℕ) (i : Item) → In i (opened_from k rs m) → Opened rs m k i
   opened_only [] m k i at = absurd at
   opened_only (q ∷ rs) m k i at = ⊎_elim (λ o. o) (λ u. opened_later q rs m k i (opened_only rs m (k + 1) i u)) (opened_case q rs m k i (get_or m q.left false) refl at)
-
-  -- the classes that a kernel opens
-  open_marks : List Item → List Bool
-  open_marks k = open_classes rules stmt classes (chains rules) k
 
   length-empty : length (replicate classes false) ≡ classes
   length-empty = length-replicate classes false

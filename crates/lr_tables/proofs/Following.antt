@@ -93,9 +93,6 @@ module _ (rules : List Rule) (stmt classes : ℕ) (g : IsGrammar rules stmt clas
   length-empty : length (replicate classes false) ≡ classes
   length-empty = length-replicate classes false
 
-  first_marks : List Bool
-  first_marks = code.begun (number k) rules (replicate classes false)
-
   -- a class that is marked may begin with the token
   pub begins_sound : (c : ℕ) → Marked (code.begins rules classes (number k)) c → Starts rules (grammar_symbol.Class c) k
   unfolding code.begins
@@ -275,9 +272,6 @@ module _ (t : ℕ) (firsts : List Bool) where
       here q same = subst (λ (x : Rule). Marked (code.within t firsts None x.right m) c) same (within_there r.right None m c j X e f h lt)
 
 module _ (rules : List Rule) (stmt classes : ℕ) (g : IsGrammar rules stmt classes) (k : Tok) where
-  direct : List Bool
-  direct = code.all_within (number k) (code.begins rules classes (number k)) rules (code.ended stmt (number k) (replicate classes false))
-
   -- a class behind which the token is marked
   pub follow_sound : (c : ℕ) → Marked (code.follows rules stmt classes (number k)) c → Follow rules stmt c k
   unfolding code.follows

@@ -25,7 +25,7 @@ use Rattle.lr_tables.specs.Kernels.{kernel_at}
 use Rattle.lr_tables.specs.Looking.{follows}
 use Rattle.lr_tables.specs.Numbering.{same_kernel, found}
 use Rattle.lr_tables.specs.Rows.{target_of, targets_of, reduction_at, reduction, reductions, cell, actions_of, all_follows, row_of}
-use Rattle.lr_tables.specs.View.{RowView, TableView}
+use Rattle.lr_tables.specs.View.{RowView}
 use Rattle.lr_tables.specs.Built.{IsRows}
 use Rattle.lr_tables.specs.Leads.{target_in, target_at, actions_in, actions_at, Leads, nowhere, further}
 use Rattle.lr_tables.specs.Candidates.{StandsBefore, MayReduce, GoesFirst, AreReductions, Candidates, accepts, shifts, reduces, Goes}
@@ -141,12 +141,6 @@ rules_ordered rules stmt follow (i ∷ kernel) h = by (reduction rules follow i)
     by (Some m) e ih = (each m (reduction_is rules follow i m e) (filter_map (reduction rules follow) kernel) (λ n a. a), ih)
 
 module _ (rules : List Rule) (stmt classes : ℕ) (g : IsGrammar rules stmt classes) (content : Content) (rows : List RowView) (b : IsRows rules stmt classes rows) where
-  table : TableView
-  table = record { content = content; rows = rows }
-
-  ks : List (List Item)
-  ks = found rules stmt classes (length rows)
-
   -- the row of a state
   pub row_at : (q : ℕ) (k : List Item) → slice_get (found rules stmt classes (length rows)) q ≡ Some k → slice_get rows q ≡ Some (row_of rules stmt classes (found rules stmt classes (length rows)) k)
   row_at q k e = ap (λ (x : List RowView). slice_get x q) b.each ∙ (slice_get-map (row_of rules stmt classes (found rules stmt classes (length rows)))

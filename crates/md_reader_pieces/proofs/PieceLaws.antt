@@ -1,7 +1,6 @@
 -- A text is cut into its parts from left to right.
-use Rattle.std.proofs.Common.{◌≡◌, ℕ, zero, suc, ◌+◌, ◌<◌, ◌≤◌, length, Bool, true, false, eqb, List, [], ◌∷◌, ◌++◌, append_assoc, take, drop, Option, Some, None, refl, sym, ap, ◌∙◌, arith}
-use Rattle.std.proofs.Math.ListN.{drop_of_length-le}
-use Rattle.std.proofs.lemmas.List.{append-nil, drop-drop}
+use Rattle.std.proofs.Common.{◌≡◌, ℕ, zero, suc, ◌+◌, ◌<◌, length, Bool, true, false, eqb, List, [], ◌∷◌, ◌++◌, append_assoc, take, drop, Option, Some, None, refl, sym, ap, ◌∙◌, arith}
+use Rattle.std.proofs.lemmas.List.{drop-drop}
 use Rattle.md_reader_text.specs.Lists.{put_front}
 use Rattle.md_reader_pieces.specs.declared.piece.Piece.{Piece}
 use Rattle.md_reader_pieces.specs.declared.piece.PieceFault.{PieceFault}
@@ -64,7 +63,3 @@ pub lacks : (text after : List ℕ) (at len : ℕ) (items : List Piece) (all : O
     → Lacks fault (hole_pieces (take len after)) → together (Some items) (holes (parts_behind (drop at text))) ≡ all → Lacks fault all
 lacks text after at len items all piece_fault.NoMemory lt a e f h = tt
 lacks text after at len items all piece_fault.BadHole lt a e f h = no_hole text after at len items all lt a e f h
-
--- nothing is left
-pub ended : (text : List ℕ) (at : ℕ) (items : List Piece) (all : Option (List Piece)) → length text ≤ at → together (Some items) (holes (parts_behind (drop at text))) ≡ all → all ≡ Some items
-ended text at items all le h = sym h ∙ ap (λ (w : List ℕ). together (Some items) (holes (parts_behind w))) (drop_of_length-le text le) ∙ ap (λ (x : List Piece). Some x) (append-nil items)

@@ -8,12 +8,11 @@ use Rattle.std.specs.declared.cmp.Ordering.TheVariants.{Less, Equal, Greater}
 use Rattle.gg_base.specs.Sizes.{bytes_of}
 use Rattle.term_core.specs.Operators.{unary_rank, binary_rank}
 use Rattle.term_core.specs.declared.node.Node.{Node}
-use Rattle.term_core.specs.Shape.{Shape, Constant, Symbol, LastResult, Memory, Unary, Binary, shape_of}
+use Rattle.term_core.specs.Shape.{Shape, Constant, Symbol, LastResult, Memory, Unary, Binary}
 use Rattle.term_core.specs.Order.{order}
 use Rattle.term_core.specs.declared.term.Term.{Term}
-use Rattle.term_core.specs.Nodes.{nodes_of, waiting, Opens}
-use Rattle.term_core.specs.NodeOrder.{node_order, nodes_order}
-use Rattle.term_core.proofs.Waiting.{opened}
+use Rattle.term_core.specs.Nodes.{nodes_of, waiting}
+use Rattle.term_core.specs.NodeOrder.{nodes_order}
 
 then_assoc : (o p q : Ordering) → ordering_then (ordering_then o p) q ≡ ordering_then o (ordering_then p q)
 then_assoc Less p q = refl
@@ -34,17 +33,6 @@ order_by_nodes (Binary o a b) (Binary p c d) ns ms =
     ∙ sym (then_assoc (order a c) (order b d) (nodes_order ns ms))) in
     ap (ordering_then (nat_cmp (binary_rank o) (binary_rank p))) parts ∙ sym (then_assoc _ (ordering_then (order a c) (order b d)) (nodes_order ns ms))
 order_by_nodes s t ns ms = refl
-
-then_last : (o : Ordering) → ordering_then o Equal ≡ o
-then_last Less = refl
-then_last Equal = refl
-then_last Greater = refl
-
--- the first two nodes, and what is behind them
-pub compared : (n m : Node) (s t : Bor Term) (all rest new all' rest' new' : List (Bor Term)) → all ≡ rest ++ s ∷ [] → all' ≡ rest' ++ t ∷ [] → Opens n (shape_of s.now) rest new
-    → Opens m (shape_of t.now) rest' new' → nodes_order (waiting all) (waiting all') ≡ ordering_then (node_order n m) (nodes_order (waiting new) (waiting new'))
-compared n m s t all rest new all' rest' new' e f p q =
-    ap (λ x. nodes_order x (waiting all')) (opened n s all rest new e p) ∙ ap (nodes_order (n ∷ waiting new)) (opened m t all' rest' new' f q)
 
 right_empty : (ns : List Node) → nodes_order ns [] ≡ Equal
 right_empty [] = refl

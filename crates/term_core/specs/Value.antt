@@ -1,7 +1,7 @@
 -- What a term is worth.
 use Rattle.std.specs.Prelude.{ℕ, ◌≡◌, ◌%◌, ◌^◌, ◌<◌, List, true}
 use Rattle.gg_base.specs.declared.size.Size.{Size}
-use Rattle.gg_base.specs.LittleEndian.{word_of, number_of}
+use Rattle.gg_base.specs.LittleEndian.{number_of}
 use Rattle.gg_base.specs.declared.size.Size.TheVariants.{Byte, Word}
 use Rattle.term_core.specs.declared.facts.Fact.{Fact}
 use Rattle.term_core.specs.Facts.{has_size, is_count, same_as}
@@ -17,9 +17,6 @@ pub record State : Type 0 where
 -- the bytes from an address on, the lowest byte first
 abbrev pub byte_at : State → ℕ → ℕ
 byte_at m address = m.byte address % 2 ^ 8
-
-abbrev pub word_at : State → ℕ → ℕ
-word_at m address = word_of (byte_at m) address
 
 abbrev pub memory_at : State → Size → ℕ → ℕ
 memory_at m size address = number_of (byte_at m) size address
