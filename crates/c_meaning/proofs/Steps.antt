@@ -44,13 +44,9 @@ use Rattle.gg_base.specs.Turns.{end_of}
 use Rattle.c_meaning.specs.Pending.{program_of, tasks_of, with_value, with_flow, Signal, Valued, Leaves, Then, waits, to_come}
 use Rattle.c_meaning.specs.Pending.{stack, bottom, before, going}
 use Rattle.c_meaning.specs.Parts.{loop_of, maybe_bor, state}
-use Rattle.c_meaning.specs.Work.{arguments_work, term_work}
+use Rattle.c_meaning.specs.Work.{arguments_work}
 use Rattle.c_meaning.specs.FrameWork.{value_work, flow_work, frame_work, frames_work}
 use Rattle.c_meaning.specs.Runner.{Progress, Makes, Does, Steps, Goes, Waiting, Counts, Resumes, Reaches}
-
--- the work of one that is equal
-pub term_same : {a b : Expression} → a ≡ b → term_work (expression_of a) ≡ term_work (expression_of b)
-term_same e = ap (λ x. term_work (expression_of x)) e
 
 pub stack_push : (p : AProgram) (κ : Then) (fs : List Frame) (f : Frame) → stack p κ (fs ++ f ∷ []) ≡ before p f (stack p κ fs)
 stack_push p κ [] f = refl

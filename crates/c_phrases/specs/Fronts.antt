@@ -63,11 +63,6 @@ abbrev pub IsNot : Token → List Placed → Type 0
 IsNot w [] = Unit {0}
 IsNot w (t ∷ ts) = t.kind ≢ w
 
--- no token of this class stands there
-abbrev pub NotClass : Class → List Placed → Type 0
-NotClass k [] = Unit {0}
-NotClass k (t ∷ ts) = class_of t.kind ≢ k
-
 -- no bracket in front of a type stands there
 abbrev pub NoCast : List Placed → Type 0
 NoCast [] = Unit {0}

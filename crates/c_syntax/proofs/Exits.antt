@@ -431,11 +431,6 @@ pub parens_leads : (n i j o : ℕ) (ts inner rest last : List Placed) (e : AnExp
 parens_leads n i j o ts inner rest last e t up g b = λ κ. opens Parens κ n i 1 (sign marks.OpenParenthesis o) ts inner _ refl t up ∙ exp_leads i j inner rest e g _
     ∙ close_leads j rest last _ b ∙ back limit n j _ last
 
--- behind a name
-pub call_deep : (n at o : ℕ) (x : List ℕ) (ts inner : List Placed) (f : Fault) → ts ≡ sign marks.OpenParenthesis o ∷ inner → (f ≡ TooDeep (length ts)) × (200 < n + 2)
-    → Fails (Want (CallTail x at)) n ts f
-call_deep n at o x ts inner f e d = deep (CallTail x at) n 2 (sign marks.OpenParenthesis o) ts inner f _ (λ κ. refl) e d
-
 arguments_lead : (n : ℕ) (ts rest : List Placed) (es : SomeExps) (κ : SomeExps → Stack) → ReadsArguments n ts es rest → run limit (Want Arguments κ) n ts ≡ run limit (κ es) n rest
 arguments_lead n ts rest es κ r = rw (r.text) (law_first limit es κ n rest r.at r.low)
 

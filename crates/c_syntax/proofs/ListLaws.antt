@@ -1,29 +1,20 @@
 -- Lists of declarators, parameters, items and externals, one more at the end.
-use Rattle.std.proofs.Common.{◌≡◌, ◌<◌, ◌≤◌, ℕ, List, [], ◌∷◌, ◌++◌, length, refl, sym, ◌∙◌, ap, subst, arith}
+use Rattle.std.proofs.Common.{◌≡◌, ◌<◌, ◌≤◌, ℕ, List, [], ◌∷◌, ◌++◌, length, refl, sym, ◌∙◌, ap, arith}
 use Rattle.std.specs.Prelude.{Option, Some, None, Bool, true, false}
 use Rattle.c_tokens.specs.declared.marks.Mark.TheVariants as marks
 use Rattle.c_phrases.specs.declared.tree.Declarator.{Declarator}
 use Rattle.c_phrases.specs.Classes.{Placed, sign}
-use Rattle.c_phrases.specs.Phrases.{AnExp, SomeExps}
-use Rattle.c_phrases.specs.Spelling.{onto_first, onto_name}
-use Rattle.c_phrases.specs.Levels.{LowExps, limit}
-use Rattle.c_syntax.specs.Reads.{ArgumentsSoFar}
+use Rattle.c_phrases.specs.Phrases.{AnExp}
+use Rattle.c_phrases.specs.Spelling.{onto_name}
+use Rattle.c_phrases.specs.Levels.{limit}
 use Rattle.c_phrases.specs.Units.{ALength, AnInit, value, elements, AnInitialised, ADeclarator}
 use Rattle.c_phrases.specs.UnitSpelling.{onto_part, onto_length, onto_trailing, onto_init, onto_initialised}
 use Rattle.c_phrases.specs.UnitSpelling.{onto_declarator, onto_more_declarators, onto_declarators}
 use Rattle.c_phrases.specs.Fits.{DeclaratorFits, DeclaratorsFit, HasDeclarator}
 use Rattle.c_phrases.specs.UnitLevels.{LowDeclarator, LowDeclarators}
 use Rattle.c_phrases.specs.UnitShapes.{declarator_of, declarators_of}
-use Rattle.c_syntax.specs.Stands.{ReadsElements, ReadsDeclarator, DeclaratorsSoFar}
+use Rattle.c_syntax.specs.Stands.{ReadsDeclarator, DeclaratorsSoFar}
 use Rattle.c_syntax.proofs.ExpressionLaws.{longer_exp, longer_first, longer_stars}
-
--- elements
-pub elements_end : (m : ℕ) (ts rest last : List Placed) (es : SomeExps) → ArgumentsSoFar m ts es rest → rest ≡ sign marks.CloseBrace 0 ∷ last → ReadsElements m ts (elements es false) last
-elements_end m ts rest last es s e = record {
-  text = ap (λ (l : List Placed). sign marks.OpenBrace 0 ∷ l) (s.text ∙ ap (onto_first es) e);
-  fits = (s.some, s.at);
-  low = λ n f h. (h, subst (LowExps limit es) f s.low);
-}
 
 -- declarators
 pub declarators_push : (ds : List Declarator) (d : Declarator) → declarators_of (ds ++ d ∷ []) ≡ declarators_of ds ++ declarator_of d ∷ []

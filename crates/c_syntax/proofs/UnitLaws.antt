@@ -1,28 +1,25 @@
 -- Parameters and what stands at file level, one more at the end.
-use Rattle.std.proofs.Common.{◌≡◌, ◌<◌, ◌≤◌, ℕ, List, [], ◌∷◌, ◌++◌, length, refl, sym, ◌∙◌, ap, subst, arith}
+use Rattle.std.proofs.Common.{◌≡◌, ◌<◌, ◌≤◌, ℕ, List, [], ◌∷◌, ◌++◌, length, refl, sym, ◌∙◌, ap, arith}
 use Rattle.std.specs.Prelude.{Option, Some, None}
 use Rattle.c_tokens.specs.declared.token.Token.TheVariants as token
-use Rattle.c_tokens.specs.declared.words.Key.TheVariants as keys
 use Rattle.c_tokens.specs.declared.marks.Mark.TheVariants as marks
-use Rattle.c_phrases.specs.declared.operator.Spec.{Spec}
 use Rattle.c_phrases.specs.declared.operator.Spec.TheVariants as specs
 use Rattle.c_phrases.specs.declared.tree.Param.{Param}
 use Rattle.c_phrases.specs.declared.tree.Named.{Named}
 use Rattle.c_phrases.specs.declared.tree.External.{External}
-use Rattle.c_phrases.specs.Classes.{Placed, word, sign}
+use Rattle.c_phrases.specs.Classes.{Placed, sign}
 use Rattle.c_phrases.specs.Spelling.{onto_spec, onto_stars, onto_name}
 use Rattle.c_phrases.specs.Levels.{limit}
-use Rattle.c_phrases.specs.Units.{ALength, AParam, SomeParams, no_params, void_word, params, SomeItems, AnExternal}
+use Rattle.c_phrases.specs.Units.{AParam, SomeParams, no_params, void_word, params, SomeItems, AnExternal}
 use Rattle.c_phrases.specs.Units.{ADeclared, function, globals}
 use Rattle.c_phrases.specs.UnitSpelling.{onto_params, onto_body, onto_length, onto_named, onto_param}
 use Rattle.c_phrases.specs.UnitSpelling.{onto_more_params, onto_param_list, onto_external, onto_externals}
 use Rattle.c_phrases.specs.UnitSpelling.{onto_static, onto_declared}
-use Rattle.c_phrases.specs.Fits.{ParamFits, ParamsFit, IsVoid, IsBare, SomeParamsFit, ExternalsFit}
+use Rattle.c_phrases.specs.Fits.{ParamFits, ParamsFit, ExternalsFit}
 use Rattle.c_phrases.specs.UnitLevels.{LowLength, LowParams, LowExternals}
 use Rattle.c_phrases.specs.UnitShapes.{param_of, param_list, external_of, externals_of}
 use Rattle.c_phrases.specs.Grammar.{IsUnit}
-use Rattle.c_syntax.specs.Stands.{ReadsParam, HasParam, ParamsSoFar, ReadsParams, ReadsExternal, ReadsExternals}
-use Rattle.c_syntax.specs.StatementLeads.{NoVoidAlone}
+use Rattle.c_syntax.specs.Stands.{ReadsParam, HasParam, ParamsSoFar, ReadsExternal, ReadsExternals}
 use Rattle.c_syntax.proofs.ListLaws.{longer_length}
 use Rattle.c_syntax.proofs.ItemLaws.{longer_spec, longer_declarators, longer_items}
 use Rattle.c_syntax.proofs.ExpressionLaws.{longer_stars}
@@ -78,23 +75,6 @@ longer_param p w = omega (
 
 pub params_shorter : (n : ℕ) (rest after behind : List Placed) (p : AParam) → rest ≡ sign marks.Comma 0 ∷ after → ReadsParam n after p behind → length behind < length rest
 params_shorter n rest after behind p e r = omega (arith, ap length e, ap length r.text, longer_param p behind)
-
--- one parameter that is the word void alone
-bare_tokens : (p : AParam) (w : List Placed) → IsBare p → (at : ℕ) × (onto_param p w ≡ word keys.Void at ∷ w)
-bare_tokens p w h = by p.spec p.stars p.name p.length h.0 h.1.0 h.1.1.0 h.1.1.1
-  where
-    by : (s : Spec) (stars : List ℕ) (n : Option Named) (l : Option ALength) → IsVoid s → stars ≡ [] → n ≡ None → l ≡ None → (at : ℕ)
-        × (onto_spec s (onto_stars stars (onto_named n (onto_length l w))) ≡ word keys.Void at ∷ w)
-    by (specs.Void at) stars n l v e f g = (at, rw (e, f, g) refl)
-    by s stars n l v e f g = absurd v
-
-params_fit : (ps : List AParam) (ts w : List Placed) → HasParam ps → ParamsFit ps → ts ≡ onto_param_list ps (sign marks.CloseParenthesis 0 ∷ w) → NoVoidAlone ts → SomeParamsFit (params ps)
-params_fit [] ts w h f e none = absurd h
-params_fit (p ∷ []) ts w h f e none = (f.0, λ b. let t = bare_tokens p (sign marks.CloseParenthesis 0 ∷ w) b in (subst NoVoidAlone (e ∙ t.1) none) refl refl)
-params_fit (p ∷ q ∷ ps) ts w h f e none = f
-
-pub params_read : (n : ℕ) (ts : List Placed) (ps : List AParam) (rest : List Placed) → ParamsSoFar n ts ps (sign marks.CloseParenthesis 0 ∷ rest) → NoVoidAlone ts → ReadsParams n ts (params ps) rest
-params_read n ts ps rest s none = record { text = s.text; fits = params_fit ps ts rest s.some s.fits s.text none; low = s.low }
 
 -- externals
 pub externals_push : (xs : List External) (x : External) → externals_of (xs ++ x ∷ []) ≡ externals_of xs ++ external_of x ∷ []

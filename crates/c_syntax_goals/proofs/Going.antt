@@ -566,10 +566,6 @@ module _ (L : ℕ → Bool) where
   pub law_unary : (e : AnExp) (κ : AnExp → Stack) (n : ℕ) (w : List Placed) → IsAt 14 e → LowExp L e n → Quiet 13 w → run L (Want Unary κ) n (onto_exp e w) ≡ run L (κ e) (after_exp e n) w
   law_unary e κ n w i low q = (laws e).unary κ n w i low q
 
-  pub law_more : (es : SomeExps) (κ : SomeExps → Stack) (n : ℕ) (w : List Placed) → AllAt es → LowExps L es n
-      → run L (Want MoreArguments κ) n (onto_others es (sign marks.CloseParenthesis 0 ∷ w)) ≡ run L (κ es) n w
-  law_more es κ n w i low = law_more_of es (all_laws es) κ n w i low
-
   pub law_first : (es : SomeExps) (κ : SomeExps → Stack) (n : ℕ) (w : List Placed) → AllAt es → LowExps L es n
       → run L (Want Arguments κ) n (onto_first es (sign marks.CloseParenthesis 0 ∷ w)) ≡ run L (κ es) n w
   law_first es κ n w i low = law_first_of es (all_laws es) κ n w i low

@@ -1,5 +1,5 @@
 -- Declarations, statements and units are read by what is to be read.
-use Rattle.std.proofs.Common.{◌≡◌, ◌≢◌, ◌⊎◌, ℕ, suc, ◌+◌, ◌<◌, ◌≤◌, List, [], ◌∷◌, length, refl, sym, ap, subst, ◌∙◌, arith, inl, inr}
+use Rattle.std.proofs.Common.{◌≡◌, ◌≢◌, ℕ, ◌+◌, ◌≤◌, List, [], ◌∷◌, length, refl, sym, ap, subst, ◌∙◌, arith, inl, inr}
 use Rattle.std.specs.Prelude.{Option, Some, None, Bool, true, false, Ok}
 use Rattle.c_tokens.specs.declared.token.Token.{Token}
 use Rattle.c_tokens.specs.declared.token.Token.TheVariants as token
@@ -14,12 +14,12 @@ use Rattle.c_phrases.specs.declared.tree.Named.{Named}
 use Rattle.c_phrases.specs.Classes.{Placed, Class, class_of, mark_class, word, sign}
 use Rattle.c_phrases.specs.Classes as c
 use Rattle.c_phrases.specs.Phrases.{AnExp, SomeExps, no_exps, exps, after_exp, IsAt, AllAt}
-use Rattle.c_phrases.specs.Spelling.{onto_int, onto_spec, onto_stars, onto_name, onto_exp, onto_first, onto_others}
-use Rattle.c_phrases.specs.Levels.{LowExp, LowExps, free, limit}
+use Rattle.c_phrases.specs.Spelling.{onto_spec, onto_stars, onto_name, onto_exp, onto_first, onto_others}
+use Rattle.c_phrases.specs.Levels.{LowExps}
 use Rattle.c_phrases.specs.Units.{ALength, AnInit, value, elements, AnInitialised, ADeclarator, ALocal, AStatement}
 use Rattle.c_phrases.specs.Units.{block, empty, expression, break_off, continue_on, give_back, if_then, if_else}
 use Rattle.c_phrases.specs.Units.{while_loop, do_loop, for_loop, SomeItems, no_items, local_item, statement_item}
-use Rattle.c_phrases.specs.Units.{AParam, SomeParams, no_params, void_word, params, AFunction, ADeclared, function}
+use Rattle.c_phrases.specs.Units.{AParam, SomeParams, no_params, void_word, params, ADeclared, function}
 use Rattle.c_phrases.specs.Units.{globals, AnExternal, AUnit}
 use Rattle.c_phrases.specs.UnitSpelling.{onto_part, onto_length, onto_trailing, onto_init, onto_initialised}
 use Rattle.c_phrases.specs.UnitSpelling.{onto_declarator, onto_more_declarators, onto_declarators, onto_storage}
@@ -28,7 +28,7 @@ use Rattle.c_phrases.specs.UnitSpelling.{onto_param, onto_more_params, onto_para
 use Rattle.c_phrases.specs.UnitSpelling.{onto_declared, onto_static, onto_external, onto_externals, unit_tokens}
 use Rattle.c_phrases.specs.Fits.{PartFits, LengthFits, IsSome, InitFits, InitialisedFits, DeclaratorFits}
 use Rattle.c_phrases.specs.Fits.{DeclaratorsFit, HasDeclarator, LocalFits, IsShut, StatementFits, ItemsFit, ParamFits}
-use Rattle.c_phrases.specs.Fits.{ParamsFit, IsVoid, IsBare, SomeParamsFit, BodyFits, DeclaredFits, ExternalsFit}
+use Rattle.c_phrases.specs.Fits.{ParamsFit, IsBare, SomeParamsFit, BodyFits, DeclaredFits, ExternalsFit}
 use Rattle.c_phrases.specs.UnitLevels.{LowPart, LowLength, LowInit, LowInitialised, LowDeclarator, LowDeclarators}
 use Rattle.c_phrases.specs.UnitLevels.{LowCondition, LowStatement, LowItems, LowParams, LowSomeParams, LowBody}
 use Rattle.c_phrases.specs.UnitLevels.{LowDeclared, LowExternals}
@@ -38,22 +38,21 @@ use Rattle.c_syntax_goals.specs.Declarators as Declarators
 use Rattle.c_syntax_goals.specs.Externals as Externals
 use Rattle.c_syntax_goals.specs.Statements as Statements
 use Rattle.c_syntax_goals.specs.Expressions as Expressions
-use Rattle.c_syntax_goals.specs.Goals.{Stack, Done, Want, Steps, Takes, Passes, Opens, Expr, Assign, Back}
-use Rattle.c_syntax_goals.specs.Goals.{WantBracket, WantParen, WantSemi, WantWhile, TypeWords, Stars, Condition}
+use Rattle.c_syntax_goals.specs.Goals.{Stack, Done, Want, Passes, Expr, Assign, Back}
+use Rattle.c_syntax_goals.specs.Goals.{WantBracket, WantParen, WantSemi, WantWhile, TypeWords, Condition}
 use Rattle.c_syntax_goals.specs.Goals.{Statement, Items, PartSemi, PartParen, ForOpen, ElsePart, Local}
 use Rattle.c_syntax_goals.specs.Goals.{DeclaratorName, ArrayPart, Length, InitPart, Init, Elements, InitMore}
 use Rattle.c_syntax_goals.specs.Goals.{InitNext, MoreDeclarators, DeclaredName, AfterName, Body, Params, OptName}
 use Rattle.c_syntax_goals.specs.Goals.{MoreParams, External, Whole}
-use Rattle.c_syntax_goals.specs.Turns.{turn}
 use Rattle.c_syntax_goals.specs.Declarators.{declarator_goals, declarator_behind}
 use Rattle.c_syntax_goals.specs.Externals.{globals_behind, param_goals, param_behind, lone_param, some_params}
-use Rattle.c_syntax_goals.specs.Externals.{function_behind, declared_goals, external_rest, before}
+use Rattle.c_syntax_goals.specs.Externals.{declared_goals, external_rest, before}
 use Rattle.c_syntax_goals.specs.Statements.{if_goals, while_goals, do_goals, for_goals, local_rest, item_local}
 use Rattle.c_syntax_goals.specs.Expressions.{cond_goals}
 use Rattle.c_syntax_goals.specs.Machine.{run, closing, made, pick}
 use Rattle.c_syntax_goals.proofs.Tokens.{single, token_of}
 use Rattle.c_syntax_goals.proofs.Steps.{step_opens, back, law_stars}
-use Rattle.c_syntax_goals.proofs.Going.{StartClass, Starts, starts, not_start, quiet_others, law_words, law_exp, law_assign, law_cond, law_more, law_first}
+use Rattle.c_syntax_goals.proofs.Going.{StartClass, Starts, starts, not_start, quiet_others, law_words, law_exp, law_assign, law_cond}
 
 -- what stands behind a declarator or a parameter: , ; or )
 abbrev pub EndClass : Class → Type 0

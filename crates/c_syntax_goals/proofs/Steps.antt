@@ -27,7 +27,7 @@ use Rattle.c_syntax_goals.specs.Expressions as Expressions
 use Rattle.c_syntax_goals.specs.Types as Types
 use Rattle.c_syntax_goals.specs.Groups as Groups
 use Rattle.c_phrases.specs.Phrases as phrases
-use Rattle.c_syntax_goals.specs.Goals.{Goal, Val, Stack, Want, Step, Takes, Opens, Refuses, Steps, Passes, Expr}
+use Rattle.c_syntax_goals.specs.Goals.{Goal, Val, Stack, Want, Step, Opens, Refuses, Steps, Passes, Expr}
 use Rattle.c_syntax_goals.specs.Goals.{Commas, Assign, Cond, Cast, Unary, CallTail, PostTail, Ended}
 use Rattle.c_syntax_goals.specs.Goals.{Tail, First, Group, SizeofTail, SizeofGroup, Arguments, MoreArguments, Back}
 use Rattle.c_syntax_goals.specs.Goals.{AfterShort, Stars}
@@ -209,9 +209,6 @@ module _ (L : ℕ → Bool) where
   pub step_deep : (g : Goal) (κ : Val g → Stack) (t : Placed) (n k : ℕ) (s : Stack) (ts : List Placed) → turn g (class_of t.kind) t n κ ≡ Steps (Opens k s) → L (n + k) ≡ false
       → run L (Want g κ) n (t ∷ ts) ≡ Err (TooDeep (length (t ∷ ts)))
   step_deep g κ t n k s ts e lt = rw (e, lt) refl
-
-  pub step_takes : (g : Goal) (κ : Val g → Stack) (t : Placed) (n : ℕ) (s : Stack) (ts : List Placed) → turn g (class_of t.kind) t n κ ≡ Steps (Takes s) → run L (Want g κ) n (t ∷ ts) ≡ run L s n ts
-  step_takes g κ t n s ts e = rw e refl
 
   pub step_refuses : (g : Goal) (κ : Val g → Stack) (t : Placed) (n : ℕ) (ts : List Placed) → turn g (class_of t.kind) t n κ ≡ Steps Refuses → run L (Want g κ) n (t ∷ ts)
       ≡ Err (NotHere (length (t ∷ ts)))

@@ -138,6 +138,3 @@ Part Whole n ts K = Found AUnit (λ u w. (ts ≡ levelled_externals u.externals 
 abbrev pub Yields : Stack → ℕ → List Opening → AUnit → Type 0
 Yields (Done v) n ts u = (ts ≡ []) × (v ≡ u)
 Yields (Want g κ) n ts u = Part g n ts (λ v m w. Yields (κ v) m w u)
-
-pub scratch : (n : ℕ) → n ≡ n
-scratch n = λ i. n

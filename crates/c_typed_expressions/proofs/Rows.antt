@@ -56,17 +56,10 @@ onto_end : (done : List Expression) → terms_onto done NoExpressions ≡ expres
 onto_end [] = refl
 onto_end (x ∷ done) = ap (MoreExpressions (expression_of x)) (onto_end done)
 
-onto_none : (m : Result (SomeExpressions × Area) Fault) → m ≡ onto [] m
-onto_none (Ok r) = refl
-onto_none (Err e) = refl
-
 module _ (names : List (List ℕ × Entry)) (signatures : List Signature) (scope : Scope) where
   pub record SoFar (es : List Expr) (old : Area) (done : List Expression) (left : List Expr) (a : Area) : Type 0 where
     pub typed : type_exps names signatures scope (exp_list es) old ≡ onto done (type_exps names signatures scope (exp_list left) a)
     pub same : length done + length left ≡ length es
-
-  pub begins : (es : List Expr) (a : Area) → SoFar es a [] es a
-  begins es a = record { typed = onto_none (type_exps names signatures scope (exp_list es) a); same = omega arith }
 
   pub goes_on : (es : List Expr) (old : Area) (done : List Expression) (e : Expr) (left : List Expr) (a b : Area) (x : Expression) → type_exp names signatures scope (exp e) a
       ≡ Ok (expression_of x, b) → SoFar es old done (e ∷ left) a → SoFar es old (done ++ x ∷ []) left b
@@ -74,11 +67,6 @@ module _ (names : List (List ℕ × Entry)) (signatures : List Signature) (scope
     typed = far.typed ∙ (rw h (sym (onto_more done x (type_exps names signatures scope (exp_list left) b))));
     same = omega (arith, far.same, length-append done (x ∷ []));
   }
-
-  pub fails : (es : List Expr) (old : Area) (done : List Expression) (e : Expr) (left : List Expr) (a : Area) (f : TypeFault) → Fails f (type_exp names signatures scope (exp e) a)
-      → SoFar es old done (e ∷ left) a → Fails f (type_exps names signatures scope (exp_list es) old)
-  fails es old done e left a NoMemory h far = tt
-  fails es old done e left a (At place kind) h far = far.typed ∙ rw h refl
 
   pub ends : (es : List Expr) (old : Area) (done : List Expression) (a : Area) → SoFar es old done [] a → type_exps names signatures scope (exp_list es) old ≡ Ok (expressions_of done, a)
   ends es old done a far = far.typed ∙ ap (λ t. Ok (t, a)) (onto_end done)

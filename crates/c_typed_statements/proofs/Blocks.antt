@@ -48,10 +48,6 @@ onto_end : (done : List Action) → acts_onto done NoActions ≡ acts done
 onto_end [] = refl
 onto_end (x ∷ done) = ap (MoreActions (act x)) (onto_end done)
 
-onto_none : (m : Result (SomeActions × State) Fault) → m ≡ onto [] m
-onto_none (Ok r) = refl
-onto_none (Err e) = refl
-
 abbrev joined : {B : Type 0} → (B → SomeActions → SomeActions) → B → SomeActions × State → Result (SomeActions × State) Fault
 joined g b q = Ok (g b q.0, q.1)
 
@@ -99,9 +95,6 @@ module _ (names : List (List ℕ × Entry)) (signatures : List Signature) (gives
 
   pub record SoFar (is : List Item) (old : State) (done : List Action) (left : List Item) (st : State) : Type 0 where
     pub typed : all is old ≡ onto done (all left st)
-
-  pub begins : (is : List Item) (st : State) → SoFar is st [] is st
-  begins is st = record { typed = onto_none (all is st) }
 
   pub steps : (is : List Item) (old : State) (done : List Action) (n : ℕ) (i d : Item) (a b : State) (x : Action) (more : List Action) → n < length is → i ≡ get_or is n d → more ≡ done
       ++ x ∷ [] → one i a ≡ Ok (act x, b) → SoFar is old done (drop n is) a → SoFar is old more (drop (n + 1) is) b
