@@ -7,11 +7,9 @@ use Rattle.gg_base.specs.Runs.{Outcome, OneEnd}
 use Rattle.gg_base.proofs.Facts.{no_prop}
 use Rattle.cmd_session.specs.declared.status.Status.{Status}
 use Rattle.cmd_session.specs.Writing.{Change, TakesAll}
-use Rattle.cmd_session.specs.Telling.{IsStarved}
 use Rattle.cmd_files.specs.Stages.{OutputRefused}
 use Rattle.md_reader.specs.State.{Content}
 use Rattle.c_program.specs.Programs.{AProgram}
-use Rattle.gg_load_reads.specs.c_typed_check.specs.Typed.{need_at}
 use Rattle.c_typed.specs.Sources.{Reads}
 use Rattle.c_meaning.specs.Programs.{source}
 use Rattle.vax_machine.specs.declared.loading.LoadFault.{LoadFault}
@@ -19,7 +17,7 @@ use Rattle.vax_machine.specs.Loading.{load_fault}
 use Rattle.vax_machine.specs.Running.{run}
 use Rattle.gg_load.specs.Source.{source_text}
 use Rattle.gg_load_meaning.specs.Run.{ComesTo, source_outcome}
-use Rattle.cmd_compile.specs.Texts.{IsTextOf, HasNoText, FrameIsFull, StarvedText}
+use Rattle.cmd_compile.specs.Texts.{IsTextOf}
 use Rattle.cmd_load_runs.specs.Tallies.{IsRunnable}
 use Rattle.cmd_load_runs.specs.Sides.{EndsAt, HasEndedLike, EndsLike}
 use Rattle.cmd_load.specs.declared.sides.Sizes.{Sizes}
@@ -33,11 +31,6 @@ no_fault (Some f) h = absurd (∥∥₁_elim h no_prop (λ e. let none : Some f 
 -- the text of a code that keeps a program can be run
 pub runnable : (d : Content) (p : AProgram) (text : List ℕ) → IsTextOf d p text → IsRunnable text
 runnable d p text h = record { code = h.code; reads = h.read.reads; loads = no_fault (load_fault h.code) (∥∥₁_map h.keeps (λ k. k.loads)) }
-
--- where each function fits, only memory is wanting for a text
-pub starved : (p : AProgram) (status : Status) (report : Change) → ((n : ℕ) → need_at p n ≤ 1024) → HasNoText p status report → IsStarved status report
-starved p status report fit (FrameIsFull function need o told) = absurd (omega (arith, o.over, o.need_is, fit function))
-starved p status report fit (StarvedText lack) = lack
 
 -- the source's run counts fewer
 pub few_enough : (number k : ℕ) → number ≤ k + 8 → k ≤ 1000 → number ≤ greatest_number

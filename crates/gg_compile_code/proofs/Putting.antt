@@ -16,7 +16,7 @@ use Rattle.vax_core.specs.declared.code.Instr.{Instr}
 use Rattle.vax_core.specs.declared.code.AreaItem.{AreaItem}
 use Rattle.vax_core.specs.declared.code.CodeItem.{CodeItem}
 use Rattle.vax_core.specs.declared.code.CodeItem.TheVariants as item_kind
-use Rattle.vax_frames.specs.Frames.{code_items, IsFrameCode}
+use Rattle.vax_frames.specs.Frames.{code_items}
 use Rattle.gg_compile_area.specs.gg_compile_law.specs.Spelling.{area_of}
 use Rattle.gg_compile_code.specs.Selecting.{AreSelected, nothing, label, tree, PutsItem, IsSelectedFunction, AreSelectedFunctions, none, more, SelectedAll}
 use Rattle.gg_compile_code.proofs.Appending.{selected_append, functions_append}
@@ -77,10 +77,6 @@ module _ {S F : Type 0} (of : Meaning Operand Instr S F) (d : Content) (q : Tree
       let both = selected_append of d q locals used before.used behind.used (take i is) (x ∷ []) old put.code h here in
       subst (λ (l : List TreeItem). AreSelected of d q locals used l new behind.used) (sym (front is i x lt at))
       (subst (λ (c : List CodeItem). AreSelected of d q locals used (take i is ++ x ∷ []) c behind.used) (sym put.put) both)
-
-  pub framed : (f : TreeFn) (words : ℕ) (body code : List CodeItem) → AreSelected of d q f.locals f.locals f.items body words
-      → IsFrameCode f.name words body code → IsSelectedFunction of d q f code
-  framed f words body code s e = record { words = words; body = body; selected = s; framed = e }
 
   -- the code of the functions so far, and of one more
   pub more_functions : (fs : List TreeFn) (i : ℕ) (f : TreeFn) (old part new : List CodeItem) → i < length fs → get_or fs i f ≡ f

@@ -59,9 +59,6 @@ pub main_fits : (p : Places) (is : SomeItems) → ItemsFit is → DeclaredFits (
 main_fits p is h = (tt, ((tt, ((tt, tt), tt)), ((omega arith, (tt, tt)), h)))
 
 -- the levels that are opened
-element_low : (n : List ℕ) (p : Places) (word : ℕ) → LowExp limit (element n p word) 1
-element_low n p word = (tt, (refl, (tt, (refl, tt))))
-
 product_low : (i : ℕ) (p : Places) → LowExp limit (product i p) 1
 product_low i p = (tt, (refl, ((tt, (refl, tt)), (refl, tt))))
 

@@ -13,7 +13,6 @@ use Rattle.lr_tables.specs.declared.types.Choice.{Choice}
 use Rattle.lr_tables.specs.declared.types.Choice.TheVariants as choice
 use Rattle.lr_tables.specs.Statements.{stmt_of}
 use Rattle.lr_tables.specs.View.{TableView}
-use Rattle.lr_tables.specs.Grammar.{IsGrammar}
 use Rattle.lr_tables.specs.Leads.{target_at, actions_at, Leads}
 use Rattle.lr_tables.specs.Candidates.{StandsBefore, MayReduce, AreReductions, Candidates, accepts, shifts, reduces, Goes}
 use Rattle.lr_tables.specs.Promises.{IsNumbered}
@@ -38,9 +37,6 @@ use Rattle.lr_check.proofs.Meaning.{token_at, coming_is, Agrees, Meant, ended, w
 use Rattle.lr_check.proofs.Contained.{nowhere_in}
 
 module _ (t : TableView) (nodes : List Node) (order : List ℕ) (valid : IsValid t.content) (numbered : IsNumbered t) where
-  grammar : IsGrammar t.content.rules (stmt_of t.content.classes) (length t.content.classes)
-  grammar = is_grammar t.content valid
-
   candidates_at : (a : List Sym) (q : ℕ) (k : Tok) → Leads t a q → Candidates t.content.rules (stmt_of t.content.classes) t a k (actions_at t q k)
   candidates_at a q k l = candidates t.content.rules (stmt_of t.content.classes) (length t.content.classes) (is_grammar t.content valid) t.content t.rows numbered a q k l
 

@@ -1,7 +1,6 @@
 -- Where all of the sets is found and no fault shows, there is none.
-use Rattle.std.proofs.Common.{◌≡◌, ℕ, ◌≤◌, List, Some, sym, ap, ◌∙◌, arith}
+use Rattle.std.proofs.Common.{◌≡◌, ℕ, List, Some, sym, ap, ◌∙◌}
 use Rattle.std.proofs.lemmas.Option.{same_Some}
-use Rattle.lr_check_found.specs.Count.{HasMore}
 use Rattle.tree_core.specs.declared.token.Tok.{Tok}
 use Rattle.md_reader.specs.declared.types.Sym.{Sym}
 use Rattle.md_reader.specs.declared.types.Sym.TheVariants as grammar_symbol
@@ -32,7 +31,3 @@ module _ (A : Automaton) (f : FoundView) (c : IsComplete A f) where
     takes = λ q p k b s h ws can. takes h.settles.number h.settles.entry (place_of q k b) p h.settles.there (place_is f q k b s h) (behind_is q p k b s h ws) can;
     ends = λ q k b s h. ends h.settles.number h.settles.entry (place_of q k b) s h.settles.there (place_is f q k b s h) h.settles.list;
   })
-
--- more than so many are more than fewer
-pub fewer : (A : Automaton) (n most : ℕ) → n ≤ most → (HasMore A n → ⊥) → HasMore A most → ⊥
-fewer A n most le few h = few (record { tuples = h.tuples; many = let many = h.many in omega (arith, le, many); apart = h.apart; each = h.each })

@@ -59,6 +59,3 @@ module _ (A : Automaton) (f : FoundView) where
     where
       here : (j : ℕ) (ds : List ℕ) → j ≡ length d.depths → k.asked.depths ≡ ds → IsDrawnAt A f (held d token k) j ds
       here j ds e h = subst (λ l. IsDrawnAt A f (held d token k) l ds) (next ∙ sym e) (subst (IsDrawnAt A f (held d token k) i) h (comes d token k i g found drawn next n a))
-
-  pub longer : (d d' : DrawingView) (token : Tok) (k : KidsView) (i : ℕ) → i ≡ length d.depths → d' ≡ held d token k → length d'.depths ≡ i + 1
-  longer d d' token k i next same = ap (λ (z : DrawingView). length z.depths) same ∙ (length-append d.depths (k.asked.depths ∷ []) ∙ ap (λ z. z + 1) (sym next))

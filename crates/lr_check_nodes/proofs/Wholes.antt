@@ -1,19 +1,18 @@
 -- Nodes whose kids stand before them and fit.
 use Rattle.std.proofs.Common.{◌≡◌, ◌⊎◌, ℕ, zero, suc, ◌+◌, ◌<◌, List, [], ◌∷◌, ◌++◌, Some, Bool, true, Contains, length, get_or, take, slice_get, refl, sym, ap}
-use Rattle.std.proofs.Common.{◌∙◌, subst, subst₂, inl, inr, ⊎_elim, arith, length-append, append_assoc, append-nil}
+use Rattle.std.proofs.Common.{◌∙◌, subst, subst₂, ⊎_elim, arith, length-append, append_assoc, append-nil}
 use Rattle.std.specs.Prelude.{Result, Ok, Err, IfOk}
 use Rattle.std.proofs.lemmas.List.{get_or_default}
 use Rattle.std.proofs.lemmas.Bool.{false≢true}
 use Rattle.gg_base.proofs.Facts.{slice_left, slice_last, slice_cases}
 use Rattle.tree_core.specs.declared.token.Tok.{Tok}
 use Rattle.tree_core.specs.declared.token.Sort.{Sort}
-use Rattle.tree_core.specs.declared.token.Sort.TheVariants as sort
 use Rattle.tree_core.specs.Grammar.{kids}
 use Rattle.lr_tables.proofs.Members.{In, Contains-In}
 use Rattle.lr_check.specs.Tree.{Node}
 use Rattle.lr_check.specs.Statement.{fits_at, KidsFit}
 use Rattle.lr_check.proofs.Typed.{fit_more}
-use Rattle.lr_check_nodes.specs.Growing.{AreWhole, Grows, HasTreeOf, HaveKids, HasLast, HasTreeFrom, smallest}
+use Rattle.lr_check_nodes.specs.Growing.{AreWhole, Grows, HasTreeOf, HaveKids, HasLast, HasTreeFrom}
 
 pub fits_more : (nodes more : List Node) (k : ℕ) (x : Sort) → fits_at (slice_get nodes k) x ≡ true → fits_at (slice_get (nodes ++ more) k) x ≡ true
 fits_more [] more k x h = absurd (false≢true h)
@@ -95,18 +94,6 @@ module _ {E : Type 0} where
   pub from_if : (r : Result ℕ E) (a b c : List Node) (k : Tok) (ks : List ℕ) → Grows a b → IfOk r (λ n. HasLast b c k ks [] n) → IfOk r (λ n. HasTreeFrom a c k n)
   from_if (Ok n) a b c k ks g h = record { kids = ks; has = last_over g h }
   from_if (Err e) a b c k ks g h = tt
-
-abbrev IsSmall : List Sort → Type 0
-IsSmall xs = (xs ≡ []) ⊎ (xs ≡ sort.Long ∷ [])
-
-small : (x : Sort) → IsSmall (kids (smallest x))
-small sort.Byte = inr refl
-small sort.Word = inr refl
-small sort.Long = inl refl
-small sort.PlaceB = inr refl
-small sort.PlaceW = inr refl
-small sort.PlaceL = inl refl
-small sort.Stmt = inl refl
 
 -- a turn over a token's kids
 pub kids_turn : (a b c : List Node) (xs : List Sort) (i k : ℕ) (x : Sort) (ks ks' : List ℕ) → HaveKids a b (take i xs) ks → i < length xs → x ≡ get_or xs i x → HasTreeOf b c x k → ks' ≡ ks ++ k ∷ [] →

@@ -1,13 +1,13 @@
 -- The code that the parse of a tree selects, each question answered by the attributes.
 -- This is how the code computes it; what is selected is defined in sel_parse_selected, and sel_parse_joined proves the two alike.
-use Rattle.std.specs.Prelude.{◌≡◌, ℕ, ◌-◌, max, List, [], ◌∷◌, Option, Some, None, option_and_then, length, take, slice_get}
+use Rattle.std.specs.Prelude.{◌≡◌, ℕ, ◌-◌, max, List, [], ◌∷◌, Option, Some, None, length, take, slice_get}
 use Rattle.tree_core.specs.declared.tree.Leaf.{Leaf}
 use Rattle.tree_core.specs.declared.program.TreeProgram.{TreeProgram}
 use Rattle.md_reader.specs.declared.types.Rule.{Rule}
 use Rattle.md_reader.specs.State.{Content}
 use Rattle.lr_tables.specs.Statements.{stmt_of}
 use Rattle.sel_regs.specs.Slots.{Frame}
-use Rattle.lr_check_parse.specs.Moves.{Move, Shift, Reduce, Ending, Accepts, Blocks, Loops, Refuses, Parses}
+use Rattle.lr_check_parse.specs.Moves.{Move, Ending, Accepts, Blocks, Loops, Refuses, Parses}
 use Rattle.lr_check_parse.specs.Attributes.{Selecting, by_attributes}
 use Rattle.sel_target.specs.declared.attr.Attr.TheVariants as attr
 use Rattle.sel_target.specs.Meaning.{Meaning}
@@ -78,12 +78,6 @@ module _ {O I S F : Type 0} (of : Meaning O I S F) (q : TreeProgram) (d : Conten
     blocks : (log : List (Move Leaf)) (at : ℕ) → Parsed w log (Blocks at) → Blocked w
     circles : (log : List (Move Leaf)) (at : ℕ) → Parsed w log (Loops at) → Blocked w
     lacks : (log : List (Move Leaf)) → Parsed w log (Accepts None) → Blocked w
-
-  -- moves, made one after another
-  abbrev pub made : List (Move Leaf) → Kept O I → Option (Kept O I)
-  made [] x = Some x
-  made (Shift l ∷ log) x = made log (shifted l x)
-  made (Reduce n ∷ log) x = option_and_then (made log) (reduced_at n x)
 
 -- a root's leaves without the End behind them
 abbrev pub tree_of : List Leaf → List Leaf

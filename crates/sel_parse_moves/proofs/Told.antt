@@ -120,9 +120,6 @@ module _ (classes : List Class) (r : Rule) where
       by (inl e) (inr f) = inr (e ∙ f)
       by (inr e) h = inl (e.1 ∙ ap (fact_of classes r) (sym (e.0 ∙ facts_count classes r n)))
 
-  unknown : ℕ → Fact
-  unknown i = record { size = Long; is_count = false; same_as = i }
-
   known : (i : ℕ)
       → (slice_index_or (facts_of classes r) i (record { size = Long; is_count = false; same_as = i }) ≡ fact_of classes r i)
       ⊎ (slice_index_or (facts_of classes r) i (record { size = Long; is_count = false; same_as = i }) ≡ record { size = Long; is_count = false; same_as = i })

@@ -389,9 +389,6 @@ module _ (objects : List Object) (s : Sight) (all : List Sense) (m : State) wher
     given_constant : (n : ℕ) → n % 2 ^ 32 ≡ n → IsWorth (record { part = Worth (Constant n); divisors = [] }) n
     given_constant n e = record { divides = refl; worth = e; safe = tt; divisors = tt }
 
-    leaf_of : Tok → Att → Leaf
-    leaf_of t a = record { tok = t; att = a }
-
     const_law : (i : ℕ) (a : Att) → is_of_kind (attribute_of tok.Const) a ≡ true → sense_at all i ≡ OfLeaf (record { tok = tok.Const; att = a })
         → IsOf (record { part = Worth (Symbol i); divisors = [] }) (read s (token_means objects s tok.Const a Wild Wild))
     const_law i att.Nothing e is = absurd (cc)

@@ -9,7 +9,7 @@ use Rattle.tree_core.specs.declared.tree.Att.{Att}
 use Rattle.tree_core.specs.declared.tree.Att.TheVariants as att
 use Rattle.tree_core.specs.declared.tree.Leaf.{Leaf}
 use Rattle.tree_core.specs.declared.program.Object.{Object}
-use Rattle.tree_core.specs.Trees.{Forest, none, tree, grown}
+use Rattle.tree_core.specs.Trees.{Forest, none, tree}
 use Rattle.tree_core.specs.Area.{fetched}
 use Rattle.tree_meaning.specs.declared.value.Value.{Value}
 use Rattle.tree_meaning.specs.declared.value.Value.TheVariants.{Number, ZeroDivisor, Wild}
@@ -132,7 +132,3 @@ module _ (objects : List Object) (s : Sight) where
   abbrev pub meanings : Forest → List Meaning
   meanings none = []
   meanings (tree l below behind) = leaf_means l (slice_get (meanings below) 0) (slice_get (meanings below) 1) ∷ meanings behind
-
-  -- the value of the first of the trees with these leaves
-  abbrev pub value_of : List Leaf → Value
-  value_of w = kid s (slice_get (meanings (grown w)) 0)

@@ -1,5 +1,5 @@
 -- A run that is done step by step.
-use Rattle.std.proofs.Common.{◌≡◌, ℕ, suc, ◌+◌, ◌-◌, ◌<◌, ◌≤◌, List, [], ◌∷◌, ◌++◌, refl, sym, ap, subst, ◌∙◌, arith, append_assoc}
+use Rattle.std.proofs.Common.{◌≡◌, ℕ, suc, ◌+◌, ◌-◌, ◌<◌, List, [], ◌∷◌, ◌++◌, sym, ap, subst, ◌∙◌, arith, append_assoc}
 use Rattle.std.proofs.lemmas.List.{append-nil}
 use Rattle.gg_base.specs.declared.run.End.{End}
 use Rattle.gg_base.specs.declared.run.End.TheVariants as ends
@@ -16,9 +16,6 @@ use Rattle.vax_machine.specs.Running.{end_of, behind, steps, Ran}
 pub record Stands (whole : Outcome) (old out : List ℕ) (rest : Outcome) : Type 0 where
   pub ended : whole.end ≡ rest.end
   pub output : old ++ whole.output ≡ out ++ rest.output
-
-pub begins : (o : Outcome) (old : List ℕ) → Stands o old old o
-begins o old = record { ended = refl; output = refl }
 
 pub one_step : (m : State) (n i : ℕ) → i < n → steps (n - i) m ≡ one_first (behind (step_of m) (steps (n - (i + 1))))
 one_step m n i lt = let e : n - i ≡ suc (n - (i + 1)) = omega arith in ap (λ (k : ℕ). steps k m) e
@@ -110,13 +107,3 @@ stopped_by whole old out m' k rest (Stops x) t end step tells e h = record {
 pub stopped : (t : Turn) (end : End) (whole : Outcome) (old out : List ℕ) (m m' : State) (n i : ℕ) → Tells t end → i < n → IsStep t m' (step_of m) → Stands whole old out (steps (n - i) m)
     → Ran whole old out end
 stopped t end whole old out m m' n i tells lt step h = stopped_by whole old out m' (n - (i + 1)) (steps (n - i) m) (step_of m) t end step tells (one_step m n i lt) h
-
--- all steps are done
-pub spent : (whole : Outcome) (old out : List ℕ) (m : State) (n i : ℕ) → n ≤ i → Stands whole old out (steps (n - i) m) → Ran whole old out ends.Spent
-spent whole old out m n i le h =
-    let z : n - i ≡ 0 = omega arith in
-    let e : steps (n - i) m ≡ steps 0 m = ap (λ (k : ℕ). steps k m) z in
-    record {
-      ended = h.ended ∙ ap (λ (o : Outcome). o.end) e;
-      output = sym (append-nil out) ∙ sym (ap (λ (o : Outcome). out ++ o.output) e) ∙ sym h.output;
-    }

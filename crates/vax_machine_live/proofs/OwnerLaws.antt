@@ -161,9 +161,6 @@ one_less frames owners n kept = record { each = λ k f e. kept.each k f (front_g
 
 -- ---- one frame more
 
-pub none_yet : (owners : List ℕ) → AreOwned [] owners
-none_yet owners = record { each = λ k f e. absurd (none-some f e) }
-
 at_end : (frames : List Frame) (f g : Frame) (n : ℕ) → slice_get (frames ++ f ∷ []) n ≡ Some g → (slice_get frames n ≡ Some g) ⊎ ((n ≡ length frames) × (f ≡ g))
 at_end [] f g zero e = inr (refl, same_Some f g e)
 at_end [] f g (suc n) e = absurd (none-some g e)

@@ -21,7 +21,6 @@ use Rattle.vax_reader.specs.Lines.{area_front, item_front, named_front, counted_
 use Rattle.vax_reader.specs.Kinds.{kind_of}
 use Rattle.vax_reader.specs.WrongLine.{IsKind}
 use Rattle.vax_reader.specs.Grammar.{Reads, IsOnly, IsAreaLine, IsCodeLine, IsLine, made, AreaLines, CodeLines, LinesBefore, IsFirstWrong, IsFault, Refused, IsOnlyFault, GivesBack, Inverts}
-use Rattle.vax_reader.proofs.FrontLaws.{strip_takes}
 use Rattle.vax_reader.proofs.KindLaws.{kind_tells, one_kind}
 use Rattle.vax_reader.proofs.LineLaws.{area_takes, area_again, item_takes, item_again}
 
@@ -69,18 +68,6 @@ area_goes_on bytes area line rest item after now e is h =
       text = h.text ∙ ap (λ (x : List ℕ). codes "\t.data\n" ++ (flat_map area_line area ++ x)) t.spelled ∙ ap (λ (x : List ℕ). codes "\t.data\n" ++ x) (area_push area item after);
       number = omega (arith, h.number, length-append area (item ∷ []));
     })
-
-pub area_ends : (bytes : List ℕ) (area : List AreaItem) (line : ℕ) (rest after : List ℕ) → strip (codes "\t.text\n") rest ≡ Some after → AreaLines bytes area line rest
-    → CodeLines bytes area [] (line + 1) after
-area_ends bytes area line rest after e h =
-    let s = strip_takes (codes "\t.text\n") rest after e in
-    record {
-      valid = and_from (list_all is_area_item area) true h.valid refl;
-      text =
-          h.text ∙ ap (λ (x : List ℕ). codes "\t.data\n" ++ (flat_map area_line area ++ x)) s
-          ∙ ap (λ (x : List ℕ). codes "\t.data\n" ++ x) (sym (append_assoc (flat_map area_line area) (codes "\t.text\n") after));
-      number = omega (arith, h.number);
-    }
 
 pub wrong_start : (bytes : List ℕ) (kind : AsmKind) → strip (codes "\t.data\n") bytes ≡ None → kind ≡ kind_of stages.Start bytes → IsFirstWrong bytes 1 kind
 wrong_start bytes kind e is = record {
@@ -144,12 +131,6 @@ wrong_code bytes area items line rest kind some f h is = record {
   wrong = λ text more l r. no_code_line rest f text more l r;
   unended = λ s n. omega (arith, some, ap length n);
   kind_is = subst (IsKind stages.Code rest) (sym is) (kind_tells stages.Code rest);
-}
-
-pub is_read : (bytes : List ℕ) (area : List AreaItem) (items : List CodeItem) (line : ℕ) (rest : List ℕ) → rest ≡ [] → CodeLines bytes area items line rest → Reads bytes (made area items)
-is_read bytes area items line rest e h = record {
-  valid = h.valid;
-  text = h.text ∙ ap (λ (x : List ℕ). asm_text (made area items) ++ x) e ∙ append-nil (asm_text (made area items));
 }
 
 -- texts that begin with lines of the grammar begin with the same lines

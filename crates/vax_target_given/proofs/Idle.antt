@@ -94,9 +94,6 @@ module _ (s : Setting) (roles : List Hole) (zero' : Option Shape) (no_own : s.ow
   addressed_unaimed (SavedPlace z i) size = sized_unaimed z size _ refl
   addressed_unaimed w size = tt
 
-  abbrev Never : {A : Type 0} → A → Type 0
-  Never x = ⊥
-
   other_never : (w : Where) (size : Size) → EachOk (λ (x : Target × Bool). ⊥) (cond s.is_statement (statement_target s w size) (Err NotInstr))
   other_never w size = if_ok (λ (x : Target × Bool). ⊥) s.is_statement (statement_target s w size) (Err NotInstr) (λ e. absurd (cc)) (λ e. tt)
 

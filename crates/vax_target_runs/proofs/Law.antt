@@ -1,7 +1,7 @@
 -- Lines do what they are judged to do, one after another.
-use Rattle.std.proofs.Common.{◌≡◌, ℕ, zero, suc, ◌+◌, ◌-◌, ◌^◌, ◌<◌, ◌≤◌, ◌==◌, ◌⊎◌, inl, inr, ◌++◌, Bool, true, false, cond, List, [], ◌∷◌, length, map, Option, Some, None}
+use Rattle.std.proofs.Common.{◌≡◌, ℕ, ◌+◌, ◌-◌, ◌^◌, ◌<◌, ◌⊎◌, inl, inr, ◌++◌, Bool, true, false, List, [], ◌∷◌, length, map, Option, Some, None}
 use Rattle.std.proofs.Common.{Result, Ok, Err, refl, sym, ap, subst, ◌∙◌, arith, append-nil, get_or-set_same, get_or-set_other}
-use Rattle.std.specs.Prelude.{slice_index, slice_set, slice_get, not}
+use Rattle.std.specs.Prelude.{slice_index, slice_set}
 use Rattle.std.specs.List.{AllByRecursion}
 use Rattle.gg_base.proofs.Facts.{err_ok, ok_same}
 use Rattle.md_reader_pieces.specs.declared.piece.Line.{Line}
@@ -9,48 +9,41 @@ use Rattle.md_reader_pieces.specs.declared.piece.Piece.{Piece}
 use Rattle.term_core.specs.Shape.{Shape}
 use Rattle.vax_target_lines.specs.sel_terms.specs.Effects.{ActShape, Return}
 use Rattle.vax_target_lines.specs.sel_target.specs.declared.fault.TemplateKind.{TemplateKind}
-use Rattle.vax_target_lines.specs.sel_target.specs.declared.fault.TemplateKind.TheVariants.{NotInstr}
-use Rattle.vax_target_lines.specs.sel_target.specs.declared.attr.Attr.{Attr}
 use Rattle.vax_target_lines.specs.sel_target.specs.declared.attr.Attr.TheVariants as attr
-use Rattle.vax_target_lines.specs.sel_target.specs.Meaning.{Fault, RegAt, touches}
+use Rattle.vax_target_lines.specs.sel_target.specs.Meaning.{RegAt}
 use Rattle.vax_target_lines.specs.sel_target.specs.Instances.{attr_touches}
 use Rattle.vax_core.specs.declared.register.Reg.{Reg}
 use Rattle.vax_core.specs.declared.register.Reg.TheVariants.{R0}
-use Rattle.vax_core.specs.declared.operand.Operand.{Operand}
-use Rattle.vax_core.specs.Registers.{reg_number, operand_bits, base_register}
+use Rattle.vax_core.specs.Registers.{reg_number}
 use Rattle.vax_core.specs.declared.code.Instr.{Instr}
 use Rattle.vax_machine.specs.declared.function.Conditions.{Conditions}
-use Rattle.vax_machine.specs.State.{State, reg, with_reg, with_conditions}
+use Rattle.vax_machine.specs.State.{State, with_reg, with_conditions}
 use Rattle.vax_target_lines.specs.vax_machine_lists.specs.Sound.{IsSound}
-use Rattle.vax_target_lines.specs.vax_machine_lists.specs.Instructions.{Course, Ending, Comes, Goes, Calls, Returns, Stops, ends, comes, followed, bytes_first, performed, exec}
+use Rattle.vax_target_lines.specs.vax_machine_lists.specs.Instructions.{Course, Ending, Comes, Goes, Calls, Returns, Stops, ends, comes, followed, performed, exec}
 use Rattle.vax_target_lines.specs.vax_machine_lists.proofs.Soundness.{conditions_sound}
 use Rattle.vax_target_lines.specs.vax_states.proofs.Keeping.{sound_register}
 use Rattle.vax_target_lines.specs.vax_templates.specs.declared.setting.Hole.{Hole}
-use Rattle.vax_target_lines.specs.vax_templates.specs.declared.setting.Hole.TheVariants as hole_kind
-use Rattle.vax_target_lines.specs.vax_templates.specs.declared.setting.Own.{Own}
 use Rattle.vax_target_lines.specs.vax_templates.specs.declared.setting.Own.TheVariants as own
-use Rattle.vax_target_lines.specs.vax_templates.specs.declared.setting.Opening.TheVariants as opening
 use Rattle.vax_target_lines.specs.vax_templates.specs.declared.setting.Setting.{Setting}
-use Rattle.vax_target_lines.specs.vax_templates.specs.Standing.{◌>>=◌}
 use Rattle.vax_target_lines.specs.vax_templates.specs.Instructions.{Instruction, Relation, Jump, Calls as CallsLine, Ret, Operates, instruction_of}
 use Rattle.vax_target_lines.specs.vax_templates.specs.Deeds.{Last, Plain, Compared, Tested, Returning, Ended, Deed, leaves}
 use Rattle.vax_target_lines.specs.vax_templates.specs.Judging.{returned, did_behind, line_did, is_operand}
 use Rattle.vax_target_lines.specs.vax_templates.specs.Judging as judging
 use Rattle.vax_target_lines.specs.vax_templates.specs.Progress.{Progress, start, kept_or_put, progressed, at_line, kept, judged}
 use Rattle.vax_target_lines.specs.vax_templates.specs.Progress.{lines_judged}
-use Rattle.vax_target_lines.specs.vax_templates.specs.Filled.{register_in, operand_in, deferred_in}
+use Rattle.vax_target_lines.specs.vax_templates.specs.Filled.{register_in}
 use Rattle.vax_target_lines.specs.vax_templates.specs.FilledLines.{filled_instruction, filled_line}
 use Rattle.vax_target_lines.specs.vax_templates.proofs.Judgements.{read_is}
 use Rattle.vax_target_lines.specs.vax_target_meaning.specs.Vax.{vax}
-use Rattle.vax_target_lines.specs.vax_target_operands.specs.Scenes.{Scene, worth, role_at, filling_at, is_lost, Means, OwnIs, Holds, Sees}
-use Rattle.vax_target_lines.specs.vax_target_operands.proofs.Binds.{Chained, chained}
+use Rattle.vax_target_lines.specs.vax_target_operands.specs.Scenes.{Scene, worth, role_at, filling_at, is_lost, Holds, Sees}
+use Rattle.vax_target_lines.specs.vax_target_operands.proofs.Binds.{chained}
 use Rattle.vax_target_lines.specs.vax_target_operands.proofs.Worths.{worth_small}
 use Rattle.vax_target_lines.specs.Takings.{AreRead}
-use Rattle.vax_target_lines.specs.Lines.{CodesMean, ZeroHolds, DoesDeed, with_own, with_last, MayHold, GoesOn, DoesLine, EndIsRead, NoneIsZero}
+use Rattle.vax_target_lines.specs.Lines.{with_own, MayHold, GoesOn, DoesLine, EndIsRead, NoneIsZero}
 use Rattle.vax_target_lines.proofs.Performing.{lines_do, returns_so}
 use Rattle.vax_target_runs.specs.Kept.{Differs}
 use Rattle.vax_target_runs.proofs.Seen.{means_kept}
-use Rattle.vax_target_runs.specs.Runs.{OwnChanged, ZeroChanged, Changed, SeesBehind, Reaches, IsReturn, EndsIn, ComesTo, RunsTo, IsApart, line_of, AllRead, IsCalm, LinesRun}
+use Rattle.vax_target_runs.specs.Runs.{OwnChanged, ZeroChanged, Changed, Reaches, IsReturn, EndsIn, ComesTo, RunsTo, IsApart, line_of, AllRead, IsCalm, LinesRun}
 
 -- ---- states that differ
 
@@ -180,10 +173,6 @@ module _ (c : Scene) (m : State) (apart : IsApart c) (low : reg_number (register
   own_step : (o : Option Shape) (n : State) (k : Conditions) → IsSound n → Differs (OwnChanged c o) n (with_conditions (with_own c n o) k)
   own_step None n k s = codes_differ n k s
   own_step (Some t) n k s = set_differs n (register_in c.own) (worth c t) k s (worth_small c t)
-
-  own_low : (o : Option Shape) (x : ℕ) → OwnChanged c o x → x < 12
-  own_low None x e = absurd e
-  own_low (Some t) x e = subst (λ y. y < 12) (sym e) low
 
   -- the register of `%0` is no operand's
   is_off : c.setting.own ≡ own.Register → (i : ℕ) → (c.setting.is_reused ≡ true → is_operand (role_at c i) ≡ false) → is_operand (role_at c i) ≡ true → (x : ℕ) → x ≡ reg_number (register_in c.own) →

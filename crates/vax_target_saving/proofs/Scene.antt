@@ -18,7 +18,6 @@ use Rattle.sel_target.specs.Values.{View, value, worth}
 use Rattle.sel_target.specs.SavingLaws.{IsValue, operand, register}
 use Rattle.vax_core.specs.declared.operand.Operand.{Operand}
 use Rattle.vax_machine.specs.State.{State}
-use Rattle.vax_templates.specs.declared.setting.Hole.{Hole}
 use Rattle.vax_templates.specs.declared.setting.Hole.TheVariants as hole_kind
 use Rattle.vax_templates.specs.Settings.{hole_or_other, hole_at, saved_hole, saved_setting}
 use Rattle.vax_templates.specs.Filled.{attr_at}
@@ -30,9 +29,6 @@ use Rattle.vax_target_runs.specs.vax_target_operands.specs.Scenes.{Scene, Means,
 -- the scene of a line that saves what is of a kind, or reloads
 abbrev pub scene : TreeProgram → Kind → Attr Operand → Attr Operand → View → Scene
 scene q k a res v = record { program = q; setting = saved_setting k; roles = saved_hole k ∷ []; holes = a ∷ []; own = res; view = v }
-
-none_behind : (k : ℕ) (x : Hole) → hole_or_other (slice_get (x ∷ []) (suc k)) ≡ hole_kind.Other
-none_behind k x = refl
 
 -- one symbol means what its hole stands for
 module _ (q : TreeProgram) (k : Kind) (a res : Attr Operand) (v : View) (m : State) (h : Means (scene q k a res v) m (saved_hole k) 1 a) where

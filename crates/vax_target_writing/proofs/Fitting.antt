@@ -33,12 +33,12 @@ use Rattle.vax_core.specs.Homes.{home, at_home, argument_home}
 use Rattle.vax_core.specs.Valid.{is_name, is_long, is_named_addr, is_base, is_index, is_memory}
 use Rattle.vax_core.proofs.ValidLaws.{named_is_addr}
 use Rattle.vax_templates.specs.Settings.{hole_of_token, hole_of_kind, hole_of, holes_of, own_of}
-use Rattle.vax_templates.specs.Filled.{alone, spare, numbered, label_of, object_addr, addr_of_att, addr_number, word_operand, slot_operand, slot_deferred, leaf_operand}
-use Rattle.vax_templates.specs.Filled.{leaf_deferred, operand_in, deferred_in, addr_in}
-use Rattle.vax_target_meaning.specs.Fitting.{steps, is_steady, is_place, fits, CanWrite}
+use Rattle.vax_templates.specs.Filled.{spare, label_of, addr_of_att, word_operand, slot_operand, slot_deferred}
+use Rattle.vax_templates.specs.Filled.{operand_in}
+use Rattle.vax_target_meaning.specs.Fitting.{steps, is_place, fits, CanWrite}
 use Rattle.vax_target_meaning.specs.Vax.{vax}
 use Rattle.vax_templates.specs.sel_target.specs.Spelled.{IsSpelled, TokenIsSpelled, AreSpelled}
-use Rattle.vax_target_writing.proofs.Operands.{IsReadable, IsMemory, IsPlain, IsNumber, IsObject, IsLocal, Spells, AllSpell, OwnSpells}
+use Rattle.vax_target_writing.proofs.Operands.{IsMemory, IsPlain, IsNumber, IsObject, IsLocal, Spells, AllSpell, OwnSpells}
 
 -- ---- tests
 
@@ -71,9 +71,6 @@ argument_deferred k e =
     (record { memory = record { memory = refl; base = few_long k (leb-true k 255 e) }; bare = refl })
 
 -- ---- operands that fit
-
-readable : (o : Operand) → is_steady o ≡ true → IsReadable o
-readable o e = e
 
 pub memory : (o : Operand) → is_place o ≡ true → IsMemory o
 memory o e = by o.base o.index e where
