@@ -1,7 +1,7 @@
 // Statements. Temporaries begin anew at each full expression.
 ghost use Rattle.std.specs.Prelude.{◌≡◌, IfOk, map};
 ghost use Rattle.c_types.specs.Typed.{expression_of};
-ghost use Rattle.c_program.specs.Statements.{act, acts, declaration, maybe_term};
+ghost use Rattle.c_program.specs.Statements.{act, acts, declaration, optional_expression};
 ghost use Rattle.c_lower_scheme.specs.Statements as statements;
 ghost use Rattle.c_lower_code.specs.Views.{done};
 
@@ -36,7 +36,7 @@ fn when(frame: Frame, c: &Expression, to: u32, l: u32) -> Result<Emitted, NoMemo
 
 // What is evaluated for its effect, if there is something.
 fn effect(frame: Frame, e: &Option<Expression>, l: u32) -> Result<Emitted, NoMemory>
-    ensures { IfOk result (λ r. done r ≡ statements.effect frame.locals frame.functions (maybe_term e.now) l) }
+    ensures { IfOk result (λ r. done r ≡ statements.effect frame.locals frame.functions (optional_expression e.now) l) }
 {
     match e {
         None => Ok(nothing(frame.alloc, frame.locals, l)),
@@ -46,7 +46,7 @@ fn effect(frame: Frame, e: &Option<Expression>, l: u32) -> Result<Emitted, NoMem
 
 // A `return`.
 fn returning(frame: Frame, e: &Option<Expression>, l: u32) -> Result<Emitted, NoMemory>
-    ensures { IfOk result (λ r. done r ≡ statements.returning frame.locals frame.functions (maybe_term e.now) l) }
+    ensures { IfOk result (λ r. done r ≡ statements.returning frame.locals frame.functions (optional_expression e.now) l) }
 {
     match e {
         None => {
@@ -107,7 +107,7 @@ fn for_of(
     e: &Option<Expression>,
     body: &Action,
 ) -> Result<Emitted, NoMemory>
-    ensures { IfOk result (λ r. done r ≡ statements.for_of frame.locals frame.functions l (maybe_term c.now) (maybe_term e.now)
+    ensures { IfOk result (λ r. done r ≡ statements.for_of frame.locals frame.functions l (optional_expression c.now) (optional_expression e.now)
         (statements.lower frame.locals frame.functions (act body.now) NoActions (suc (suc l)) (suc l))) }
 {
     let onward = after(l)?;

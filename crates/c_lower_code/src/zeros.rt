@@ -1,7 +1,7 @@
 // Whether the zero of a declaration is written: it isn't where the local is assigned to before anything names it.
 ghost use Rattle.std.specs.Prelude.{◌≡◌, map};
 ghost use Rattle.c_types.specs.Typed.{expression_of, place_of};
-ghost use Rattle.c_program.specs.Statements.{acts, declaration, maybe_term};
+ghost use Rattle.c_program.specs.Statements.{acts, declaration, optional_expression};
 ghost use Rattle.c_lower_scheme.specs.Zeros.{is_at, sets, maybe_sets, is_overwritten, is_zeroed};
 
 use crate::mention::{is_local, mentions};
@@ -30,7 +30,7 @@ fn sets(local: u32, e: &Expression) -> bool
 }
 
 fn maybe_sets(local: u32, e: &Option<Expression>) -> bool
-    ensures { result ≡ maybe_sets local (maybe_term e.now) }
+    ensures { result ≡ maybe_sets local (optional_expression e.now) }
 {
     match e {
         None => false,

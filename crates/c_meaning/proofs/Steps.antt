@@ -13,7 +13,7 @@ use Rattle.c_types.specs.declared.typed.Callee.{Callee}
 use Rattle.c_types.specs.Constants.{converted}
 use Rattle.c_types.specs.Typed.{SomeExpressions, expression_of}
 use Rattle.c_program.specs.declared.statement.Action.{Action}
-use Rattle.c_program.specs.Statements.{acts, maybe_term}
+use Rattle.c_program.specs.Statements.{acts, optional_expression}
 use Rattle.gg_base.specs.declared.run.End.TheVariants.{Deep}
 use Rattle.c_program.specs.declared.program.Routine.{Routine}
 use Rattle.c_program.specs.Programs.{AProgram, routine}
@@ -194,9 +194,9 @@ look_behind m l e is =
     ∙ ap (λ (κ : State → Runs). expr p (means p) (expression_of e.now) (λ v. κ) (state m.store)) (λ i st. means_is p (Look (loop_of l)) (with_flow (waits m)) st i)
 
 -- a part of a `for`, if it is there
-pub part_is : (o : Option (Bor Expression)) (e : Option Expression) → option_copied o ≡ e → maybe_bor o ≡ maybe_term e
-part_is None e is = ap maybe_term is
-part_is (Some x) e is = ap maybe_term is
+pub part_is : (o : Option (Bor Expression)) (e : Option Expression) → option_copied o ≡ e → maybe_bor o ≡ optional_expression e
+part_is None e is = ap optional_expression is
+part_is (Some x) e is = ap optional_expression is
 
 -- a turn of a loop whose condition is true
 pub turns : {new : Machine} {event : Event} (m : Machine) (l : Loop) (v : ℕ) → (v ≡ 0 → ⊥)

@@ -14,28 +14,28 @@ use Rattle.c_meaning.specs.declared.frame.Control.{Control}
 use Rattle.c_meaning.specs.declared.frame.Control.TheVariants as controls
 use Rattle.c_meaning.specs.declared.machine.Machine.{Machine}
 use Rattle.c_meaning.specs.Parts.{loop_of}
-use Rattle.c_meaning.specs.Work.{term_work, arguments_work, declarations_work, loop_work, again_to_do, act_work}
+use Rattle.c_meaning.specs.Work.{expression_work, arguments_work, declarations_work, loop_work, again_to_do, act_work}
 use Rattle.c_meaning.specs.Work.{acts_work}
 
 abbrev pub use_work : Use → ℕ
 use_work uses.Read = 2
 use_work uses.Address = 2
 use_work (uses.Step m by) = 2
-use_work (uses.Assign e) = term_work (expression_of e.now.value) + 2
-use_work (uses.Change op e) = term_work (expression_of e.now.value) + 2
-use_work (uses.Advance e) = term_work (expression_of e.now.value) + 2
-use_work (uses.Retreat e) = term_work (expression_of e.now.value) + 2
+use_work (uses.Assign e) = expression_work (expression_of e.now.value) + 2
+use_work (uses.Change op e) = expression_work (expression_of e.now.value) + 2
+use_work (uses.Advance e) = expression_work (expression_of e.now.value) + 2
+use_work (uses.Retreat e) = expression_work (expression_of e.now.value) + 2
 
 abbrev pub value_work : ValueFrame → ℕ
 value_work (waiting.Unary op) = 1
 value_work (waiting.Convert t) = 1
-value_work (waiting.Right op e) = term_work (expression_of e.now.value) + 1
+value_work (waiting.Right op e) = expression_work (expression_of e.now.value) + 1
 value_work (waiting.Last op x) = 1
-value_work (waiting.AndRight e) = term_work (expression_of e.now.value) + 1
-value_work (waiting.OrRight e) = term_work (expression_of e.now.value) + 1
+value_work (waiting.AndRight e) = expression_work (expression_of e.now.value) + 1
+value_work (waiting.OrRight e) = expression_work (expression_of e.now.value) + 1
 value_work waiting.Truth = 1
-value_work (waiting.Choose a b) = term_work (expression_of a.now.value) + term_work (expression_of b.now.value) + 1
-value_work (waiting.Comma e) = term_work (expression_of e.now.value) + 1
+value_work (waiting.Choose a b) = expression_work (expression_of a.now.value) + expression_work (expression_of b.now.value) + 1
+value_work (waiting.Comma e) = expression_work (expression_of e.now.value) + 1
 value_work (waiting.Found t u) = use_work u + 1
 value_work (waiting.Assign t s) = 1
 value_work (waiting.Change t s op x) = 1
@@ -62,7 +62,7 @@ frames_work [] = 0
 frames_work (f ∷ fs) = frame_work f + frames_work fs
 
 abbrev pub control_work : Control → ℕ
-control_work (controls.Evaluate e) = term_work (expression_of e.now)
+control_work (controls.Evaluate e) = expression_work (expression_of e.now)
 control_work (controls.Perform a) = act_work (act a.now.value)
 control_work (controls.Block ss) = acts_work (acts ss.now.items)
 control_work (controls.Declare ds) = declarations_work (map declaration ds.now)

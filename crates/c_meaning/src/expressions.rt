@@ -8,7 +8,7 @@ ghost use Rattle.c_meaning.specs.Values.{or_wild, or_trap, array_address, addres
 ghost use Rattle.c_meaning.specs.Meaning.{expr};
 ghost use Rattle.c_meaning.specs.Runner.{Makes, Does, Resumes};
 ghost use Rattle.c_meaning.specs.Pending.{program_of, tasks_of, before, with_value};
-ghost use Rattle.c_meaning.specs.Work.{term_work};
+ghost use Rattle.c_meaning.specs.Work.{expression_work};
 ghost use Rattle.c_meaning.specs.declared.frame.Frame.TheVariants as frames;
 ghost use Rattle.c_meaning.specs.declared.frame.ValueFrame.TheVariants as waiting;
 
@@ -68,7 +68,7 @@ impl<'a> Machine<'a> {
         ensures { IfOk result (λ event. Makes self.old (λ κ. expr (program_of self.old)
             (tasks_of self.old) (expression_of left.now.value) (with_value
             (before (program_of self.old) (frames.ForValue (waiting.Right operator right.entry)) κ)))
-            (term_work (expression_of left.now.value) + term_work (expression_of right.now.value) + 2) event self.new) }
+            (expression_work (expression_of left.now.value) + expression_work (expression_of right.now.value) + 2) event self.new) }
     {
         self.wait(ValueFrame::Right(operator, right), left)
     }

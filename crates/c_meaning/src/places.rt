@@ -8,7 +8,7 @@ ghost use Rattle.c_meaning.specs.Runner.{Makes};
 ghost use Rattle.c_meaning.specs.Pending.{program_of, tasks_of, used, with_value};
 ghost use Rattle.c_meaning.specs.Parts.{changed, combined};
 ghost use Rattle.c_meaning.specs.FrameWork.{use_work};
-ghost use Rattle.c_meaning.specs.Work.{place_work, term_work};
+ghost use Rattle.c_meaning.specs.Work.{place_work, expression_work};
 
 use crate::flow::Event;
 use crate::frame::{Control, Use, ValueFrame};
@@ -68,7 +68,7 @@ impl<'a> Machine<'a> {
     ) -> Result<Event, NoMemory>
         ensures { IfOk result (λ event. Makes self.old (λ κ. read_at of spot
             (λ x. expr (program_of self.old) (tasks_of self.old) (expression_of right.now.value)
-            (λ y. changed of spot operator x y (with_value κ)))) (term_work (expression_of right.now.value) + 2) event self.new) }
+            (λ y. changed of spot operator x y (with_value κ)))) (expression_work (expression_of right.now.value) + 2) event self.new) }
     {
         match self.store.held(of, spot) {
             None => Ok(self.stop(Finish::Wild)),

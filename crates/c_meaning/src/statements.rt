@@ -1,7 +1,7 @@
 // Statements, from their first step on.
 
 ghost use Rattle.std.specs.Prelude.{◌≡◌, ◌+◌, IfOk};
-ghost use Rattle.c_program.specs.Statements.{maybe_term, act, acts};
+ghost use Rattle.c_program.specs.Statements.{optional_expression, act, acts};
 ghost use Rattle.c_meaning.specs.declared.frame.Control.TheVariants as controls;
 ghost use Rattle.c_meaning.specs.Values.{chosen, Look};
 ghost use Rattle.c_meaning.specs.Meaning.{local_set, look_at, turn_at, dropped, returned};
@@ -59,7 +59,7 @@ impl<'a> Machine<'a> {
     // A `return`, with its value if it has one.
     fn give_back(&mut self, value: &'a Option<Expression>) -> Result<Event, NoMemory>
         ensures { IfOk result (λ event. Makes self.old (λ κ. returned (program_of self.old)
-            (tasks_of self.old) (maybe_term value.now) (with_flow κ)) (maybe_work (maybe_term value.now) + 2)
+            (tasks_of self.old) (optional_expression value.now) (with_flow κ)) (maybe_work (optional_expression value.now) + 2)
             event self.new) }
     {
         match value {

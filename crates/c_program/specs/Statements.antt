@@ -35,9 +35,9 @@ mutual
     NoActions : SomeActions
     MoreActions : (a : AnAction) (rest : SomeActions) → SomeActions
 
-abbrev pub maybe_term : Option Expression → Option AnExpression
-maybe_term None = None
-maybe_term (Some e) = Some (expression_of e)
+abbrev pub optional_expression : Option Expression → Option AnExpression
+optional_expression None = None
+optional_expression (Some e) = Some (expression_of e)
 
 abbrev mutual
   pub act : Action → AnAction
@@ -46,12 +46,12 @@ abbrev mutual
   act (actions.Evaluate e) = EvaluateOf (expression_of e)
   act actions.Break = BreakOf
   act actions.Continue = ContinueOf
-  act (actions.Return e) = ReturnOf (maybe_term e)
+  act (actions.Return e) = ReturnOf (optional_expression e)
   act (actions.If' c p a) = IfOf (expression_of c) (act a)
   act (actions.IfElse' c p a q b) = IfElseOf (expression_of c) (act a) (act b)
   act (actions.While' c p a) = WhileOf (expression_of c) (act a)
   act (actions.Do' p a c) = DoOf (act a) (expression_of c)
-  act (actions.For' i c e p a) = ForOf (maybe_term i) (maybe_term c) (maybe_term e) (act a)
+  act (actions.For' i c e p a) = ForOf (optional_expression i) (optional_expression c) (optional_expression e) (act a)
 
   pub act_row : {m : _} → Row_of-Action m → SomeActions
   act_row end_of-Action = NoActions

@@ -1,7 +1,7 @@
 // How many longwords of its frame a function needs.
 ghost use Rattle.std.specs.Prelude.{◌≡◌, ◌<◌, ◌≤◌, ◌^◌, ◌↔◌, min, map, max, ◌+◌, IfSome, IsSome};
 ghost use Rattle.c_types.specs.Typed.{expression_of, place_of, expressions_of};
-ghost use Rattle.c_program.specs.Statements.{act, acts, declaration, maybe_term};
+ghost use Rattle.c_program.specs.Statements.{act, acts, declaration, optional_expression};
 ghost use Rattle.c_program.specs.Need.{nodes, place_nodes, all_nodes, maybe_nodes, returned_nodes, declared_nodes, largest};
 ghost use Rattle.c_program.specs.Need.{largest_of, need_of};
 
@@ -72,7 +72,7 @@ fn all_nodes(es: &[Expression]) -> u32
 }
 
 fn maybe_nodes(e: &Option<Expression>) -> u32
-    ensures { result ≡ min (maybe_nodes (maybe_term e.now)) 4294967295 }
+    ensures { result ≡ min (maybe_nodes (optional_expression e.now)) 4294967295 }
 {
     match e {
         None => 0,
@@ -81,7 +81,7 @@ fn maybe_nodes(e: &Option<Expression>) -> u32
 }
 
 fn returned_nodes(e: &Option<Expression>) -> u32
-    ensures { result ≡ min (returned_nodes (maybe_term e.now)) 4294967295 }
+    ensures { result ≡ min (returned_nodes (optional_expression e.now)) 4294967295 }
 {
     match e {
         None => 1,

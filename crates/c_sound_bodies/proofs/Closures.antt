@@ -1,4 +1,4 @@
--- Fitting and standing hold of a term because they hold of its parts.
+-- Fitting and standing hold of an expression because they hold of its parts.
 use Rattle.std.proofs.Common.{◌≡◌, ℕ, ◌≤◌, ◌<◌, ◌^◌, List, [], ◌∷◌, length, arith}
 use Rattle.c_phrases.specs.Phrases.{AnExp}
 use Rattle.c_types.specs.declared.types.CType.{CType}
@@ -19,7 +19,7 @@ use Rattle.c_sound.specs.Stands.{arguments, IsThere, Takes, Stands, StandAll}
 use Rattle.c_typed_expressions.specs.Relations.{IsTyped}
 use Rattle.c_typed_definition.specs.State.{State}
 use Rattle.c_sound_bodies.specs.Claim.{IsKnown, InOrder, AreDefined}
-use Rattle.c_sound_bodies.proofs.Terms.{Every, Closed}
+use Rattle.c_sound_bodies.proofs.ByParts.{Every, Closed}
 use Rattle.c_sound_bodies.proofs.Growth.{exp_extends}
 use Rattle.c_sound_bodies.proofs.Expressions.{exp_has}
 
@@ -30,7 +30,7 @@ stands_in scope locals parameters objects (variables.Parameter n) h = tt
 stands_in scope locals parameters objects (variables.Global n) h = tt
 stands_in scope locals parameters objects (variables.Static n) h = tt
 
--- a term that fits, whose size is a longword
+-- an expression that fits, whose size is a longword
 abbrev pub IsFit : (ℕ → Type 0) → AnExpression → Type 0
 IsFit scope x = Fits scope x × (operand_size x < 2 ^ 32)
 
@@ -52,7 +52,7 @@ fits_closed scope locals parameters known objects = record {
   variable = λ t v k. (stands_in scope locals parameters known v k, size_small _);
   pointed = λ t x p. (p.0, size_small _);
   element = λ t x p. (p.0, size_small _);
-  size_of_term = λ x p. (p.1, size_small _);
+  size_of_expression = λ x p. (p.1, size_small _);
   size = λ t. (size_small t, size_small _);
   address = λ t p h. (h.0, size_small _);
   call = λ t f to es takes many all. (fits_all scope es to many all, size_small _);
@@ -83,7 +83,7 @@ is_there scope locals parameters known objects l (variables.Parameter n) h = h
 is_there scope locals parameters known objects l (variables.Global n) h = omega arith
 is_there scope locals parameters known objects l (variables.Static n) h = omega arith
 
--- a term that names what is there stands
+-- an expression that names what is there stands
 abbrev pub WillStand : (objects parameters : ℕ) → List ARoutine → AnExpression → Type 0
 WillStand objects parameters gs x = Stands (IsThere objects parameters) (Takes gs) objects x
 
@@ -101,7 +101,7 @@ stands_closed scope locals parameters known objects gs l = record {
   variable = λ t v k. is_there scope locals parameters known objects l v k;
   pointed = λ t x p. p;
   element = λ t x p. p;
-  size_of_term = λ x p. tt;
+  size_of_expression = λ x p. tt;
   size = λ t. tt;
   address = λ t p h. h;
   call = λ t f to es takes many all. (rw many takes, stand_all objects parameters gs es all);

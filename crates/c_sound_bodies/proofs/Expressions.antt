@@ -1,4 +1,4 @@
--- What holds of each term because it holds of its parts holds of what expressions are typed as.
+-- What holds of each expression because it holds of its parts holds of what expressions are typed as.
 use Rattle.std.proofs.Common.{◌≡◌, ℕ, ◌+◌, ◌≤◌, ◌==◌, Bool, true, false, List, length, Option, Some, None, Result, Ok, Err, refl, sym, ap, ◌∙◌, arith}
 use Rattle.std.specs.Prelude.{slice_get, if◌then◌else◌}
 use Rattle.std.proofs.lemmas.Bool.{eqb-true}
@@ -23,7 +23,7 @@ use Rattle.c_typed_expressions.specs.Relations.{IsNamed, NamesVariable, NamesArr
 use Rattle.c_sound.specs.Stands.{arguments}
 use Rattle.c_typed_words.specs.Phrases.{ExpOf, ExpsOf}
 use Rattle.c_sound_bodies.specs.Claim.{ScopeOf, Extends}
-use Rattle.c_sound_bodies.proofs.Terms.{Every, Closed}
+use Rattle.c_sound_bodies.proofs.ByParts.{Every, Closed}
 use Rattle.c_sound_bodies.proofs.Rules.{binary_has, index_has, prefix_has, step_has, cast_has, sizeof_has, sizeof_type_has, choice_has, assign_has}
 use Rattle.c_sound_bodies.proofs.Names.{found}
 use Rattle.c_sound_bodies.proofs.Growth.{exp_extends, exps_extend, literal_adds}

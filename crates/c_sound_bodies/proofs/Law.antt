@@ -22,14 +22,14 @@ use Rattle.c_sound_bodies.specs.Claim.{InOrder, BodiesAreSound}
 use Rattle.c_sound_bodies.proofs.Growth.{exp_extends}
 use Rattle.c_sound_bodies.proofs.Closures.{exp_fits, exp_stands}
 use Rattle.c_sound_bodies.proofs.Locals.{grows_area, order_more, locals_sound}
-use Rattle.c_sound_bodies.proofs.Parts.{TermIsSound, PartIsSound, ActIsSound, ActsAreSound, part_none, part_some, order_entered, block_sound, empty_sound, evaluate_sound}
+use Rattle.c_sound_bodies.proofs.Parts.{ExpressionIsSound, PartIsSound, ActIsSound, ActsAreSound, part_none, part_some, order_entered, block_sound, empty_sound, evaluate_sound}
 use Rattle.c_sound_bodies.proofs.Parts.{return_sound, break_sound, continue_sound, if_sound, if_else_sound, while_sound, do_sound, for_sound, none_sound, order_plain}
 use Rattle.c_sound_bodies.proofs.Parts.{statement_first, declaration_first}
 
 module _ (names : List (List ℕ × Entry)) (signatures : List Signature) (scope : ℕ → Type 0) (parameters : ℕ) where
-  term_is : (e : AnExp) (s : State) (x : AnExpression × Area) (r : AnExpression × State) → InOrder scope parameters s →
-      IsTyped names signatures s.scope e s.area x → r ≡ (x.0, with_area x.1 s) → TermIsSound (ExpOf IsToken e) signatures scope parameters s r.0 r.1
-  term_is e s x r o j is =
+  expression_is : (e : AnExp) (s : State) (x : AnExpression × Area) (r : AnExpression × State) → InOrder scope parameters s →
+      IsTyped names signatures s.scope e s.area x → r ≡ (x.0, with_area x.1 s) → ExpressionIsSound (ExpOf IsToken e) signatures scope parameters s r.0 r.1
+  expression_is e s x r o j is =
       let further = grows_area s x.1 (exp_extends names signatures s.scope e s.area x j) in
       rw is (record {
         fits = exp_fits names signatures scope parameters s e x o j;
@@ -40,22 +40,22 @@ module _ (names : List (List ℕ × Entry)) (signatures : List Signature) (scope
       })
 
   pub full_sound : (e : AnExp) (s : State) (r : AnExpression × State) → InOrder scope parameters s → IsFull names signatures e s r →
-      TermIsSound (ExpOf IsToken e) signatures scope parameters s r.0 r.1
-  full_sound e s r o j = term_is e s j.part r o j.typed j.whole
+      ExpressionIsSound (ExpOf IsToken e) signatures scope parameters s r.0 r.1
+  full_sound e s r o j = expression_is e s j.part r o j.typed j.whole
 
-  condition_is : {W : Type 0} (s : State) (x r : AnExpression × State) (c : AnExpression) → TermIsSound W signatures scope parameters s x.0 x.1 → c ≡ x.0 →
-      r ≡ (c, x.1) → TermIsSound W signatures scope parameters s r.0 r.1
+  condition_is : {W : Type 0} (s : State) (x r : AnExpression × State) (c : AnExpression) → ExpressionIsSound W signatures scope parameters s x.0 x.1 → c ≡ x.0 →
+      r ≡ (c, x.1) → ExpressionIsSound W signatures scope parameters s r.0 r.1
   condition_is s x r c h same is = rw (is, same) h
 
   pub condition_sound : (e : AnExp) (s : State) (r : AnExpression × State) → InOrder scope parameters s → IsCondition names signatures e s r →
-      TermIsSound (ExpOf IsToken e) signatures scope parameters s r.0 r.1
+      ExpressionIsSound (ExpOf IsToken e) signatures scope parameters s r.0 r.1
   condition_sound e s r o j = let k = j.whole in condition_is s j.part r k.part (full_sound e s j.part o j.typed) k.typed.typed k.whole
 
   left_out : (s : State) (r : Option AnExpression × State) → InOrder scope parameters s → r ≡ (None, s) →
       PartIsSound (Unit {0}) signatures scope parameters s r.0 r.1
   left_out s r o is = rw is (part_none signatures scope parameters s o)
 
-  written_out : {W : Type 0} (s : State) (x : AnExpression × State) (r : Option AnExpression × State) → TermIsSound W signatures scope parameters s x.0 x.1 →
+  written_out : {W : Type 0} (s : State) (x : AnExpression × State) (r : Option AnExpression × State) → ExpressionIsSound W signatures scope parameters s x.0 x.1 →
       r ≡ (Some x.0, x.1) → PartIsSound W signatures scope parameters s r.0 r.1
   written_out s x r h is = rw is (part_some signatures scope parameters s x.0 x.1 h)
 
@@ -69,13 +69,13 @@ module _ (names : List (List ℕ × Entry)) (signatures : List Signature) (scope
   turn_sound None s r o j = left_out s r o j
   turn_sound (Some e) s r o j = written_out s j.part r (condition_sound e s j.part o j.typed) j.whole
 
-  converted_sound : {W : Type 0} (t : CType) (s : State) (x : AnExpression) (r : State) → TermIsSound W signatures scope parameters s x r →
-      TermIsSound W signatures scope parameters s (ConvertTo t x) r
+  converted_sound : {W : Type 0} (t : CType) (s : State) (x : AnExpression) (r : State) → ExpressionIsSound W signatures scope parameters s x r →
+      ExpressionIsSound W signatures scope parameters s (ConvertTo t x) r
   converted_sound t s x r h = record { fits = h.fits; stands = h.stands; names = h.names; order = h.order; grows = h.grows }
 
 module _ (names : List (List ℕ × Entry)) (signatures : List Signature) (result_type : CType) (parameters : ℕ) where
   returned_is : {W : Type 0} (scope : ℕ → Type 0) (looping : Bool) (s : State) (x : AnExpression × State) (r : AnAction × State) (y : AnExpression) →
-      TermIsSound W signatures scope parameters s x.0 x.1 → y ≡ ConvertTo result_type x.0 → r ≡ (ReturnOf (Some y), x.1) →
+      ExpressionIsSound W signatures scope parameters s x.0 x.1 → y ≡ ConvertTo result_type x.0 → r ≡ (ReturnOf (Some y), x.1) →
       ActIsSound W signatures scope parameters looping s r.0 r.1
   returned_is scope looping s x r y h same is =
       rw (is, same) (return_sound signatures scope parameters looping s (Some (ConvertTo result_type x.0)) x.1

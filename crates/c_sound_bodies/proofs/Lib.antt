@@ -1,6 +1,6 @@
 -- Endings of names: _by goes by the cases of a part that it is given; _is that what is made, often named by an equation, is as it has to
 -- be. See docs/READING.md.
-pub mod Terms
+pub mod ByParts
 pub mod Rules
 pub mod Names
 pub mod Growth

@@ -14,7 +14,7 @@ use Rattle.c_sound_bodies.proofs.Names.{scope_entered, left_scope}
 use Rattle.c_sound_bodies.proofs.Locals.{LocalsAreSound, grows_same, grows_further, order_more}
 
 -- an expression of a statement
-pub record TermIsSound (W : Type 0) (signatures : List Signature) (scope : ℕ → Type 0) (parameters : ℕ) (s : State) (x : AnExpression) (r : State) : Type 0 where
+pub record ExpressionIsSound (W : Type 0) (signatures : List Signature) (scope : ℕ → Type 0) (parameters : ℕ) (s : State) (x : AnExpression) (r : State) : Type 0 where
   pub fits : W → Fits scope x
   pub stands : (gs : List ARoutine) (objects : ℕ) → length r.area.objects ≤ objects → AreDefined signatures gs →
       Stands (IsThere objects parameters) (Takes gs) objects x
@@ -69,7 +69,7 @@ module _ (signatures : List Signature) (scope : ℕ → Type 0) (parameters : �
   pub part_none : (s : State) → InOrder scope parameters s → PartIsSound (Unit {0}) signatures scope parameters s None s
   part_none s o = record { fits = λ h. tt; stands = λ gs objects l defined. tt; names = refl; order = o; grows = grows_same s }
 
-  pub part_some : {W : Type 0} (s : State) (x : AnExpression) (r : State) → TermIsSound W signatures scope parameters s x r →
+  pub part_some : {W : Type 0} (s : State) (x : AnExpression) (r : State) → ExpressionIsSound W signatures scope parameters s x r →
       PartIsSound W signatures scope parameters s (Some x) r
   part_some s x r h = record { fits = h.fits; stands = h.stands; names = h.names; order = h.order; grows = h.grows }
 
@@ -103,7 +103,7 @@ module _ (signatures : List Signature) (scope : ℕ → Type 0) (parameters : �
       grows = grows_same s;
     }
 
-    pub evaluate_sound : {W : Type 0} (s : State) (x : AnExpression) (r : State) → TermIsSound W signatures scope parameters s x r →
+    pub evaluate_sound : {W : Type 0} (s : State) (x : AnExpression) (r : State) → ExpressionIsSound W signatures scope parameters s x r →
         ActIsSound W signatures scope parameters looping s (EvaluateOf x) r
     evaluate_sound s x r h = record {
       fits = λ size l w. h.fits w;
@@ -146,7 +146,7 @@ module _ (signatures : List Signature) (scope : ℕ → Type 0) (parameters : �
       grows = grows_same s;
     }
 
-    pub if_sound : {W V : Type 0} (s m r : State) (c : AnExpression) (a : AnAction) → TermIsSound W signatures scope parameters s c m →
+    pub if_sound : {W V : Type 0} (s m r : State) (c : AnExpression) (a : AnAction) → ExpressionIsSound W signatures scope parameters s c m →
         ActIsSound V signatures scope parameters looping m a r → ActIsSound (W × V) signatures scope parameters looping s (IfOf c a) r
     if_sound s m r c a h k =
         let objects : length m.area.objects ≤ length r.area.objects = k.grows.area.objects in
@@ -159,7 +159,7 @@ module _ (signatures : List Signature) (scope : ℕ → Type 0) (parameters : �
           grows = grows_further s m r h.grows k.grows;
         }
 
-    pub if_else_sound : {W V U : Type 0} (s m n r : State) (c : AnExpression) (a b : AnAction) → TermIsSound W signatures scope parameters s c m →
+    pub if_else_sound : {W V U : Type 0} (s m n r : State) (c : AnExpression) (a b : AnAction) → ExpressionIsSound W signatures scope parameters s c m →
         ActIsSound V signatures scope parameters looping m a n → ActIsSound U signatures scope parameters looping n b r →
         ActIsSound (W × V × U) signatures scope parameters looping s (IfElseOf c a b) r
     if_else_sound s m n r c a b h k q =
@@ -179,7 +179,7 @@ module _ (signatures : List Signature) (scope : ℕ → Type 0) (parameters : �
           grows = grows_further s m r h.grows (grows_further m n r k.grows q.grows);
         }
 
-    pub while_sound : {W V : Type 0} (s m r : State) (c : AnExpression) (a : AnAction) → TermIsSound W signatures scope parameters s c m →
+    pub while_sound : {W V : Type 0} (s m r : State) (c : AnExpression) (a : AnAction) → ExpressionIsSound W signatures scope parameters s c m →
         ActIsSound V signatures scope parameters true m a r → ActIsSound (W × V) signatures scope parameters looping s (WhileOf c a) r
     while_sound s m r c a h k =
         let objects : length m.area.objects ≤ length r.area.objects = k.grows.area.objects in
@@ -193,7 +193,7 @@ module _ (signatures : List Signature) (scope : ℕ → Type 0) (parameters : �
         }
 
     pub do_sound : {W V : Type 0} (s m r : State) (a : AnAction) (c : AnExpression) → ActIsSound W signatures scope parameters true s a m →
-        TermIsSound V signatures scope parameters m c r → ActIsSound (W × V) signatures scope parameters looping s (DoOf a c) r
+        ExpressionIsSound V signatures scope parameters m c r → ActIsSound (W × V) signatures scope parameters looping s (DoOf a c) r
     do_sound s m r a c k h =
         let objects : length m.area.objects ≤ length r.area.objects = h.grows.area.objects in
         let locals : length m.locals ≤ length r.locals = h.grows.locals in

@@ -34,7 +34,7 @@ use Rattle.c_typed_operators.specs.Stores.{minus_store, store_by, assign_of}
 use Rattle.c_typed_operators.specs.Table.{IsSum, SumOfIntegers, PointerPlus, PlusPointer, IsDifference, DifferenceOfIntegers, PointerMinus, DifferenceOfPointers, IsOrdered}
 use Rattle.c_typed_operators.specs.Table.{OrderOfIntegers, OrderOfPointers, IsBinary}
 use Rattle.c_typed_operators.proofs.Law.{binary_means}
-use Rattle.c_sound_bodies.proofs.Terms.{Closed}
+use Rattle.c_sound_bodies.proofs.ByParts.{Closed}
 
 abbrev typed : AnExpression → Result AnExpression Fault
 typed t = Ok t
@@ -169,7 +169,7 @@ module _ (T : Token → Type 0) (known : Variable → Type 0) (calls : Callee �
 
   pub sizeof_has : (at : ℕ) (x u : AnExpression) → sizeof_of at x ≡ Ok u → P x → P u
   unfolding sizeof_of
-  sizeof_has at x u e p = passed (is_scalar (type_of x)) (SizeOfExpression (operand_size x) x) u _ e (c.size_of_term x p)
+  sizeof_has at x u e p = passed (is_scalar (type_of x)) (SizeOfExpression (operand_size x) x) u _ e (c.size_of_expression x p)
 
   pub sizeof_type_has : (at : ℕ) (t : CType) (u : AnExpression) → sizeof_type_of at t ≡ Ok u → P u
   unfolding sizeof_type_of

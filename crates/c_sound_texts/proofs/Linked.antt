@@ -13,7 +13,7 @@ use Rattle.c_sound.specs.Stands.{Stands, StandsAt, StandAll}
 use Rattle.c_typed_expressions.specs.Relations.{IsTyped}
 use Rattle.c_typed_words.proofs.Any.{AnyToken, any_exp}
 use Rattle.c_sound_bodies.specs.Claim.{ScopeOf}
-use Rattle.c_sound_bodies.proofs.Terms.{Every, Closed}
+use Rattle.c_sound_bodies.proofs.ByParts.{Every, Closed}
 use Rattle.c_sound_bodies.proofs.Names.{scope_more}
 use Rattle.c_sound_bodies.proofs.Closures.{any_call}
 use Rattle.c_sound_bodies.proofs.Expressions.{exp_has}
@@ -32,7 +32,7 @@ laid_more objects many l (variables.Parameter n) h = tt
 laid_more objects many l (variables.Global n) h = omega arith
 laid_more objects many l (variables.Static n) h = omega arith
 
--- a term names objects that are there
+-- an expression names objects that are there
 abbrev pub NamesObjects : ℕ → AnExpression → Type 0
 NamesObjects objects x = Stands (IsLaid objects) any_call objects x
 
@@ -48,7 +48,7 @@ closed objects = record {
   variable = λ t v k. k;
   pointed = λ t x p. p;
   element = λ t x p. p;
-  size_of_term = λ x p. tt;
+  size_of_expression = λ x p. tt;
   size = λ t. tt;
   address = λ t p h. h;
   call = λ t f to es takes many all. (tt, all_name objects es all);

@@ -18,7 +18,7 @@ use Rattle.c_types.specs.declared.typed.Expression.TheVariants as expression
 use Rattle.c_types.specs.declared.fault.TypeKind.TheVariants.{BadCall, BadType}
 use Rattle.c_types.specs.Answers.{Fault, ◌>>=◌, Fails, Gives}
 use Rattle.c_types.specs.Typed.{SomeExpressions, NoExpressions, MoreExpressions, expression_of, expressions_of}
-use Rattle.c_types.proofs.Rows.{term_call}
+use Rattle.c_types.proofs.Rows.{call_expression}
 use Rattle.c_typed_operators.specs.Rules.{fits}
 use Rattle.c_typed_scope.specs.declared.entry.Entry.{Entry}
 use Rattle.c_typed_scope.specs.declared.entry.Signature.{Signature}
@@ -37,14 +37,14 @@ count_is [] = refl
 count_is (e ∷ rest) = omega (arith, count_is rest)
 
 -- what was typed, in front of what is left
-abbrev pub terms_onto : List Expression → SomeExpressions → SomeExpressions
-terms_onto [] xs = xs
-terms_onto (x ∷ done) xs = MoreExpressions (expression_of x) (terms_onto done xs)
+abbrev pub expressions_onto : List Expression → SomeExpressions → SomeExpressions
+expressions_onto [] xs = xs
+expressions_onto (x ∷ done) xs = MoreExpressions (expression_of x) (expressions_onto done xs)
 
 abbrev pub onto : List Expression → Result (SomeExpressions × Area) Fault → Result (SomeExpressions × Area) Fault
-onto done m = m >>= λ r. Ok (terms_onto done r.0, r.1)
+onto done m = m >>= λ r. Ok (expressions_onto done r.0, r.1)
 
-onto_push : (done : List Expression) (x : Expression) (xs : SomeExpressions) → terms_onto (done ++ x ∷ []) xs ≡ terms_onto done (MoreExpressions (expression_of x) xs)
+onto_push : (done : List Expression) (x : Expression) (xs : SomeExpressions) → expressions_onto (done ++ x ∷ []) xs ≡ expressions_onto done (MoreExpressions (expression_of x) xs)
 onto_push [] x xs = refl
 onto_push (y ∷ done) x xs = ap (MoreExpressions (expression_of y)) (onto_push done x xs)
 
@@ -52,7 +52,7 @@ onto_more : (done : List Expression) (x : Expression) (m : Result (SomeExpressio
 onto_more done x (Ok r) = ap (λ t. Ok (t, r.1)) (onto_push done x r.0)
 onto_more done x (Err e) = refl
 
-onto_end : (done : List Expression) → terms_onto done NoExpressions ≡ expressions_of done
+onto_end : (done : List Expression) → expressions_onto done NoExpressions ≡ expressions_of done
 onto_end [] = refl
 onto_end (x ∷ done) = ap (MoreExpressions (expression_of x)) (onto_end done)
 
@@ -140,7 +140,7 @@ pub called_runs : (signatures : List Signature) (o : Option ℕ) (n : ℕ) (s : 
     → slice_get signatures n ≡ Some s → length s.parameters ≡ length es → None ≡ unfit s.parameters (exp_list es) (expressions_of xs.items) → f ≡ callee_of n → to ≡ s.parameters
     → called signatures o opened (exp_list es) (expressions_of xs.items) ≡ Ok (expression_of (expression.Call s.result f to xs))
 called_runs signatures o n s opened es xs f to is found same fit callee types =
-    rw (is, found, count_is es, eq-eqb _ _ same, ← fit, callee, types) (sym (ap Ok (term_call s.result (callee_of n) s.parameters xs)))
+    rw (is, found, count_is es, eq-eqb _ _ same, ← fit, callee, types) (sym (ap Ok (call_expression s.result (callee_of n) s.parameters xs)))
 
 -- the first argument that its parameter does not take, by number
 abbrev pub is_unfit : CType × Expression → Bool

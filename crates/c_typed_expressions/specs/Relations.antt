@@ -34,7 +34,7 @@ pub data FirstOf {A : Type 0} (R : A → Type 0) (F : Fault → Type 0) (G : A �
   Within : (here : F f) → FirstOf R F G f
   Behind : (part : A) (typed : R part) (later : G part f) → FirstOf R F G f
 
--- It is typed as a term, and leaves this data area.
+-- It is typed as an expression, and leaves this data area.
 pub record Beside (a : Area) (R : AnExpression → Type 0) (t : AnExpression × Area) : Type 0 where
   pub typed : R t.0
   pub left : t.1 ≡ a

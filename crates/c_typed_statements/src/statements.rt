@@ -6,7 +6,7 @@ ghost use Rattle.c_phrases.specs.Shapes.{exp};
 ghost use Rattle.c_phrases.specs.Units.{no_items};
 ghost use Rattle.c_phrases.specs.UnitShapes.{part, item_onto, items_of, statement_of};
 ghost use Rattle.c_typed_objects.specs.Views.{state};
-ghost use Rattle.c_program.specs.Statements.{act, acts, maybe_term};
+ghost use Rattle.c_program.specs.Statements.{act, acts, optional_expression};
 ghost use Rattle.c_typed_expressions.specs.Functions.{by_functions};
 ghost use Rattle.c_typed_definition.specs.State.{State};
 ghost use Rattle.c_typed_statements.specs.Views.{scoped};
@@ -61,7 +61,7 @@ fn maybe_full(
     e: &Option<Expr>,
     environment: &mut Environment,
 ) -> Result<Option<Expression>, TypeFault>
-    ensures { Turns (λ t. maybe_term t) result (state environment.new) (by_functions functions.now type_maybe
+    ensures { Turns (λ t. optional_expression t) result (state environment.new) (by_functions functions.now type_maybe
         (part e.now) (state environment.old)) }
 {
     match e {
@@ -76,7 +76,7 @@ fn maybe_tested(
     e: &Option<Expr>,
     environment: &mut Environment,
 ) -> Result<Option<Expression>, TypeFault>
-    ensures { Turns (λ t. maybe_term t) result (state environment.new) (by_functions functions.now type_maybe_condition
+    ensures { Turns (λ t. optional_expression t) result (state environment.new) (by_functions functions.now type_maybe_condition
         (part e.now) (state environment.old)) }
 {
     match e {

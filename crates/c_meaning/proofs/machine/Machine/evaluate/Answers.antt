@@ -2,7 +2,7 @@ use Rattle.std.proofs.Common.{arith, refl, ap, ◌∙◌}
 use Rattle.std.proofs.lemmas.Result.{IfOk-weaker}
 use Rattle.c_meaning.proofs.Steps.{over}
 use Rattle.c_types.specs.Typed.{expression_of}
-use Rattle.c_types.proofs.Rows.{term_call}
+use Rattle.c_types.proofs.Rows.{call_expression}
 use Rattle.c_meaning.proofs.machine.Machine.evaluate.Goals as goal
 
 pub returns-in-Number : goal.returns-in-Number
@@ -21,7 +21,7 @@ pub returns-in-Address : goal.returns-in-Address
 returns-in-Address c = IfOk-weaker _ _ _ (λ event w. over w (rw (c.in-Address.is) refl) (rw (c.in-Address.is) (omega arith))) c.find-in-Address.ensures
 
 pub returns-in-Call : goal.returns-in-Call
-returns-in-Call c = let is = ap expression_of c.in-Call.is ∙ term_call _ _ _ c.in-Call.arguments in
+returns-in-Call c = let is = ap expression_of c.in-Call.is ∙ call_expression _ _ _ c.in-Call.arguments in
     IfOk-weaker _ _ _ (λ event w. over w (rw (is, c.deref.ensures.value, c.as_slice.ensures, c.new.ensures.items) refl) (rw (is, c.deref.ensures.value) (omega arith))) c.argue.ensures
 
 pub returns-in-Step : goal.returns-in-Step

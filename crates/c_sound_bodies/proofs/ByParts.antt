@@ -1,4 +1,4 @@
--- What holds of each term because it holds of its parts.
+-- What holds of each expression because it holds of its parts.
 use Rattle.std.proofs.Common.{◌≡◌, ℕ, ◌<◌, ◌^◌, List, length}
 use Rattle.c_tokens.specs.declared.token.Token.{Token}
 use Rattle.c_tokens.specs.declared.token.Token.TheVariants as token
@@ -29,7 +29,7 @@ pub record Closed (T : Token → Type 0) (known : Variable → Type 0) (calls : 
   pub variable : (t : CType) (v : Variable) → known v → P (ReadOf (VariableAt t v))
   pub pointed : (t : CType) (x : AnExpression) → P x → P (ReadOf (PointedBy t x))
   pub element : (t : CType) (x : AnExpression) → P x → P (ReadOf (ElementBy t x))
-  pub size_of_term : (x : AnExpression) → P x → P (SizeOfExpression (operand_size x) x)
+  pub size_of_expression : (x : AnExpression) → P x → P (SizeOfExpression (operand_size x) x)
   pub size : (t : CType) → P (SizeOf (size_of t))
   pub address : (t : CType) (p : APlace) → P (ReadOf p) → P (AddressOf t p)
   pub call : (t : CType) (f : Callee) (to : List CType) (es : SomeExpressions) → calls f (length to) → arguments es ≡ length to → Every P es →
