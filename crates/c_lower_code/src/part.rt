@@ -302,18 +302,6 @@ pub(crate) fn dropped(p: Lowered) -> Result<Emitted, NoMemory>
     })
 }
 
-/// Another tree in place of the one that is due.
-pub(crate) fn with_tree(p: Lowered, w: Tree) -> Lowered
-    ensures { low result ≡ parts.over (λ v. tree w) (low p) }
-{
-    Lowered {
-        items: p.items,
-        tree: w,
-        temps: p.temps,
-        labels: p.labels,
-    }
-}
-
 /// The value of a choice, in the temporary t, by the labels l and the one behind it.
 pub(crate) fn choose_low(
     t: u32,
