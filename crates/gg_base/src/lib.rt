@@ -6,6 +6,7 @@ pub mod bytes;
 pub mod fronts;
 pub mod laws;
 pub mod limits;
+pub mod list;
 pub mod little_endian;
 pub mod memory;
 pub mod place;
@@ -15,6 +16,7 @@ pub mod size;
 
 pub use arithmetic as w32;
 pub use bytes::{Bytes, Name, Text, put_decimal, put_signed};
+pub use list::ListOf;
 pub use memory::{NoMemory, number_of};
 pub use place::Place;
 pub use relation::Rel;
