@@ -4,7 +4,6 @@
 pub mod area;
 mod items;
 mod labels;
-mod lists;
 mod names;
 mod objects;
 mod program;
@@ -15,8 +14,9 @@ mod typing;
 mod valid;
 mod window;
 
-pub use lists::{Leaves, Links, Objects, TreeFns, TreeItems};
-pub use program::{Link, Object, TreeFn, TreeItem, TreeProgram};
+pub use program::{
+    Leaves, Link, Links, Object, Objects, TreeFn, TreeFns, TreeItem, TreeItems, TreeProgram,
+};
 pub use token::{AttKind, Sort, TOKENS, Tok, tokens};
 pub use tree::{Att, Leaf, Tree, linear, show_tree};
 pub use typing::{trees_grow_back, typed};
