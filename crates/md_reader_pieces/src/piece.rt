@@ -1,9 +1,7 @@
 // Lines and their pieces.
-ghost use Rattle.std.specs.Prelude.{◌≡◌};
 
-use gg_base::{Bytes, NoMemory};
+use gg_base::{Bytes, ListOf, NoMemory};
 use std::alloc::{AllocError, AllocFailed};
-use std::marker::Model;
 
 /// A piece of a line: bytes that stand as they are, or a hole.
 #[derive(Drop)]
@@ -21,42 +19,7 @@ pub enum Piece {
 }
 
 /// The pieces of a line, from left to right.
-#[derive(Drop)]
-pub struct Pieces {
-    held: Vec<Piece>,
-}
-
-impl Model for Pieces {
-    ghost use Rattle.std.specs.Prelude.{List};
-    ghost use Rattle.md_reader_pieces.specs.declared.piece.Piece.{Piece};
-
-    ghost Value = { List Piece };
-
-    ghost view = { λ p. p.held.items };
-}
-
-impl Pieces {
-    /// The list, as the vector has it.
-    pub fn from_vec(pieces: Vec<Piece>) -> Self
-        ensures { result ≡ pieces.items }
-    {
-        Pieces { held: pieces }
-    }
-
-    /// The pieces, in order.
-    pub fn as_slice(&self) -> &[Piece]
-        ensures { result.now ≡ self.now }
-    {
-        &self.held
-    }
-
-    /// The list's vector.
-    pub fn into_vec(self) -> Vec<Piece>
-        ensures { result.items ≡ self }
-    {
-        self.held
-    }
-}
+pub type Pieces = ListOf<Piece>;
 
 /// A line of a template with its number in the description: a mnemonic and its operands, parted by
 /// one space, or what a rule gives, which is an operand alone.
