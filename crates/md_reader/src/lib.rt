@@ -4,7 +4,6 @@
 mod description;
 mod faults;
 mod forms;
-mod lists;
 mod patterns;
 mod reader;
 mod reading;
@@ -14,10 +13,9 @@ mod types;
 
 pub use description::Description;
 pub use faults::{DescFault, DescKind};
-pub use lists::{Lines, Restrictions, Symbols};
 pub use md_reader_pieces::{Line, Piece, Pieces};
 pub use md_reader_text::is_word;
 pub use patterns::kind_at;
 pub use reader::read_description;
 pub use rows::{is_nothing, same_size};
-pub use types::{Class, Give, Kind, Restriction, Rule, Sym};
+pub use types::{Class, Give, Kind, Lines, Restriction, Restrictions, Rule, Sym, Symbols};

@@ -17,11 +17,10 @@ use crate::forms::{
     are_both, class_form, do_form, give_form, if_form, is_skipped, plain_give, pool_form,
     register_behind, rule_form, spill_form,
 };
-use crate::lists::{Lines, Restrictions, Symbols};
 use crate::patterns::{is_sorted, is_tree, kind_at, sort_of_symbol};
 use crate::rows::{is_bare, line_fits, pieces_fit, plain_fits, restriction_fits, shape_fits};
 use crate::symbols::{class_of, is_short, symbols_of};
-use crate::types::{Class, Give, Kind, Restriction, Rule, Sym};
+use crate::types::{Class, Give, Kind, Lines, Restriction, Restrictions, Rule, Sym, Symbols};
 use gg_base::Name;
 use md_reader_pieces::{Line, Piece, Pieces, line_text, pieces};
 use md_reader_text::is_word;

@@ -1,6 +1,5 @@
 // What a description says.
-use crate::lists::{Lines, Restrictions, Symbols};
-use gg_base::{Name, Size};
+use gg_base::{ListOf, Name, Size};
 use md_reader_pieces::Line;
 use tree_core::Tok;
 
@@ -54,6 +53,15 @@ pub enum Give {
     /// An operand.
     Shape(Line),
 }
+
+/// The symbols of a right side, in order.
+pub type Symbols = ListOf<Sym>;
+
+/// The restrictions of a rule, in order.
+pub type Restrictions = ListOf<Restriction>;
+
+/// The lines of a rule's template, in order.
+pub type Lines = ListOf<Line>;
 
 /// A rule: a class, a tree pattern in prefix order, when it may be taken, what it writes and gives.
 #[derive(Drop)]
