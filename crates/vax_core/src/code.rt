@@ -1,11 +1,9 @@
 // Instructions and code.
-ghost use Rattle.std.specs.Prelude.{◌≡◌};
 ghost use Rattle.vax_core.specs.Registers.{operands_name, IsSetOf};
 
 use crate::{Addr, Op, Operands, RegSet};
 use bitflags::Flags;
-use gg_base::Name;
-use std::marker::Model;
+use gg_base::{ListOf, Name};
 
 /// An instruction. A branch has its label as its target, `calls` the label or service that is called.
 #[derive(Drop)]
@@ -56,80 +54,10 @@ pub enum CodeItem {
 }
 
 /// Items of the data area in order.
-#[derive(Drop)]
-pub struct AreaItems {
-    held: Vec<AreaItem>,
-}
-
-impl Model for AreaItems {
-    ghost use Rattle.std.specs.Prelude.{List};
-    ghost use Rattle.vax_core.specs.declared.code.AreaItem.{AreaItem};
-
-    ghost Value = { List AreaItem };
-
-    ghost view = { λ a. a.held.items };
-}
-
-impl AreaItems {
-    /// These items.
-    pub fn from_vec(items: Vec<AreaItem>) -> Self
-        ensures { result ≡ items.items }
-    {
-        AreaItems { held: items }
-    }
-
-    /// The items.
-    pub fn as_slice(&self) -> &[AreaItem]
-        ensures { result.now ≡ self.now }
-    {
-        &self.held
-    }
-
-    /// The items, given back.
-    pub fn into_vec(self) -> Vec<AreaItem>
-        ensures { result.items ≡ self }
-    {
-        self.held
-    }
-}
+pub type AreaItems = ListOf<AreaItem>;
 
 /// Items of the code in order.
-#[derive(Drop)]
-pub struct CodeItems {
-    held: Vec<CodeItem>,
-}
-
-impl Model for CodeItems {
-    ghost use Rattle.std.specs.Prelude.{List};
-    ghost use Rattle.vax_core.specs.declared.code.CodeItem.{CodeItem};
-
-    ghost Value = { List CodeItem };
-
-    ghost view = { λ c. c.held.items };
-}
-
-impl CodeItems {
-    /// These items.
-    pub fn from_vec(items: Vec<CodeItem>) -> Self
-        ensures { result ≡ items.items }
-    {
-        CodeItems { held: items }
-    }
-
-    /// The items.
-    pub fn as_slice(&self) -> &[CodeItem]
-        ensures { result.now ≡ self.now }
-    {
-        &self.held
-    }
-
-    /// The items, given back.
-    pub fn into_vec(self) -> Vec<CodeItem>
-        ensures { result.items ≡ self }
-    {
-        self.held
-    }
-}
+pub type CodeItems = ListOf<CodeItem>;
 
 /// A text's data area and its code.
 #[derive(Drop)]
