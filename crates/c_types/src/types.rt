@@ -3,9 +3,9 @@ ghost use Rattle.std.specs.Prelude.{◌≡◌, ◌<◌, ◌≤◌, ◌+◌, ◌+
 ghost use Rattle.c_types.specs.Types.{same_integer, same_type, target, pointer_to, HasPointer, integer_size, size_of, kept};
 ghost use Rattle.c_types.specs.Types.{is_integer, is_scalar};
 
+use gg_base::ListOf;
 use gg_base::w32::{sext8, sext16, zext8, zext16};
 use std::alloc::{AllocError, Global};
-use std::marker::Model;
 
 /// The types of whole numbers.
 #[derive(Clone, Copy, Debug, PartialEq, Eq)]
@@ -153,39 +153,4 @@ impl CType {
 }
 
 /// A list of types.
-#[derive(Drop)]
-pub struct Types {
-    held: Vec<CType>,
-}
-
-impl Model for Types {
-    ghost use Rattle.std.specs.Prelude.{List};
-    ghost use Rattle.c_types.specs.declared.types.CType.{CType};
-
-    ghost Value = { List CType };
-
-    ghost view = { λ n. n.held.items };
-}
-
-impl Types {
-    /// Of these, without taking memory.
-    pub fn from_vec(types: Vec<CType>) -> Self
-        ensures { result ≡ types.items }
-    {
-        Types { held: types }
-    }
-
-    /// The list.
-    pub fn as_slice(&self) -> &[CType]
-        ensures { result.now ≡ self.now }
-    {
-        &self.held
-    }
-
-    /// The list's vector.
-    pub fn into_vec(self) -> Vec<CType>
-        ensures { result.items ≡ self }
-    {
-        self.held
-    }
-}
+pub type Types = ListOf<CType>;
