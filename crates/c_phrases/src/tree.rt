@@ -1,42 +1,13 @@
 // The phrases, one variant for each alternative of the grammar, with their parts in order.
 // An offset is that of a token's first byte. Those of `) ] { } , ; :` are not kept.
-ghost use Rattle.std.specs.Prelude.{◌≡◌};
 
 use crate::operator::{
     AssignOperator, BinaryOperator, PrefixOperator, Spec, StepOperator, Storage,
 };
-use gg_base::{Bytes, Name};
-use std::marker::Model;
+use gg_base::{Bytes, ListOf, Name};
 
 /// The offsets of the stars of a pointer type, in order.
-#[derive(Drop)]
-pub struct Stars {
-    held: Vec<u32>,
-}
-
-impl Model for Stars {
-    ghost use Rattle.std.specs.Prelude.{List, ℕ};
-
-    ghost Value = { List ℕ };
-
-    ghost view = { λ s. s.held.items };
-}
-
-impl Stars {
-    /// Of these offsets, without taking memory.
-    pub fn from_vec(offsets: Vec<u32>) -> Self
-        ensures { result ≡ offsets.items }
-    {
-        Stars { held: offsets }
-    }
-
-    /// The offsets.
-    pub fn as_slice(&self) -> &[u32]
-        ensures { result.now ≡ self.now }
-    {
-        &self.held
-    }
-}
+pub type Stars = ListOf<u32>;
 
 /// `spec stars`
 #[derive(Drop)]
