@@ -1,6 +1,7 @@
 // States, choices, and the rows of tables.
 ghost use Rattle.std.specs.Prelude.{◌≡◌};
 
+use gg_base::ListOf;
 use std::marker::Model;
 
 /// An item set, by its number. The start has number 0.
@@ -46,33 +47,7 @@ pub enum Choice {
 }
 
 /// What may be done, in order.
-#[derive(Drop)]
-pub struct Choices {
-    held: Vec<Choice>,
-}
-
-impl Model for Choices {
-    ghost use Rattle.std.specs.Prelude.{List};
-    ghost use Rattle.lr_tables.specs.declared.types.Choice.{Choice};
-
-    ghost Value = { List Choice };
-
-    ghost view = { λ c. c.held.items };
-}
-
-impl Choices {
-    pub fn from_vec(choices: Vec<Choice>) -> Self
-        ensures { result ≡ choices.items }
-    {
-        Choices { held: choices }
-    }
-
-    pub fn as_slice(&self) -> &[Choice]
-        ensures { result.now ≡ self.now }
-    {
-        &self.held
-    }
-}
+pub type Choices = ListOf<Choice>;
 
 /// A row of the tables.
 #[derive(Drop)]
