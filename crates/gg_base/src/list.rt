@@ -1,6 +1,7 @@
 // Lists that are fields, which contracts see as the lists themselves.
-ghost use Rattle.std.specs.Prelude.{◌≡◌};
+ghost use Rattle.std.specs.Prelude.{◌≡◌, IfOk};
 
+use std::alloc::{AllocError, Global};
 use std::marker::Model;
 
 /// A vector whose memory contracts don't see: its value is the list of its elements.
@@ -37,5 +38,14 @@ impl<T> ListOf<T> {
         ensures { result.items ≡ self }
     {
         self.held
+    }
+}
+
+impl<T: Copy> ListOf<T> {
+    /// A copy of these elements.
+    pub fn copy_of(alloc: Global, items: &[T]) -> Result<Self, AllocError>
+        ensures { IfOk result (λ l. l ≡ items.now) }
+    {
+        Ok(ListOf::from_vec(Vec::from_slice(alloc, items)?))
     }
 }
