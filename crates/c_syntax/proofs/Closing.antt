@@ -250,9 +250,9 @@ braced : (n : ℕ) (x : AnInit) (w rest : List Placed) (κ : AnInit → Stack) �
 braced n (value e) w rest κ t at low = absurd (brace_starts (onto_exp e rest) w (starts e rest) (sym t))
 braced n (elements es b) w rest κ t at low = law_elements_init limit es b κ n rest at low
 
-pub init_elements : (n i : ℕ) (ts inner rest : List Placed) (x : AnInit) → n ≤ 200 → ts ≡ sign marks.OpenBrace 0 ∷ inner → (i ≡ n + 1) × (n + 1 ≤ 200) → ReadsElements i inner x rest
+pub init_elements : (n i : ℕ) (ts inner rest : List Placed) (x : AnInit) → ts ≡ sign marks.OpenBrace 0 ∷ inner → (i ≡ n + 1) × (n + 1 ≤ 200) → ReadsElements i inner x rest
     → Leads (Want Init) n ts x n rest
-init_elements n i ts inner rest x le e up r = λ κ. ap (λ (v : List Placed). run limit (Want Init κ) n v) (e ∙ r.text) ∙ braced n x inner rest κ r.text r.fits (r.low n up.0 (limit_low (n + 1) up.1))
+init_elements n i ts inner rest x e up r = λ κ. ap (λ (v : List Placed). run limit (Want Init κ) n v) (e ∙ r.text) ∙ braced n x inner rest κ r.text r.fits (r.low n up.0 (limit_low (n + 1) up.1))
 
 pub initialised_none : (n : ℕ) (ts : List Placed) → IsNot (token.Mark marks.Assign) ts → Leads (Want InitPart) n ts None n ts
 initialised_none n ts h = λ κ. pass_init limit n κ ts h

@@ -156,30 +156,32 @@ ready_as lowest p q l r a b op at ts after rest d e f g le h i j k = rw (j, k) (
 pub call_read : (n m : ℕ) (f : List ℕ) (at o : ℕ) (ts after : List Placed) (es : SomeExps) (rest : List Placed) → ts ≡ sign marks.OpenParenthesis o ∷ after → (m ≡ n + 2) × (n + 2 ≤ 200)
     → ReadsArguments m after es rest → IsPart n (onto_name f at ts) (call f at o es) rest (n + 1)
 call_read n m f at o ts after es rest e up r =
-    let low : n + 2 ≤ 200 = up.1 in
     record {
       text = rw (e, r.text) refl;
       at = r.at;
       low = (limit_low (n + 2) up.1, rw up.0 at r.low);
       level = refl;
       rises = omega arith;
-      top = omega arith;
     }
+
+-- one of two levels is closed
+pub one_closed : (n i m : ℕ) → (i ≡ n + 2) × (n + 2 ≤ 200) → m + 1 ≡ i → m ≡ n + 1
+one_closed n i m up behind = omega (arith, up.0, behind)
 
 -- an expression of a phrase is one of each lower phrase
 pub read_lower : (j k q n : ℕ) (ts : List Placed) (e : AnExp) (rest : List Placed) (m : ℕ) → j ≤ k → IsRead k q n ts e rest m → IsRead j q n ts e rest m
 read_lower j k q n ts e rest m le h =
-    record { text = h.text; at = lower j k e le h.at; low = h.low; level = h.level; quiet = h.quiet; rises = h.rises; top = h.top }
+    record { text = h.text; at = lower j k e le h.at; low = h.low; level = h.level; quiet = h.quiet; rises = h.rises }
 
 pub more_lower : (j k q p n : ℕ) (ts : List Placed) (f e : AnExp) (rest : List Placed) (m : ℕ) → j ≤ k → Quiet p rest → IsMore k q n ts f e rest m →
     IsMore j p n ts f e rest m
 more_lower j k q p n ts f e rest m le quiet h =
-    record { text = h.text; at = lower j k e le h.at; low = h.low; quiet = quiet; rises = h.rises; top = h.top }
+    record { text = h.text; at = lower j k e le h.at; low = h.low; quiet = quiet; rises = h.rises }
 
 -- nothing more is read behind an operand
-pub no_more : (lowest n : ℕ) (e : AnExp) (ts : List Placed) → Ready lowest e ts → Quiet lowest ts → n ≤ 200 → IsMore lowest lowest n ts e e ts n
-no_more lowest n e ts r quiet le =
-    record { text = refl; at = lower lowest r.phrase e r.least r.at; low = λ b low is. (low, is); quiet = quiet; rises = omega arith; top = le }
+pub no_more : (lowest n : ℕ) (e : AnExp) (ts : List Placed) → Ready lowest e ts → Quiet lowest ts → IsMore lowest lowest n ts e e ts n
+no_more lowest n e ts r quiet =
+    record { text = refl; at = lower lowest r.phrase e r.least r.at; low = λ b low is. (low, is); quiet = quiet; rises = omega arith }
 
 -- no operator of the level and above stands behind an operand
 pub unjoined : (lowest : ℕ) (e : AnExp) (ts : List Placed) → 3 ≤ lowest → Ready lowest e ts → NoBinary ts → Quiet lowest ts
@@ -203,5 +205,4 @@ part_more n m p ts rest w f e h k =
       level = low.1;
       quiet = k.quiet;
       rises = omega (arith, h.rises, k.rises);
-      top = k.top;
     }

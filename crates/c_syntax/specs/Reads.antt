@@ -24,7 +24,6 @@ pub record IsPart (n : ℕ) (ts : List Placed) (e : AnExp) (rest : List Placed) 
   pub low : LowExp limit e n
   pub level : m ≡ after_exp e n
   pub rises : n ≤ m
-  pub top : m ≤ 200
 
 -- an expression of the phrase k is read, which begins at level n and ends at level m, and what follows goes on with no
 -- phrase of the number q
@@ -35,7 +34,6 @@ pub record IsRead (k q n : ℕ) (ts : List Placed) (e : AnExp) (rest : List Plac
   pub level : m ≡ after_exp e n
   pub quiet : Quiet q rest
   pub rises : n ≤ m
-  pub top : m ≤ 200
 
 -- an expression of the phrase k is read, which begins with this one in front of the text, behind which the level is n
 pub record IsMore (k q n : ℕ) (ts : List Placed) (f e : AnExp) (rest : List Placed) (m : ℕ) : Type 0 where
@@ -44,7 +42,6 @@ pub record IsMore (k q n : ℕ) (ts : List Placed) (f e : AnExp) (rest : List Pl
   pub low : (b : ℕ) → LowExp limit f b → n ≡ after_exp f b → LowExp limit e b × (m ≡ after_exp e b)
   pub quiet : Quiet q rest
   pub rises : n ≤ m
-  pub top : m ≤ 200
 
 -- the words of a type are read, and the run goes on behind them
 pub record ReadsInt (ts : List Placed) (int : Option ℕ) (rest : List Placed) : Type 0 where
@@ -111,7 +108,6 @@ pub record ReadsSizeof (at level : ℕ) (ts : List Placed) (e : AnExp) (rest : L
   pub low : (n : ℕ) → level ≡ n + 1 → LowExp limit e n × (m ≡ after_exp e n)
   pub quiet : Quiet 13 rest
   pub rises : level ≤ m
-  pub top : m ≤ 200
 
 -- what is taken at the front is the name there, or there is none
 abbrev pub NoName : List Placed → Type 0

@@ -1,5 +1,5 @@
 // Declarators and their initialisers.
-ghost use Rattle.std.specs.Prelude.{◌≡◌, ◌≤◌, length, IfOk, IfErr};
+ghost use Rattle.std.specs.Prelude.{◌≡◌, length, IfOk, IfErr};
 ghost use Rattle.c_syntax_goals.specs.Goals.{Want, ArrayPart, Elements, Init, InitPart, MoreDeclarators};
 ghost use Rattle.c_syntax_goals.specs.Expressions.{cond_goals};
 ghost use Rattle.c_syntax_goals.specs.Declarators.{declarator_goals, declarator_behind as behind_goals};
@@ -17,6 +17,7 @@ ghost use Rattle.c_syntax.specs.Stands.{ReadsLength, ReadsInit, ReadsElements, R
 ghost use Rattle.c_syntax.specs.Stands.{ReadsDeclarators};
 
 use crate::expressions::{assignment, cast, conditional, put, take_name};
+use crate::level::Level;
 use crate::take::{not_here, open_levels, take_mark, want_mark};
 use crate::types::stars;
 use c_phrases::tree::{Declarator, Expr, Initialised, Initialiser, Length, Stars};
@@ -29,9 +30,8 @@ use std::alloc::Global;
 pub fn whole_conditional(
     alloc: Global,
     tokens: &[Spanned],
-    level: u32,
-) -> Result<(Box<Expr>, &[Spanned], u32), Fault>
-    requires { level ≤ 200 }
+    level: Level,
+) -> Result<(Box<Expr>, &[Spanned], Level), Fault>
     ensures read { IfOk result (λ x. IsRead 2 2 level (seen tokens.now) (exp x.0.value) (seen x.1.now) x.2) }
     ensures leads { IfOk result (λ x. CondLeads level (seen tokens.now) x.2 (seen x.1.now)) }
     ensures fails { IfErr result (Fails cond_goals level (seen tokens.now)) }
@@ -44,9 +44,8 @@ pub fn whole_conditional(
 pub fn length_part(
     alloc: Global,
     tokens: &[Spanned],
-    level: u32,
+    level: Level,
 ) -> Result<(Option<Length>, &[Spanned]), Fault>
-    requires { level ≤ 200 }
     ensures read { IfOk result (λ x. ReadsLength level (seen tokens.now) (length_of x.0) (seen x.1.now)) }
     ensures fails { IfErr result (Fails (Want ArrayPart) level (seen tokens.now)) }
     ensures leads { IfOk result (λ x. Leads (Want ArrayPart) level (seen tokens.now) (length_of x.0) level (seen x.1.now)) }
@@ -73,9 +72,8 @@ pub fn length_part(
 fn elements(
     alloc: Global,
     tokens: &[Spanned],
-    level: u32,
+    level: Level,
 ) -> Result<(Initialiser, &[Spanned]), Fault>
-    requires { level ≤ 200 }
     ensures read { IfOk result (λ x. ReadsElements level (seen tokens.now) (init_of x.0) (seen x.1.now)) }
     ensures fails { IfErr result (Fails (Want Elements) level (seen tokens.now)) }
 {
@@ -107,9 +105,8 @@ fn elements(
 fn initialiser(
     alloc: Global,
     tokens: &[Spanned],
-    level: u32,
+    level: Level,
 ) -> Result<(Initialiser, &[Spanned]), Fault>
-    requires { level ≤ 200 }
     ensures read { IfOk result (λ x. ReadsInit level (seen tokens.now) (init_of x.0) (seen x.1.now)) }
     ensures fails { IfErr result (Fails (Want Init) level (seen tokens.now)) }
     ensures leads { IfOk result (λ x. Leads (Want Init) level (seen tokens.now) (init_of x.0) level (seen x.1.now)) }
@@ -126,9 +123,8 @@ fn initialiser(
 fn initialised(
     alloc: Global,
     tokens: &[Spanned],
-    level: u32,
+    level: Level,
 ) -> Result<(Option<Initialised>, &[Spanned]), Fault>
-    requires { level ≤ 200 }
     ensures read { IfOk result (λ x. ReadsInitialised level (seen tokens.now) (initialised_of x.0) (seen x.1.now)) }
     ensures fails { IfErr result (Fails (Want InitPart) level (seen tokens.now)) }
     ensures leads { IfOk result (λ x. Leads (Want InitPart) level (seen tokens.now) (initialised_of x.0) level (seen x.1.now)) }
@@ -147,9 +143,8 @@ pub fn declarator_behind(
     name: Name,
     at: u32,
     tokens: &[Spanned],
-    level: u32,
+    level: Level,
 ) -> Result<(Declarator, &[Spanned]), Fault>
-    requires { level ≤ 200 }
     ensures read { IfOk result (λ x. ReadsDeclarator level (onto_stars stars (onto_name name at (seen tokens.now)))
         (declarator_of x.0) (seen x.1.now)) }
     ensures fails { IfErr result (Fails (behind_goals stars name at) level (seen tokens.now)) }
@@ -173,9 +168,8 @@ pub fn declarator_behind(
 pub fn declarator(
     alloc: Global,
     tokens: &[Spanned],
-    level: u32,
+    level: Level,
 ) -> Result<(Declarator, &[Spanned]), Fault>
-    requires { level ≤ 200 }
     ensures read { IfOk result (λ x. ReadsDeclarator level (seen tokens.now) (declarator_of x.0) (seen x.1.now)) }
     ensures fails { IfErr result (Fails declarator_goals level (seen tokens.now)) }
     ensures leads { IfOk result (λ x. Leads declarator_goals level (seen tokens.now) (declarator_of x.0) level (seen x.1.now)) }
@@ -192,10 +186,9 @@ pub fn declarators(
     alloc: Global,
     first: Declarator,
     tokens: &[Spanned],
-    level: u32,
+    level: Level,
 ) -> Result<(Vec<Declarator>, &[Spanned]), Fault>
-    requires low { level ≤ 200 }
-    requires first { DeclaratorFits (declarator_of first) × LowDeclarator limit (declarator_of first) level }
+    requires { DeclaratorFits (declarator_of first) × LowDeclarator limit (declarator_of first) level }
     ensures read { IfOk result (λ x. ReadsDeclarators level (onto_declarator (declarator_of first) (seen tokens.now))
         (declarators_of x.0.items) (seen x.1.now)) }
     ensures fails { IfErr result (Fails (Want MoreDeclarators) level (seen tokens.now)) }

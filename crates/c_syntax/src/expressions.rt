@@ -17,6 +17,7 @@ ghost use Rattle.c_syntax.specs.Reads.{ReadsSizeof, NoNumber, NoString};
 ghost use Rattle.c_tokens.specs.declared.token.Token.TheVariants as token;
 ghost use Rattle.c_syntax.specs.Leads.{Fails, Leads, TailFails, TailLeads, PostFails, CommasFail};
 
+use crate::level::Level;
 use crate::take::{
     begins_type, not_here, open_levels, take_assign, take_binary, take_key, take_mark, take_prefix,
     take_step, want_mark,
@@ -139,9 +140,8 @@ pub fn put(list: &mut Vec<Expr>, e: Box<Expr>) -> Result<(), Fault>
 pub fn expression(
     alloc: Global,
     tokens: &[Spanned],
-    level: u32,
-) -> Result<(Box<Expr>, &[Spanned], u32), Fault>
-    requires low { level ≤ 200 }
+    level: Level,
+) -> Result<(Box<Expr>, &[Spanned], Level), Fault>
     ensures read { IfOk result (λ x. IsRead 0 0 level (seen tokens.now) (exp x.0.value) (seen x.1.now) x.2) }
     ensures fails { IfErr result (Fails (Want ExprGoal) level (seen tokens.now)) }
 {
@@ -154,9 +154,8 @@ fn commas(
     alloc: Global,
     left: Box<Expr>,
     tokens: &[Spanned],
-    level: u32,
-) -> Result<(Box<Expr>, &[Spanned], u32), Fault>
-    requires low { level ≤ 200 }
+    level: Level,
+) -> Result<(Box<Expr>, &[Spanned], Level), Fault>
     requires at { IsAt 0 (exp left.value) }
     requires quiet { Quiet 1 (seen tokens.now) }
     ensures read { IfOk result (λ x. IsMore 0 0 level (seen tokens.now) (exp left.value) (exp x.0.value) (seen x.1.now) x.2) }
@@ -176,9 +175,8 @@ fn commas(
 pub fn assignment(
     alloc: Global,
     tokens: &[Spanned],
-    level: u32,
-) -> Result<(Box<Expr>, &[Spanned], u32), Fault>
-    requires low { level ≤ 200 }
+    level: Level,
+) -> Result<(Box<Expr>, &[Spanned], Level), Fault>
     ensures read { IfOk result (λ x. IsRead 1 1 level (seen tokens.now) (exp x.0.value) (seen x.1.now) x.2) }
     ensures fails { IfErr result (Fails (Want AssignGoal) level (seen tokens.now)) }
 {
@@ -207,9 +205,8 @@ fn unassigned(
     alloc: Global,
     first: Box<Expr>,
     tokens: &[Spanned],
-    level: u32,
-) -> Result<(Box<Expr>, &[Spanned], u32), Fault>
-    requires low { level ≤ 200 }
+    level: Level,
+) -> Result<(Box<Expr>, &[Spanned], Level), Fault>
     requires at { IsAt 13 (exp first.value) }
     requires quiet { Quiet 13 (seen tokens.now) }
     ensures read { IfOk result (λ x. IsMore 1 1 level (seen tokens.now) (exp first.value) (exp x.0.value) (seen x.1.now) x.2) }
@@ -228,9 +225,8 @@ pub fn conditional(
     alloc: Global,
     first: Box<Expr>,
     tokens: &[Spanned],
-    level: u32,
-) -> Result<(Box<Expr>, &[Spanned], u32), Fault>
-    requires low { level ≤ 200 }
+    level: Level,
+) -> Result<(Box<Expr>, &[Spanned], Level), Fault>
     requires at { IsAt 13 (exp first.value) }
     requires quiet { Quiet 13 (seen tokens.now) }
     ensures read { IfOk result (λ x. IsMore 2 2 level (seen tokens.now) (exp first.value) (exp x.0.value) (seen x.1.now) x.2) }
@@ -261,10 +257,9 @@ fn binary(
     alloc: Global,
     left: Box<Expr>,
     tokens: &[Spanned],
-    level: u32,
+    level: Level,
     lowest: u32,
-) -> Result<(Box<Expr>, &[Spanned], u32), Fault>
-    requires low { level ≤ 200 }
+) -> Result<(Box<Expr>, &[Spanned], Level), Fault>
     requires least { 3 ≤ lowest }
     requires ready { Ready lowest (exp left.value) (seen tokens.now) }
     ensures read { IfOk result (λ x. IsMore lowest lowest level (seen tokens.now) (exp left.value) (exp x.0.value) (seen x.1.now) x.2) }
@@ -294,9 +289,8 @@ fn binary(
 pub fn cast(
     alloc: Global,
     tokens: &[Spanned],
-    level: u32,
-) -> Result<(Box<Expr>, &[Spanned], u32), Fault>
-    requires low { level ≤ 200 }
+    level: Level,
+) -> Result<(Box<Expr>, &[Spanned], Level), Fault>
     ensures read { IfOk result (λ x. IsRead 13 13 level (seen tokens.now) (exp x.0.value) (seen x.1.now) x.2) }
     ensures fails { IfErr result (Fails (Want CastGoal) level (seen tokens.now)) }
 {
@@ -315,9 +309,8 @@ pub fn cast(
 fn unary(
     alloc: Global,
     tokens: &[Spanned],
-    level: u32,
-) -> Result<(Box<Expr>, &[Spanned], u32), Fault>
-    requires low { level ≤ 200 }
+    level: Level,
+) -> Result<(Box<Expr>, &[Spanned], Level), Fault>
     ensures read { IfOk result (λ x. IsRead 14 13 level (seen tokens.now) (exp x.0.value) (seen x.1.now) x.2) }
     ensures fails { IfErr result (Fails (Want Unary) level (seen tokens.now)) }
 {
@@ -355,9 +348,8 @@ fn sizeof(
     alloc: Global,
     at: u32,
     tokens: &[Spanned],
-    level: u32,
-) -> Result<(Box<Expr>, &[Spanned], u32), Fault>
-    requires low { level ≤ 200 }
+    level: Level,
+) -> Result<(Box<Expr>, &[Spanned], Level), Fault>
     ensures read { IfOk result (λ x. ReadsSizeof at level (seen tokens.now) (exp x.0.value) (seen x.1.now) x.2) }
     ensures fails { IfErr result (Fails (Want (SizeofTail at)) level (seen tokens.now)) }
 {
@@ -378,9 +370,8 @@ fn sizeof(
 fn primary(
     alloc: Global,
     tokens: &[Spanned],
-    level: u32,
-) -> Result<(Box<Expr>, &[Spanned], u32), Fault>
-    requires low { level ≤ 200 }
+    level: Level,
+) -> Result<(Box<Expr>, &[Spanned], Level), Fault>
     ensures read { IfOk result (λ x. IsPart level (seen tokens.now) (exp x.0.value) (seen x.1.now) x.2) }
     ensures fails { IfErr result (Fails (Want Primary) level (seen tokens.now)) }
     ensures leads { IfOk result (λ x. Leads (Want Primary) level (seen tokens.now) (exp x.0.value) x.2 (seen x.1.now)) }
@@ -403,9 +394,8 @@ fn primary(
 fn parenthesised(
     alloc: Global,
     tokens: &[Spanned],
-    level: u32,
-) -> Result<(Box<Expr>, &[Spanned], u32), Fault>
-    requires low { level ≤ 200 }
+    level: Level,
+) -> Result<(Box<Expr>, &[Spanned], Level), Fault>
     ensures read { IfOk result (λ x. IsPart level (seen tokens.now) (exp x.0.value) (seen x.1.now) x.2) }
     ensures fails { IfErr result (Fails (Want Parens) level (seen tokens.now)) }
     ensures leads { IfOk result (λ x. Leads (Want Parens) level (seen tokens.now) (exp x.0.value) x.2 (seen x.1.now)) }
@@ -427,9 +417,8 @@ fn named(
     name: Name,
     at: u32,
     tokens: &[Spanned],
-    level: u32,
-) -> Result<(Box<Expr>, &[Spanned], u32), Fault>
-    requires low { level ≤ 200 }
+    level: Level,
+) -> Result<(Box<Expr>, &[Spanned], Level), Fault>
     ensures read { IfOk result (λ x. IsPart level (onto_name name at (seen tokens.now)) (exp x.0.value) (seen x.1.now) x.2) }
     ensures fails { IfErr result (Fails (Want (CallTail name at)) level (seen tokens.now)) }
     ensures leads { IfOk result (λ x. Leads (Want (CallTail name at)) level (seen tokens.now) (exp x.0.value) x.2 (seen x.1.now)) }
@@ -446,16 +435,15 @@ fn named(
         open,
         arguments,
     };
-    Ok((Box::new(alloc, whole)?, rest, level + 1))
+    Ok((Box::new(alloc, whole)?, rest, up.closed()))
 }
 
 #[cycle(expression)]
 fn arguments(
     alloc: Global,
     tokens: &[Spanned],
-    level: u32,
+    level: Level,
 ) -> Result<(Vec<Expr>, &[Spanned]), Fault>
-    requires low { level ≤ 200 }
     ensures read { IfOk result (λ x. ReadsArguments level (seen tokens.now) (exp_list x.0.items) (seen x.1.now)) }
     ensures fails { IfErr result (Fails (Want Arguments) level (seen tokens.now)) }
 {
@@ -480,9 +468,8 @@ fn postfix(
     alloc: Global,
     base: Box<Expr>,
     tokens: &[Spanned],
-    level: u32,
-) -> Result<(Box<Expr>, &[Spanned], u32), Fault>
-    requires low { level ≤ 200 }
+    level: Level,
+) -> Result<(Box<Expr>, &[Spanned], Level), Fault>
     requires at { IsAt 15 (exp base.value) }
     ensures read { IfOk result (λ x. IsMore 15 13 level (seen tokens.now) (exp base.value) (exp x.0.value) (seen x.1.now) x.2) }
     ensures fails { IfErr result (PostFails level (seen tokens.now)) }
@@ -492,7 +479,7 @@ fn postfix(
         let (index, rest, _) = expression(alloc, inner, up)?;
         let rest = want_mark(rest, Mark::CloseBracket)?;
         let whole = Expr::Index { base, open, index };
-        return postfix(alloc, Box::new(alloc, whole)?, rest, level + 1);
+        return postfix(alloc, Box::new(alloc, whole)?, rest, up.closed());
     }
     if let Some((operator, at, rest)) = take_step(tokens) {
         let up = open_levels(level, 1, tokens)?;

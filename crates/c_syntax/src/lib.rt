@@ -4,6 +4,7 @@
 mod declarations;
 mod expressions;
 pub mod fault;
+mod level;
 mod statements;
 mod take;
 mod types;

@@ -1,5 +1,5 @@
 // Statements. The levels bound the recursion.
-ghost use Rattle.std.specs.Prelude.{◌≡◌, ◌≤◌, ◌∷◌, ℕ, false, IfOk, IfErr};
+ghost use Rattle.std.specs.Prelude.{◌≡◌, ◌∷◌, ℕ, false, IfOk, IfErr};
 ghost use Rattle.std.specs.Bool.{MatchBool};
 ghost use Rattle.c_tokens.specs.declared.token.Token.TheVariants as token;
 ghost use Rattle.c_syntax_goals.specs.Goals.{Stack, Want, TypeWords, Condition, PartSemi, Simple, Items};
@@ -23,6 +23,7 @@ ghost use Rattle.c_syntax.specs.Stands.{ReadsAfter, ReadsItems};
 
 use crate::declarations::{declarator, declarators};
 use crate::expressions::expression;
+use crate::level::Level;
 use crate::take::{begins_type, not_here, open_levels, take_key, take_mark, want_mark};
 use crate::types::spec;
 use c_phrases::operator::Storage;
@@ -35,11 +36,10 @@ use std::alloc::Global;
 fn part_until(
     alloc: Global,
     tokens: &[Spanned],
-    level: u32,
+    level: Level,
     end: Mark,
 ) -> Result<(Option<Expr>, &[Spanned]), Fault>
-    requires low { level ≤ 200 }
-    requires end { is_kept (mark_class end) ≡ false }
+    requires { is_kept (mark_class end) ≡ false }
     ensures read { IfOk result (λ x. ReadsPart level (seen tokens.now) (part x.0) (sign end 0 ∷ seen x.1.now)) }
     ensures fails { IfErr result (PartFails end level (seen tokens.now)) }
 {
@@ -55,9 +55,8 @@ fn part_until(
 fn condition(
     alloc: Global,
     tokens: &[Spanned],
-    level: u32,
+    level: Level,
 ) -> Result<(u32, Box<Expr>, &[Spanned]), Fault>
-    requires { level ≤ 200 }
     ensures read { IfOk result (λ x. ReadsCondition level x.0 (seen tokens.now) (exp x.1.value) (seen x.2.now)) }
     ensures fails { IfErr result (Fails (Want Condition) level (seen tokens.now)) }
 {
@@ -85,8 +84,7 @@ fn storage(tokens: &[Spanned]) -> (Storage, &[Spanned])
 }
 
 /// `local`
-fn local(alloc: Global, tokens: &[Spanned], level: u32) -> Result<(Local, &[Spanned]), Fault>
-    requires { level ≤ 200 }
+fn local(alloc: Global, tokens: &[Spanned], level: Level) -> Result<(Local, &[Spanned]), Fault>
     ensures read { IfOk result (λ x. ReadsLocal level (seen tokens.now) (local_of x.0) (seen x.1.now)) }
     ensures fails { IfErr result (Fails (Want LocalGoal) level (seen tokens.now)) }
 {
@@ -121,9 +119,8 @@ fn returned(
     alloc: Global,
     at: u32,
     tokens: &[Spanned],
-    level: u32,
+    level: Level,
 ) -> Result<(Statement, &[Spanned]), Fault>
-    requires { level ≤ 200 }
     ensures read { IfOk result (λ x. ReadsAfter (word keys.Return at) level (seen tokens.now) (statement_of x.0) (seen x.1.now)) }
     ensures fails { IfErr result (Fails (Want PartSemi) level (seen tokens.now)) }
 {
@@ -132,8 +129,7 @@ fn returned(
 }
 
 // The statements that hold no other statement.
-fn simple(alloc: Global, tokens: &[Spanned], level: u32) -> Result<(Statement, &[Spanned]), Fault>
-    requires { level ≤ 200 }
+fn simple(alloc: Global, tokens: &[Spanned], level: Level) -> Result<(Statement, &[Spanned]), Fault>
     ensures read { IfOk result (λ x. ReadsStatement level (seen tokens.now) (statement_of x.0) (seen x.1.now)) }
     ensures fails { IfErr result (Fails (Want Simple) level (seen tokens.now)) }
 {
@@ -161,9 +157,8 @@ fn simple(alloc: Global, tokens: &[Spanned], level: u32) -> Result<(Statement, &
 pub fn statement(
     alloc: Global,
     tokens: &[Spanned],
-    level: u32,
+    level: Level,
 ) -> Result<(Statement, &[Spanned]), Fault>
-    requires low { level ≤ 200 }
     ensures read { IfOk result (λ x. ReadsStatement level (seen tokens.now) (statement_of x.0) (seen x.1.now)) }
     ensures fails { IfErr result (Fails (Want StatementGoal) level (seen tokens.now)) }
 {
@@ -196,9 +191,8 @@ fn if_behind(
     alloc: Global,
     at: u32,
     tokens: &[Spanned],
-    level: u32,
+    level: Level,
 ) -> Result<(Statement, &[Spanned]), Fault>
-    requires low { level ≤ 200 }
     ensures read { IfOk result (λ x. ReadsBehind (word keys.If at) level (seen tokens.now) (statement_of x.0) (seen x.1.now)) }
     ensures fails { IfErr result (Fails (if_goals at) level (seen tokens.now)) }
 {
@@ -232,9 +226,8 @@ fn while_behind(
     alloc: Global,
     at: u32,
     tokens: &[Spanned],
-    level: u32,
+    level: Level,
 ) -> Result<(Statement, &[Spanned]), Fault>
-    requires low { level ≤ 200 }
     ensures read { IfOk result (λ x. ReadsBehind (word keys.While at) level (seen tokens.now) (statement_of x.0) (seen x.1.now)) }
     ensures fails { IfErr result (Fails (while_goals at) level (seen tokens.now)) }
 {
@@ -255,9 +248,8 @@ fn do_behind(
     alloc: Global,
     at: u32,
     tokens: &[Spanned],
-    level: u32,
+    level: Level,
 ) -> Result<(Statement, &[Spanned]), Fault>
-    requires low { level ≤ 200 }
     ensures read { IfOk result (λ x. ReadsBehind (word keys.Do at) level (seen tokens.now) (statement_of x.0) (seen x.1.now)) }
     ensures fails { IfErr result (Fails (do_goals at) level (seen tokens.now)) }
 {
@@ -283,9 +275,8 @@ fn for_behind(
     alloc: Global,
     at: u32,
     tokens: &[Spanned],
-    level: u32,
+    level: Level,
 ) -> Result<(Statement, &[Spanned]), Fault>
-    requires low { level ≤ 200 }
     ensures read { IfOk result (λ x. ReadsBehind (word keys.For at) level (seen tokens.now) (statement_of x.0) (seen x.1.now)) }
     ensures fails { IfErr result (Fails (for_goals at level) level (seen tokens.now)) }
 {
@@ -313,9 +304,8 @@ fn for_behind(
 }
 
 #[cycle(statement)]
-fn item(alloc: Global, tokens: &[Spanned], level: u32) -> Result<(Item, &[Spanned]), Fault>
-    requires low { level ≤ 200 }
-    requires open { IsNot (token.Mark marks.CloseBrace) (seen tokens.now) }
+fn item(alloc: Global, tokens: &[Spanned], level: Level) -> Result<(Item, &[Spanned]), Fault>
+    requires { IsNot (token.Mark marks.CloseBrace) (seen tokens.now) }
     ensures read { IfOk result (λ x. ReadsItems level (seen tokens.now) (item_onto x.0 no_items) (seen x.1.now)) }
     ensures fails { IfErr result (Fails (Want Items) level (seen tokens.now)) }
     ensures leads { IfOk result (λ x. ItemsLead level (seen tokens.now) (seen x.1.now)) }
@@ -333,9 +323,8 @@ fn item(alloc: Global, tokens: &[Spanned], level: u32) -> Result<(Item, &[Spanne
 pub fn items(
     alloc: Global,
     tokens: &[Spanned],
-    level: u32,
+    level: Level,
 ) -> Result<(Vec<Item>, &[Spanned]), Fault>
-    requires low { level ≤ 200 }
     ensures read { IfOk result (λ x. ReadsItems level (seen tokens.now) (items_of x.0.items) (sign marks.CloseBrace 0 ∷ seen x.1.now)) }
     ensures fails { IfErr result (Fails (Want Items) level (seen tokens.now)) }
 {

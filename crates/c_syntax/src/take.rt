@@ -12,11 +12,10 @@ ghost use Rattle.c_phrases.specs.Fronts.{IsNot};
 ghost use Rattle.c_phrases.specs.Takes.{binary_of, prefix_of, step_of, assign_of, is_type_word, IsTypeWord, NoTypeWord, NoMark};
 ghost use Rattle.c_phrases.specs.Takes.{NoBinary, NoPrefix, NoStep, NoAssign};
 
+use crate::level::Level;
 use c_phrases::operator::{AssignOperator, BinaryOperator, PrefixOperator, StepOperator};
 use c_syntax_goals::fault::Fault;
 use c_tokens::{Key, Mark, Spanned, Token};
-
-pub const LEVELS: u32 = 200;
 
 /// The fault of the token at the front, that it may not stand there.
 #[tactic(auto, using(c_syntax_goals::proofs::Faults::length_seen))]
@@ -130,16 +129,14 @@ pub fn take_assign(tokens: &[Spanned]) -> Option<(AssignOperator, u32, &[Spanned
 
 /// The level behind what opens here.
 #[tactic(auto, using(c_syntax_goals::proofs::Faults::length_seen))]
-pub fn open_levels(level: u32, by: u32, tokens: &[Spanned]) -> Result<u32, Fault>
-    requires low { level ≤ 200 }
-    requires small { by ≤ 2 }
+pub fn open_levels(level: Level, by: u32, tokens: &[Spanned]) -> Result<Level, Fault>
     ensures opened { IfOk result (λ m. (m ≡ level + by) × (level + by ≤ 200)) }
     ensures deep { IfErr result (λ f. (f ≡ faults.TooDeep (length (seen tokens.now))) × (200 < level + by)) }
 {
-    if level + by > LEVELS {
-        return Err(Fault::TooDeep(tokens.len()));
+    match level.opened(by) {
+        Some(opened) => Ok(opened),
+        None => Err(Fault::TooDeep(tokens.len())),
     }
-    Ok(level + by)
 }
 
 fn binary_of(mark: Mark) -> Option<BinaryOperator>

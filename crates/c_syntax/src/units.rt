@@ -31,6 +31,7 @@ ghost use Rattle.c_syntax.specs.StatementLeads.{NoVoidAlone, HasToken};
 use crate::declarations::{declarator_behind, declarators, length_part};
 use crate::expressions::take_name;
 use crate::fault::SyntaxFault;
+use crate::level::Level;
 use crate::statements::items;
 use crate::take::{not_here, open_levels, take_key, take_mark, want_mark};
 use crate::types::{spec, stars};
@@ -52,8 +53,7 @@ fn named(alloc: Global, tokens: &[Spanned]) -> Result<(Option<Named>, &[Spanned]
 }
 
 /// `param`
-fn param(alloc: Global, tokens: &[Spanned], level: u32) -> Result<(Param, &[Spanned]), Fault>
-    requires { level ≤ 200 }
+fn param(alloc: Global, tokens: &[Spanned], level: Level) -> Result<(Param, &[Spanned]), Fault>
     ensures read { IfOk result (λ x. ReadsParam level (seen tokens.now) (param_of x.0) (seen x.1.now)) }
     ensures fails { IfErr result (Fails param_goals level (seen tokens.now)) }
     ensures leads { IfOk result (λ x. Leads param_goals level (seen tokens.now) (param_of x.0) level (seen x.1.now)) }
@@ -86,9 +86,8 @@ fn void_alone(tokens: &[Spanned]) -> Option<(u32, &[Spanned])>
 fn param_list(
     alloc: Global,
     tokens: &[Spanned],
-    level: u32,
+    level: Level,
 ) -> Result<(Vec<Param>, &[Spanned]), Fault>
-    requires { level ≤ 200 }
     ensures read { IfOk result (λ x. ParamsSoFar level (seen tokens.now) (param_list x.0.items)
         (sign marks.CloseParenthesis 0 ∷ seen x.1.now)) }
     ensures fails { IfErr result (Fails list_goals level (seen tokens.now)) }
@@ -106,8 +105,7 @@ fn param_list(
 }
 
 /// `params`, up to the bracket that closes them.
-fn params(alloc: Global, tokens: &[Spanned], level: u32) -> Result<(Params, &[Spanned]), Fault>
-    requires { level ≤ 200 }
+fn params(alloc: Global, tokens: &[Spanned], level: Level) -> Result<(Params, &[Spanned]), Fault>
     ensures read { IfOk result (λ x. ReadsParams level (seen tokens.now) (params_of x.0) (seen x.1.now)) }
     ensures fails { IfErr result (Fails (Want ParamsGoal) level (seen tokens.now)) }
 {
@@ -129,7 +127,7 @@ fn body(alloc: Global, tokens: &[Spanned]) -> Result<(Option<Vec<Item>>, &[Spann
         return Ok((None, rest));
     }
     let inner = want_mark(tokens, Mark::OpenBrace)?;
-    let up = open_levels(0, 1, tokens)?;
+    let up = open_levels(Level::OUTER, 1, tokens)?;
     let (items, rest) = items(alloc, inner, up)?;
     Ok((Some(items), rest))
 }
@@ -147,7 +145,7 @@ fn function(
         (sign marks.OpenParenthesis bracket ∷ seen tokens.now))) (declared_of x.0) (seen x.1.now)) }
     ensures fails { IfErr result (Fails (function_behind stars name at bracket 0) 1 (seen tokens.now)) }
 {
-    let (params, rest) = params(alloc, tokens, 1)?;
+    let (params, rest) = params(alloc, tokens, Level::FIRST)?;
     let (body, rest) = body(alloc, rest)?;
     let function = Function {
         stars,
@@ -172,8 +170,8 @@ fn declared(alloc: Global, tokens: &[Spanned]) -> Result<(Declared, &[Spanned]),
     if let Some((open, inner)) = take_mark(rest, Mark::OpenParenthesis) {
         return function(alloc, stars, name, at, open, inner);
     }
-    let (first, rest) = declarator_behind(alloc, stars, name, at, rest, 0)?;
-    let (list, rest) = declarators(alloc, first, rest, 0)?;
+    let (first, rest) = declarator_behind(alloc, stars, name, at, rest, Level::OUTER)?;
+    let (list, rest) = declarators(alloc, first, rest, Level::OUTER)?;
     Ok((Declared::Globals(list), rest))
 }
 

@@ -8,7 +8,7 @@ use Rattle.c_syntax.proofs.declarations.declarators.Goals as goal
 
 pub loop-last-init : goal.loop-last-init
 loop-last-init c = (
-  rw (c.in_ok-push.ensures.items, c.new-list.ensures.items) (declarators_begin c.args.level (declarator_of c.args.first) (seen c.args.tokens.now) c.requires.first),
+  rw (c.in_ok-push.ensures.items, c.new-list.ensures.items) (declarators_begin c.args.level (declarator_of c.args.first) (seen c.args.tokens.now) c.requires),
   more_begin c.args.level (seen c.args.tokens.now),
 )
 

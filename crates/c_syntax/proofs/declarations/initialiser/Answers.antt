@@ -22,4 +22,4 @@ returns-clause-fails c = err_map c.elements.result _ _ (λ f h. init_elements_er
 
 pub returns-clause-leads : goal.returns-clause-leads
 returns-clause-leads c = if_ok c.elements.result _ _ (λ x h. init_elements c.args.level c.in_ok-up.up (seen c.args.tokens.now) (seen c.in-Some.inner.now) (seen x.1.now) (init_of x.0)
-    c.requires c.in-Some.ensures.found c.in_ok-up.ensures.opened h) c.elements.ensures.read
+    c.in-Some.ensures.found c.in_ok-up.ensures.opened h) c.elements.ensures.read

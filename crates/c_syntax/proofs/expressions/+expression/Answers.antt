@@ -4,7 +4,8 @@ use Rattle.c_phrases.specs.Spelling.{onto_name}
 use Rattle.c_phrases.specs.Shapes.{exp, exp_list}
 use Rattle.c_syntax_goals.proofs.PhraseLaws.{lower}
 use Rattle.c_syntax.proofs.Stops.{quiet_unassigned, quiet_unasked}
-use Rattle.c_syntax.proofs.ExpressionLaws.{read_lower, more_lower, no_more, unjoined, looser, part_more, call_as, call_led, list_push, arguments_more, arguments_shorter, ready_as, call_read}
+use Rattle.c_syntax.proofs.ExpressionLaws.{read_lower, more_lower, no_more, unjoined, looser, part_more, call_as, call_led, list_push, arguments_more, arguments_shorter, ready_as}
+use Rattle.c_syntax.proofs.ExpressionLaws.{call_read, one_closed}
 use Rattle.std.proofs.lemmas.Result.{err_from_is_err_and}
 use Rattle.gg_base.proofs.Facts.{if_ok}
 use Rattle.c_syntax.proofs.Exits.{arguments_close, arguments_err, arguments_first_err, assign_cast_err, assign_cast_tail, assign_deep, assign_err, assign_unary_err}
@@ -24,7 +25,8 @@ arguments-loop-after-preserved t c = rw (c.in_ok-put-2.ensures.items, list_push 
     (exp_list c.loop-after.list.items) (exp c.in_ok-next.next.value) c.loop-after.invariant c.in-Some-take_mark.ensures.found c.in_ok-next.ensures.read)
 
 pub named-returns-clause-read : goal.named-returns-clause-read
-named-returns-clause-read t c = rw (c.in_ok-new-2.ensures.ok) (call_as c.args.level (c.args.level + 1) c.args.name c.args.at c.in-Some.open
+named-returns-clause-read t c = rw (c.in_ok-new-2.ensures.ok, one_closed c.args.level c.in_ok-up.up c.closed.result c.in_ok-up.ensures.opened c.closed.ensures)
+    (call_as c.args.level (c.args.level + 1) c.args.name c.args.at c.in-Some.open
     (onto_name c.args.name c.args.at (seen c.args.tokens.now)) c.in_ok-arguments.arguments (seen c.in_ok-arguments.rest.now)
     (call_read c.args.level c.in_ok-up.up c.args.name c.args.at c.in-Some.open (seen c.args.tokens.now) (seen c.in-Some.inner.now) (exp_list c.in_ok-arguments.arguments.items)
     (seen c.in_ok-arguments.rest.now) c.in-Some.ensures.found c.in_ok-up.ensures.opened c.in_ok-arguments.ensures.read))
@@ -34,12 +36,9 @@ binary-binary-requires-2 t c = (
   search rules,
   (
     search rules,
-    (
-      search rules,
-      rw (c.in_ok-new.ensures.ok) (ready_as c.args.lowest c.level.result c.level-2.result (exp c.args.left.value) (exp c.in_ok-right.right.value) _ _ c.in-Some.operator c.in-Some.at
-          (seen c.args.tokens.now) (seen c.in-Some.after.now) (seen c.in_ok-right.rest.now) c.requires.ready c.in-Some.ensures.found c.level.ensures c.level-2.ensures c.if-level-lowest.false
-          c.in_ok-right.ensures.read.at c.in_ok-right.ensures.read.quiet refl refl),
-    ),
+    rw (c.in_ok-new.ensures.ok) (ready_as c.args.lowest c.level.result c.level-2.result (exp c.args.left.value) (exp c.in_ok-right.right.value) _ _ c.in-Some.operator c.in-Some.at
+        (seen c.args.tokens.now) (seen c.in-Some.after.now) (seen c.in_ok-right.rest.now) c.requires.ready c.in-Some.ensures.found c.level.ensures c.level-2.ensures c.if-level-lowest.false
+        c.in_ok-right.ensures.read.at c.in_ok-right.ensures.read.quiet refl refl),
   ),
 )
 
@@ -208,7 +207,8 @@ postfix-returns-in_err-rest-clause-fails t c =
 pub postfix-returns-in-Some-clause-fails : goal.postfix-returns-in-Some-clause-fails
 postfix-returns-in-Some-clause-fails t c = err_map c.postfix.result _ _
     (λ f h. index_more c.args.level c.in_ok-up.up c.in_ok-index.field-0-2 c.in-Some.«open» (seen c.args.tokens.now) (seen c.in-Some.inner.now) (seen c.in_ok-index.rest.now)
-    (seen c.in_ok-rest.rest.now) (exp c.in_ok-index.index.value) f c.in-Some.ensures.found c.in_ok-up.ensures.opened c.in_ok-index.ensures.read c.in_ok-rest.ensures.found h) c.postfix.ensures.fails
+    (seen c.in_ok-rest.rest.now) (exp c.in_ok-index.index.value) f c.in-Some.ensures.found c.in_ok-up.ensures.opened c.in_ok-index.ensures.read c.in_ok-rest.ensures.found
+    (rw (one_closed c.args.level c.in_ok-up.up c.closed.result c.in_ok-up.ensures.opened c.closed.ensures) at h)) c.postfix.ensures.fails
 
 pub postfix-returns-in-Some-take_step-clause-fails : goal.postfix-returns-in-Some-take_step-clause-fails
 postfix-returns-in-Some-take_step-clause-fails t c = err_map c.postfix-in-Some-take_step.result _ _
@@ -254,7 +254,8 @@ unassigned-returns-in-Some-clause-fails t c = tail_assigned c.args.level c.in_ok
     c.in-Some.field-0.0 c.in-Some.field-0.1 c.not_here.result c.in_ok-whole.ensures.leads c.in-Some.ensures.found c.not_here.ensures
 
 pub named-returns-clause-leads : goal.named-returns-clause-leads
-named-returns-clause-leads t c = rw (c.in_ok-new-2.ensures.ok) (call_led c.args.level (c.args.level + 1) c.args.name c.args.at c.in-Some.«open» (seen c.args.tokens.now)
+named-returns-clause-leads t c = rw (c.in_ok-new-2.ensures.ok, one_closed c.args.level c.in_ok-up.up c.closed.result c.in_ok-up.ensures.opened c.closed.ensures)
+    (call_led c.args.level (c.args.level + 1) c.args.name c.args.at c.in-Some.«open» (seen c.args.tokens.now)
     c.in_ok-arguments.arguments (seen c.in_ok-arguments.rest.now) (call_leads c.args.level c.in_ok-up.up c.args.at c.in-Some.«open» c.args.name (seen c.args.tokens.now)
     (seen c.in-Some.inner.now) (seen c.in_ok-arguments.rest.now) (exp_list c.in_ok-arguments.arguments.items) c.in-Some.ensures.found c.in_ok-up.ensures.opened c.in_ok-arguments.ensures.read))
 
@@ -278,13 +279,13 @@ conditional-returns-in_default-clause-read t c =
 pub binary-returns-in_default-clause-read : goal.binary-returns-in_default-clause-read
 binary-returns-in_default-clause-read t c =
     no_more c.args.lowest c.args.level (exp c.args.left.value) (seen c.args.tokens.now) c.requires.ready
-    (unjoined c.args.lowest (exp c.args.left.value) (seen c.args.tokens.now) c.requires.least c.requires.ready c.in_default.ensures.none) c.requires.low
+    (unjoined c.args.lowest (exp c.args.left.value) (seen c.args.tokens.now) c.requires.least c.requires.ready c.in_default.ensures.none)
 
 pub binary-returns-then-level-lowest-clause-read : goal.binary-returns-then-level-lowest-clause-read
 binary-returns-then-level-lowest-clause-read t c =
     no_more c.args.lowest c.args.level (exp c.args.left.value) (seen c.args.tokens.now) c.requires.ready
     (looser c.args.lowest c.level.result c.in-Some.operator c.in-Some.at (seen c.args.tokens.now) (seen c.in-Some.after.now) c.in-Some.ensures.found
-    c.level.ensures c.if-level-lowest.true) c.requires.low
+    c.level.ensures c.if-level-lowest.true)
 
 pub unary-returns-clause-read : goal.unary-returns-clause-read
 unary-returns-clause-read t c =
@@ -292,8 +293,8 @@ unary-returns-clause-read t c =
 
 pub assignment-unassigned-requires-in_default : goal.assignment-unassigned-requires-in_default
 assignment-unassigned-requires-in_default t c =
-    (search rules, (search rules, (lower 13 14 (exp c.in_ok-operand-2.operand.value) (omega arith) c.in_ok-operand-2.ensures.read.at, c.in_ok-operand-2.ensures.read.quiet)))
+    (search rules, (lower 13 14 (exp c.in_ok-operand-2.operand.value) (omega arith) c.in_ok-operand-2.ensures.read.at, c.in_ok-operand-2.ensures.read.quiet))
 
 pub expression-commas-requires : goal.expression-commas-requires
 expression-commas-requires t c =
-    (search rules, (search rules, (lower 0 1 (exp c.in_ok-first.first.value) (omega arith) c.in_ok-first.ensures.read.at, c.in_ok-first.ensures.read.quiet)))
+    (search rules, (lower 0 1 (exp c.in_ok-first.first.value) (omega arith) c.in_ok-first.ensures.read.at, c.in_ok-first.ensures.read.quiet))

@@ -143,12 +143,12 @@ item-returns-then-begins_local-clause-leads t c = item_local_leads c.args.level 
 pub item-returns-in_err-statement-clause-fails : goal.item-returns-in_err-statement-clause-fails
 item-returns-in_err-statement-clause-fails t c =
     let p = err_from_is_err_and c.from_residual-in_err-statement.result c.from_residual-in_err-statement.ensures.1 in
-    rw (p.1, p.2) (item_statement_err c.args.level (seen c.args.tokens.now) c.in_err-statement.field-0.0 (when_false _ _ _ c.begins_local.ensures c.if-begins_local.false) c.requires.«open»
+    rw (p.1, p.2) (item_statement_err c.args.level (seen c.args.tokens.now) c.in_err-statement.field-0.0 (when_false _ _ _ c.begins_local.ensures c.if-begins_local.false) c.requires
     c.in_err-statement.ensures.fails)
 
 pub item-returns-clause-leads : goal.item-returns-clause-leads
 item-returns-clause-leads t c = item_statement_leads c.args.level (seen c.args.tokens.now) (seen c.in_ok-statement.rest.now) (statement_of c.in_ok-statement.statement)
-    (when_false _ _ _ c.begins_local.ensures c.if-begins_local.false) c.requires.«open» c.in_ok-statement.ensures.read
+    (when_false _ _ _ c.begins_local.ensures c.if-begins_local.false) c.requires c.in_ok-statement.ensures.read
 
 pub items-loop-last-init : goal.items-loop-last-init
 items-loop-last-init t c = (search rules, items_begin c.args.level (seen c.args.tokens.now))
