@@ -23,7 +23,7 @@ use Rattle.c_typed_operators.specs.Table.{OnlyFault}
 use Rattle.c_typed_law.specs.Texts.{TextFault}
 use Rattle.c_typed.specs.declared.source.SourceKind.{SourceKind}
 use Rattle.c_typed.specs.declared.source.SourceKind.TheVariants as kinds
-use Rattle.c_typed.specs.Sources.{place_at, type_kind, IsFaultAt}
+use Rattle.c_typed.specs.Sources.{place_at, IsFaultAt}
 
 -- where this place and kind are answered
 abbrev Same : ℕ → SourceKind → List ℕ → Place → SourceKind → Type 0
@@ -59,7 +59,7 @@ module _ (bytes : List ℕ) (place : Place) (kind : SourceKind) where
   type_first : (list : List Spanned) (u : AUnit) (R : Type 0) → ((q : ℕ) (j : TokenKind) → FirstFault 0 bytes q j → ⊥) →
       ((ts : List Spanned) → Tokens 0 bytes ts → list ≡ ts) → ((v : AUnit) → IsUnit (seen list) v → u ≡ v) →
       ((q : ℕ) → NotHereAt list q → ⊥) → ((q : ℕ) → TooDeepAt list q → ⊥) →
-      ((q : ℕ) (j : TypeKind) → TextFault u.externals u.end (record { place = q; kind = j }) → place ≡ place_at bytes q → kind ≡ type_kind j → R) →
+      ((q : ℕ) (j : TypeKind) → TextFault u.externals u.end (record { place = q; kind = j }) → place ≡ place_at bytes q → kind ≡ kinds.Types j → R) →
       IsFaultAt bytes place kind → R
   type_first list u R fine only unit here deep types (inl h) = absurd (fine h.offset h.fault h.first)
   type_first list u R fine only unit here deep types (inr (inl h)) = by h.first
@@ -117,18 +117,18 @@ module _ (bytes : List ℕ) (items ts : List Spanned) (same : ts ≡ items) (onl
       (is ∙ r.0, r.1)
 
   module _ (ast : Ast) (unit : (u : AUnit) → IsUnit (seen ts) u → unit_of ast ≡ u) (first : IsEnded ts → (g : SyntaxFault) → HasFault ts g → ⊥) where
-    pub types_first : (e : TypeFault) (p : ℕ) (k : TypeKind) (at : Place) (answer : SourceKind) → e ≡ type_fault.At p k → at ≡ place_at bytes p →
-        answer ≡ type_kind k → ((f : Fault) → TextFault (unit_of ast).externals (unit_of ast).end f → OnlyFault {X = Unit {0}} (Err e) f) →
-        (place : Place) (kind : SourceKind) → IsFaultAt bytes place kind → (at ≡ place) × (answer ≡ kind)
-    types_first e p k at answer fault is named types place kind h =
-        type_first bytes place kind ts (unit_of ast) ((at ≡ place) × (answer ≡ kind)) fine only_these unit
+    pub types_first : (e : TypeFault) (p : ℕ) (k : TypeKind) (at : Place) → e ≡ type_fault.At p k → at ≡ place_at bytes p →
+        ((f : Fault) → TextFault (unit_of ast).externals (unit_of ast).end f → OnlyFault {X = Unit {0}} (Err e) f) →
+        (place : Place) (kind : SourceKind) → IsFaultAt bytes place kind → (at ≡ place) × (kinds.Types k ≡ kind)
+    types_first e p k at fault is types place kind h =
+        type_first bytes place kind ts (unit_of ast) ((at ≡ place) × (kinds.Types k ≡ kind)) fine only_these unit
         (λ o n. first ended (syntax.NotHere o) n) (λ o n. first ended (syntax.TooDeep o) n)
         (λ q j refused here there.
         let one : record { place = q; kind = j } ≡ record { place = p; kind = k } =
         subst (λ (z : TypeFault). OnlyFault {X = Unit {0}} (Err z) (record { place = q; kind = j })) fault (types (record { place = q; kind = j }) refused) in
         let offset : p ≡ q = ap (λ (f : Fault). f.place) (sym one) in
         let same_kind : k ≡ j = ap (λ (f : Fault). f.kind) (sym one) in
-        (is ∙ (ap (place_at bytes) offset ∙ sym here), named ∙ (ap type_kind same_kind ∙ sym there))) h
+        (is ∙ (ap (place_at bytes) offset ∙ sym here), ap kinds.Types same_kind ∙ sym there)) h
 
     pub no_fault : ((f : Fault) → TextFault (unit_of ast).externals (unit_of ast).end f → ⊥) → (place : Place) (kind : SourceKind) →
         IsFaultAt bytes place kind → ⊥

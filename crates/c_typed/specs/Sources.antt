@@ -38,32 +38,12 @@ pub record Reads (bytes : List ℕ) (program : AProgram) : Type 0 where
 abbrev pub place_at : List ℕ → ℕ → Place
 place_at bytes offset = record { line = line_of (take offset bytes); column = column_of (take offset bytes) }
 
-abbrev pub token_kind : TokenKind → SourceKind
-token_kind tokens.BadByte = kinds.BadByte
-token_kind tokens.BadNumber = kinds.BadNumber
-token_kind tokens.LongName = kinds.LongName
-token_kind tokens.BadEscape = kinds.BadEscape
-token_kind tokens.BadChar = kinds.BadChar
-token_kind tokens.Unclosed = kinds.Unclosed
-
-abbrev pub type_kind : TypeKind → SourceKind
-type_kind types.UnknownName = kinds.UnknownName
-type_kind types.Twice = kinds.Twice
-type_kind types.LeftOut = kinds.LeftOut
-type_kind types.BadCall = kinds.BadCall
-type_kind types.BadJump = kinds.BadJump
-type_kind types.BadConst = kinds.BadConst
-type_kind types.BadInit = kinds.BadInit
-type_kind types.BadType = kinds.BadType
-type_kind types.DataFull = kinds.DataFull
-type_kind types.NoMain = kinds.NoMain
-
 -- the first fault of the tokens stands there
 pub record HasTokenFault (bytes : List ℕ) (place : Place) (kind : SourceKind) : Type 0 where
   pub offset : ℕ
   pub fault : TokenKind
   pub first : FirstFault 0 bytes offset fault
-  pub kind_is : kind ≡ token_kind fault
+  pub kind_is : kind ≡ kinds.Tokens fault
   pub place_is : place ≡ place_at bytes offset
 
 -- the bytes have tokens, and the first fault of their phrases stands there
@@ -81,7 +61,7 @@ pub record HasTypeFault (bytes : List ℕ) (place : Place) (kind : SourceKind) :
   pub offset : ℕ
   pub fault : TypeKind
   pub first : TextFault unit.externals unit.end (record { place = offset; kind = fault })
-  pub kind_is : kind ≡ type_kind fault
+  pub kind_is : kind ≡ kinds.Types fault
   pub place_is : place ≡ place_at bytes offset
 
 -- the first fault of the bytes stands there: of their tokens, else of their phrases, else of their types
@@ -107,21 +87,21 @@ IsOnlyFault (Err (faults.At p k)) place kind = (p ≡ place) × (k ≡ kind)
 
 -- the kind's name
 abbrev pub kind_name : SourceKind → List ℕ
-kind_name kinds.BadByte = codes "BadByte"
-kind_name kinds.BadNumber = codes "BadNumber"
-kind_name kinds.LongName = codes "LongName"
-kind_name kinds.BadEscape = codes "BadEscape"
-kind_name kinds.BadChar = codes "BadChar"
-kind_name kinds.Unclosed = codes "Unclosed"
+kind_name (kinds.Tokens tokens.BadByte) = codes "BadByte"
+kind_name (kinds.Tokens tokens.BadNumber) = codes "BadNumber"
+kind_name (kinds.Tokens tokens.LongName) = codes "LongName"
+kind_name (kinds.Tokens tokens.BadEscape) = codes "BadEscape"
+kind_name (kinds.Tokens tokens.BadChar) = codes "BadChar"
+kind_name (kinds.Tokens tokens.Unclosed) = codes "Unclosed"
 kind_name kinds.NotHere = codes "NotHere"
 kind_name kinds.TooDeep = codes "TooDeep"
-kind_name kinds.UnknownName = codes "UnknownName"
-kind_name kinds.Twice = codes "Twice"
-kind_name kinds.LeftOut = codes "LeftOut"
-kind_name kinds.BadCall = codes "BadCall"
-kind_name kinds.BadJump = codes "BadJump"
-kind_name kinds.BadConst = codes "BadConst"
-kind_name kinds.BadInit = codes "BadInit"
-kind_name kinds.BadType = codes "BadType"
-kind_name kinds.DataFull = codes "DataFull"
-kind_name kinds.NoMain = codes "NoMain"
+kind_name (kinds.Types types.UnknownName) = codes "UnknownName"
+kind_name (kinds.Types types.Twice) = codes "Twice"
+kind_name (kinds.Types types.LeftOut) = codes "LeftOut"
+kind_name (kinds.Types types.BadCall) = codes "BadCall"
+kind_name (kinds.Types types.BadJump) = codes "BadJump"
+kind_name (kinds.Types types.BadConst) = codes "BadConst"
+kind_name (kinds.Types types.BadInit) = codes "BadInit"
+kind_name (kinds.Types types.BadType) = codes "BadType"
+kind_name (kinds.Types types.DataFull) = codes "DataFull"
+kind_name (kinds.Types types.NoMain) = codes "NoMain"

@@ -6,7 +6,7 @@ ghost use Rattle.c_program.specs.Programs.{AProgram};
 ghost use Rattle.c_typed_check.specs.Views.{typed};
 ghost use Rattle.gg_base.specs.declared.place.Place.{Place};
 ghost use Rattle.c_typed.specs.declared.source.SourceKind.{SourceKind};
-ghost use Rattle.c_typed.specs.Sources.{Reads, IsRefused, IsOnly, IsFaultAt, IsOnlyFault, place_at, token_kind, type_kind, kind_name};
+ghost use Rattle.c_typed.specs.Sources.{Reads, IsRefused, IsOnly, IsFaultAt, IsOnlyFault, place_at, kind_name};
 
 use c_syntax::{SyntaxFault, parse};
 use c_tokens::laws::tokens_are_ended;
@@ -18,27 +18,17 @@ use gg_base::Place;
 use std::alloc::Global;
 use std::fmt;
 
-/// What is wrong with a source: with its tokens, its phrases or its types. Its `Display` is the variant's name.
+/// What is wrong with a source: with its tokens, its phrases or its types. Its `Display` is the kind's name.
 #[derive(Clone, Copy, Debug, PartialEq, Eq)]
 pub enum SourceKind {
-    BadByte,
-    BadNumber,
-    LongName,
-    BadEscape,
-    BadChar,
-    Unclosed,
+    /// A fault of the tokens.
+    Tokens(TokenKind),
+    /// No program begins with the tokens up to this one.
     NotHere,
+    /// Brackets, statements and operators open more than 200 levels.
     TooDeep,
-    UnknownName,
-    Twice,
-    LeftOut,
-    BadCall,
-    BadJump,
-    BadConst,
-    BadInit,
-    BadType,
-    DataFull,
-    NoMain,
+    /// A fault of the types.
+    Types(TypeKind),
 }
 
 impl SourceKind {
@@ -46,24 +36,24 @@ impl SourceKind {
         ensures { result.now ≡ kind_name self }
     {
         match self {
-            SourceKind::BadByte => "BadByte",
-            SourceKind::BadNumber => "BadNumber",
-            SourceKind::LongName => "LongName",
-            SourceKind::BadEscape => "BadEscape",
-            SourceKind::BadChar => "BadChar",
-            SourceKind::Unclosed => "Unclosed",
+            SourceKind::Tokens(TokenKind::BadByte) => "BadByte",
+            SourceKind::Tokens(TokenKind::BadNumber) => "BadNumber",
+            SourceKind::Tokens(TokenKind::LongName) => "LongName",
+            SourceKind::Tokens(TokenKind::BadEscape) => "BadEscape",
+            SourceKind::Tokens(TokenKind::BadChar) => "BadChar",
+            SourceKind::Tokens(TokenKind::Unclosed) => "Unclosed",
             SourceKind::NotHere => "NotHere",
             SourceKind::TooDeep => "TooDeep",
-            SourceKind::UnknownName => "UnknownName",
-            SourceKind::Twice => "Twice",
-            SourceKind::LeftOut => "LeftOut",
-            SourceKind::BadCall => "BadCall",
-            SourceKind::BadJump => "BadJump",
-            SourceKind::BadConst => "BadConst",
-            SourceKind::BadInit => "BadInit",
-            SourceKind::BadType => "BadType",
-            SourceKind::DataFull => "DataFull",
-            SourceKind::NoMain => "NoMain",
+            SourceKind::Types(TypeKind::UnknownName) => "UnknownName",
+            SourceKind::Types(TypeKind::Twice) => "Twice",
+            SourceKind::Types(TypeKind::LeftOut) => "LeftOut",
+            SourceKind::Types(TypeKind::BadCall) => "BadCall",
+            SourceKind::Types(TypeKind::BadJump) => "BadJump",
+            SourceKind::Types(TypeKind::BadConst) => "BadConst",
+            SourceKind::Types(TypeKind::BadInit) => "BadInit",
+            SourceKind::Types(TypeKind::BadType) => "BadType",
+            SourceKind::Types(TypeKind::DataFull) => "DataFull",
+            SourceKind::Types(TypeKind::NoMain) => "NoMain",
         }
     }
 }
@@ -85,36 +75,6 @@ pub enum SourceFault {
     NoMemory,
     /// The first fault, of the tokens, else of the phrases, else of the types: its line and column, and its kind.
     At { place: Place, kind: SourceKind },
-}
-
-fn token_kind(kind: TokenKind) -> SourceKind
-    ensures { result ≡ token_kind kind }
-{
-    match kind {
-        TokenKind::BadByte => SourceKind::BadByte,
-        TokenKind::BadNumber => SourceKind::BadNumber,
-        TokenKind::LongName => SourceKind::LongName,
-        TokenKind::BadEscape => SourceKind::BadEscape,
-        TokenKind::BadChar => SourceKind::BadChar,
-        TokenKind::Unclosed => SourceKind::Unclosed,
-    }
-}
-
-fn type_kind(kind: TypeKind) -> SourceKind
-    ensures { result ≡ type_kind kind }
-{
-    match kind {
-        TypeKind::UnknownName => SourceKind::UnknownName,
-        TypeKind::Twice => SourceKind::Twice,
-        TypeKind::LeftOut => SourceKind::LeftOut,
-        TypeKind::BadCall => SourceKind::BadCall,
-        TypeKind::BadJump => SourceKind::BadJump,
-        TypeKind::BadConst => SourceKind::BadConst,
-        TypeKind::BadInit => SourceKind::BadInit,
-        TypeKind::BadType => SourceKind::BadType,
-        TypeKind::DataFull => SourceKind::DataFull,
-        TypeKind::NoMain => SourceKind::NoMain,
-    }
 }
 
 // The place of an offset, and that of the end for every larger one.
@@ -145,7 +105,7 @@ pub fn read_source(alloc: Global, bytes: &[u8]) -> Result<Program, SourceFault>
         Err(TokenFault::NoMemory) => return Err(SourceFault::NoMemory),
         Err(TokenFault::At { place, kind }) => return Err(SourceFault::At {
             place: place_at(bytes, place),
-            kind: token_kind(kind),
+            kind: SourceKind::Tokens(kind),
         }),
     };
     let ast = match parse(alloc, &list) {
@@ -165,7 +125,7 @@ pub fn read_source(alloc: Global, bytes: &[u8]) -> Result<Program, SourceFault>
         Err(TypeFault::NoMemory) => Err(SourceFault::NoMemory),
         Err(TypeFault::At { place, kind }) => Err(SourceFault::At {
             place: place_at(bytes, place),
-            kind: type_kind(kind),
+            kind: SourceKind::Types(kind),
         }),
     }
 }

@@ -1,9 +1,7 @@
 use Rattle.std.proofs.Common.{subst, sym, ap, ◌∙◌}
-use Rattle.c_phrases.specs.Classes.{seen}
-use Rattle.c_phrases.specs.Grammar.{IsUnit}
 use Rattle.c_phrases.specs.UnitShapes.{unit_of}
 use Rattle.c_tokens.specs.Grammar.{Tokens}
-use Rattle.c_typed.specs.Sources.{place_at, type_kind}
+use Rattle.c_typed.specs.Sources.{place_at}
 use Rattle.c_sound.proofs.Bytes.{bytes_fit}
 use Rattle.c_typed.proofs.Firsts.{not_here_first, too_deep_first, types_first, no_fault}
 use Rattle.c_typed.proofs.source.read_source.Goals as goal
@@ -43,6 +41,5 @@ returns-clause-first c =
     types_first c.args.bytes.now c.in-Ok.list.items ts c.deref.ensures.value c.in-Ok.ensures.only c.in-Ok.ensures.refused
     (c.tokens_are_ended.ensures 0 c.args.bytes.now ts (subst (Tokens 0 c.args.bytes.now) (sym c.deref.ensures.value) c.in-Ok.ensures.found))
     c.in-Ok-parse.ast c.in-Ok-parse.ensures.only c.in-Ok-parse.ensures.first c.in-Err-At-check.field-0 c.in-Err-At-check.place c.in-Err-At-check.kind
-    c.place_at-in-Err-At-check.result c.type_kind.result c.in-Err-At-check.field-0-is
-    (c.place_at-in-Err-At-check.ensures ∙ ap (place_at c.args.bytes.now) c.in-Err-At-check.place-is) (c.type_kind.ensures ∙ ap type_kind c.in-Err-At-check.kind-is)
-    c.in-Err-At-check.ensures.first
+    c.place_at-in-Err-At-check.result c.in-Err-At-check.field-0-is
+    (c.place_at-in-Err-At-check.ensures ∙ ap (place_at c.args.bytes.now) c.in-Err-At-check.place-is) c.in-Err-At-check.ensures.first
