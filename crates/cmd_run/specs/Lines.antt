@@ -2,14 +2,9 @@
 use Rattle.std.specs.Prelude.{ℕ, List, ◌++◌, codes}
 use Rattle.std.specs.Fmt.{decimal}
 use Rattle.vax_reader.specs.declared.fault.AsmKind.{AsmKind}
-use Rattle.vax_reader.specs.declared.fault.AsmKind.TheVariants.{Word, Operands, Cut}
+use Rattle.vax_reader.specs.WrongLine.{kind_name}
 use Rattle.vax_machine.specs.declared.loading.LoadFault.{LoadFault}
 use Rattle.vax_machine.specs.declared.loading.LoadFault.TheVariants as loading_fault
-
-abbrev pub kind_name : AsmKind → List ℕ
-kind_name Word = codes "Word"
-kind_name Operands = codes "Operands"
-kind_name Cut = codes "Cut"
 
 -- the first line that is not of the grammar
 abbrev pub wrong_line : ℕ → AsmKind → List ℕ

@@ -1,27 +1,17 @@
 // The lines that refuse an assembly text.
 ghost use Rattle.std.specs.Prelude.{◌≡◌, IfOk};
-ghost use Rattle.cmd_run.specs.Lines.{kind_name, wrong_line, label_line, load_line};
+ghost use Rattle.cmd_run.specs.Lines.{wrong_line, label_line, load_line};
 
 use gg_base::{Name, NoMemory, Text};
 use std::alloc::Global;
 use vax_machine::LoadFault;
 use vax_reader::AsmKind;
 
-fn kind_name(kind: AsmKind) -> &'static str
-    ensures { result.now ≡ kind_name kind }
-{
-    match kind {
-        AsmKind::Word => "Word",
-        AsmKind::Operands => "Operands",
-        AsmKind::Cut => "Cut",
-    }
-}
-
 /// The line that names the first line that is not of the grammar.
 pub fn wrong_line(alloc: Global, line: u64, kind: AsmKind) -> Result<Text, NoMemory>
     ensures { IfOk result (λ text. text ≡ wrong_line line kind) }
 {
-    let text = format!(in alloc; "ggvax: line {line}: {}\n", kind_name(kind))?;
+    let text = format!(in alloc; "ggvax: line {line}: {}\n", kind.name())?;
     Ok(Text::from_vec(text.into_bytes()))
 }
 

@@ -1,4 +1,4 @@
--- What is wrong with a line that may not stand where it stands.
+-- What is wrong with a line that may not stand where it stands, and what that is called.
 use Rattle.std.specs.Prelude.{◌≡◌, ◌⊎◌, ℕ, true, List, [], ◌∷◌, ◌++◌, codes}
 use Rattle.std.specs.List.{Contains}
 use Rattle.vax_core.specs.declared.op.Op.{Op}
@@ -56,3 +56,9 @@ abbrev pub IsKind : Stage → List ℕ → AsmKind → Type 0
 IsKind stage rest kinds.Cut = ¬ Contains rest 10
 IsKind stage rest kinds.Operands = Contains rest 10 × (BeginsLabel rest ⊎ BeginsAllowed stage rest)
 IsKind stage rest kinds.Word = Contains rest 10 × ¬ BeginsLabel rest × ¬ BeginsAllowed stage rest
+
+-- the kind's name
+abbrev pub kind_name : AsmKind → List ℕ
+kind_name kinds.Word = codes "Word"
+kind_name kinds.Operands = codes "Operands"
+kind_name kinds.Cut = codes "Cut"

@@ -1,4 +1,7 @@
 // Why no code was read.
+ghost use Rattle.std.specs.Prelude.{◌≡◌};
+ghost use Rattle.vax_reader.specs.WrongLine.{kind_name};
+
 use std::alloc::{AllocError, AllocFailed};
 
 /// What is wrong with a line.
@@ -10,6 +13,19 @@ pub enum AsmKind {
     Operands,
     /// It has no line feed, or the text ends before its `.text` line.
     Cut,
+}
+
+impl AsmKind {
+    /// Its name in a report.
+    pub fn name(self) -> &'static str
+        ensures { result.now ≡ kind_name self }
+    {
+        match self {
+            AsmKind::Word => "Word",
+            AsmKind::Operands => "Operands",
+            AsmKind::Cut => "Cut",
+        }
+    }
 }
 
 /// Why a text is no code's.
