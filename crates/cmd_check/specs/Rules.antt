@@ -9,7 +9,7 @@ use Rattle.md_reader.specs.State.{Content}
 use Rattle.sel_terms.specs.Effects.{EffectShape, effect_of}
 use Rattle.sel_terms.specs.Text.{effect_text}
 use Rattle.sel_target.specs.declared.fault.TemplateKind.{TemplateKind}
-use Rattle.sel_target.specs.declared.fault.TemplateKind.TheVariants as template_kind
+use Rattle.sel_target.specs.Faults.{template_kind_name}
 use Rattle.sel_parse.specs.declared.fault.ShowFault.{ShowFault}
 use Rattle.sel_parse.specs.declared.fault.ShowFault.TheVariants as faults
 use Rattle.sel_parse.specs.Shown.{Refusal, PoolSmall, Template, Unshown, first_refusal}
@@ -18,11 +18,6 @@ use Rattle.gg_accepted.specs.vax_templates.specs.Found.{found, saved_found}
 -- the first thing that stands against the rules of a description, or the lines that save and reload, on the VAX
 abbrev pub vax_refusal : Content → Option Refusal
 vax_refusal d = first_refusal found saved_found d
-
-abbrev pub template_kind_name : TemplateKind → List ℕ
-template_kind_name template_kind.NotInstr = codes "NotInstr"
-template_kind_name template_kind.WrongSize = codes "WrongSize"
-template_kind_name template_kind.Order = codes "Order"
 
 abbrev pub need_line : ℕ → ℕ → List ℕ
 need_line rule need = codes "ggvax: rule " ++ (decimal rule ++ (codes " needs " ++ (decimal need ++ codes " registers\n")))

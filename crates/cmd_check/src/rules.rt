@@ -2,7 +2,7 @@
 ghost use Rattle.std.specs.Prelude.{◌≡◌, IfOk, IfErr, OnOk, None};
 ghost use Rattle.cmd_session.specs.Writing.{change};
 ghost use Rattle.sel_terms.specs.Effects.{effect_of};
-ghost use Rattle.cmd_check.specs.Rules.{vax_refusal, template_kind_name, need_line, template_line, unlike_lines, TellsFault, RulesRefused};
+ghost use Rattle.cmd_check.specs.Rules.{vax_refusal, need_line, template_line, unlike_lines, TellsFault, RulesRefused};
 
 use cmd_session::{Status, no_memory, refuse_with};
 use gg_accepted::{Accepted, accept};
@@ -15,16 +15,6 @@ use sel_target::TemplateKind;
 use sel_terms::{Effect, show_effect};
 use std::alloc::Global;
 
-fn template_kind_name(kind: TemplateKind) -> &'static str
-    ensures { result.now ≡ template_kind_name kind }
-{
-    match kind {
-        TemplateKind::NotInstr => "NotInstr",
-        TemplateKind::WrongSize => "WrongSize",
-        TemplateKind::Order => "Order",
-    }
-}
-
 fn need_line(alloc: Global, rule: u32, need: u32) -> Result<Text, NoMemory>
     ensures { IfOk result (λ text. text ≡ need_line rule need) }
 {
@@ -35,7 +25,7 @@ fn need_line(alloc: Global, rule: u32, need: u32) -> Result<Text, NoMemory>
 fn template_line(alloc: Global, rule: u32, line: u32, kind: TemplateKind) -> Result<Text, NoMemory>
     ensures { IfOk result (λ text. text ≡ template_line rule line kind) }
 {
-    let kind = template_kind_name(kind);
+    let kind = kind.name();
     let text = format!(in alloc; "ggvax: rule {rule} line {line}: {kind}\n")?;
     Ok(Text::from_vec(text.into_bytes()))
 }

@@ -2,6 +2,7 @@
 pub mod Calls
 pub mod Courses
 pub mod EffectTerms
+pub mod Faults
 pub mod Instances
 pub mod Laws
 pub mod Meaning

@@ -1,4 +1,6 @@
 // Why a template has no effect.
+ghost use Rattle.std.specs.Prelude.{◌≡◌};
+ghost use Rattle.sel_target.specs.Faults.{template_kind_name};
 
 use gg_base::NoMemory;
 use std::alloc::{AllocError, AllocFailed};
@@ -12,6 +14,19 @@ pub enum TemplateKind {
     WrongSize,
     /// A dividing line isn't the first, or an operand is read behind the first line that writes a result in its register.
     Order,
+}
+
+impl TemplateKind {
+    /// Its name in a report.
+    pub fn name(self) -> &'static str
+        ensures { result.now ≡ template_kind_name self }
+    {
+        match self {
+            TemplateKind::NotInstr => "NotInstr",
+            TemplateKind::WrongSize => "WrongSize",
+            TemplateKind::Order => "Order",
+        }
+    }
 }
 
 /// Why a rule, or a line that saves or reloads, has no effect.
