@@ -1,17 +1,18 @@
 -- Each status comes where its cause is there.
-use Rattle.std.proofs.Common.{◌≡◌, ◌<◌, ℕ, List, length, Option, Some, None, inl, inr, refl, sym, ap, subst, ◌∙◌, arith}
+use Rattle.std.proofs.Common.{◌≡◌, ◌<◌, ◌+◌, ℕ, List, length, Option, Some, None, inl, inr, refl, sym, ap, subst, ◌∙◌, arith}
 use Rattle.gg_outside.specs.Outside.{Content, Stored, IsThat, IsLonger}
-use Rattle.cmd_session.specs.Reading.{Intake, LosesAll, GivesAll, HasOver, Fails as InputFails}
+use Rattle.cmd_session.specs.Reading.{Intake, LosesAll, GivesAll, HasOver, TakesAtMost, Fails as InputFails}
 use Rattle.cmd_session.specs.Lines.{end_status}
 use Rattle.cmd_session.specs.declared.status.Status.{Status}
 use Rattle.cmd_session.specs.declared.status.Status.TheVariants as statuses
 use Rattle.gg_base.specs.declared.run.End.{End}
 use Rattle.cmd_files.specs.Forms.{Form, Runner, Holds, HoldsNone}
-use Rattle.cmd_files.specs.Outsides.{HasNoFault}
+use Rattle.cmd_files.specs.Outsides.{FailsAtMost, HasNoFault}
 use Rattle.cmd_files.specs.Stages.{input_limit}
 use Rattle.cmd_files.specs.Calls.{Call, GetsInput, Starts}
 use Rattle.cmd_files.specs.Outcome.{RanTo, IsRefusedAs, Leaves}
 use Rattle.cmd_files.specs.Exact.{IsLongFile, IsNoItem, IsItem, LeavesLong, LeavesBytes, IsAnswer, Answers}
+use Rattle.cmd_files.specs.Commands.{IsRunOfFile}
 
 -- what the file of a call is
 abbrev file_of : Call → Content
@@ -158,7 +159,7 @@ ends {A = A} form runner result call item bytes h l able (Ran other given starts
     inl (is ∙ ap (λ (x : A). end_status (runner.run x given call.count).end) (same_item form (file_of call) item other h starts.finds.holds)
     ∙ ap (λ (b : List ℕ). end_status (runner.run item b call.count).end) (gives_is call.input bytes given l.left starts.input.all))
 
-pub exactly : {A : Type 0} (form : Form A) (runner : Runner A) (result : Status) (call : Call) → Leaves form runner result call → HasNoFault call.name call.at →
+exactly : {A : Type 0} (form : Form A) (runner : Runner A) (result : Status) (call : Call) → Leaves form runner result call → HasNoFault call.name call.at →
     (InputFails call.input → ⊥) → Answers form runner result call
 exactly form runner result call leaves none unbroken =
     let kind = kinds form runner result call leaves none unbroken in
@@ -169,3 +170,8 @@ exactly form runner result call leaves none unbroken =
       unable = λ item bytes h l f. unable form runner result call item bytes h l f kind;
       ends = λ item bytes h l able. ends form runner result call item bytes h l able kind;
     }
+
+-- such a call is that of a command that runs the item of a file: that each status comes follows from what each says
+pub run_of_file : {A : Type 0} (form : Form A) (runner : Runner A) (result : Status) (call : Call) → Leaves form runner result call → FailsAtMost call.name call.at.folder →
+    TakesAtMost (input_limit + 1) call.input → IsRunOfFile form runner result call
+run_of_file form runner result call leaves names taken = record { leaves = leaves; exact = exactly form runner result call leaves; names = names; taken = taken }

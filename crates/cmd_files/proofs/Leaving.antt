@@ -11,7 +11,7 @@ use Rattle.cmd_session.specs.Telling.{IsRefused, IsStarved, Tells}
 use Rattle.cmd_files.specs.Forms.{Form, Runner, IsOfFiles}
 use Rattle.cmd_files.specs.Outsides.{FileIsWrong}
 use Rattle.cmd_files.specs.Stages.{FileRefused, Unread, LongFile, WrongFile, StarvedFile}
-use Rattle.cmd_files.specs.Stages.{ToldRun, Unable, Told, StarvedRun}
+use Rattle.cmd_files.specs.Stages.{InputRefused, BrokenInput, LongInput, StarvedInput, ToldRun, Unable, Told, StarvedRun}
 use Rattle.cmd_files.specs.Calls.{Call, Finds, GetsInput, Starts}
 use Rattle.cmd_files.specs.Outcome.{RanTo, IsUnable, Leaves}
 
@@ -59,6 +59,18 @@ refused_file form runner result call (WrongFile is line wrong unfailed told) inp
 refused_file form runner result call (StarvedFile starved names) input out =
     at_status form runner result statuses.NoMemory call starved.0
     (record { names = names; input = inl input.unbroken; out = inl out; report = starved.1 })
+
+-- the input was refused
+pub refused_input : {A : Type 0} (form : Form A) (runner : Runner A) (result : Status) (call : Call) (item : A) → Finds form call item →
+    InputRefused call.input result call.at.report → IsUntouched call.at.out → Leaves form runner result call
+refused_input form runner result call item finds (BrokenInput is fails told) untouched =
+    at_status form runner result statuses.InputFault call is (record { item = item; finds = finds; fails = fails; untouched = untouched; line = told })
+refused_input form runner result call item finds (LongInput is longer unbroken told) untouched =
+    at_status form runner result statuses.TooLong call is
+    (inr (record { item = item; finds = finds; longer = longer; unbroken = unbroken; untouched = untouched; line = told }))
+refused_input form runner result call item finds (StarvedInput starved once) untouched =
+    at_status form runner result statuses.NoMemory call starved.0
+    (record { names = inl finds.unfailed; input = once; out = inl untouched; report = starved.1 })
 
 -- an end was told with its status
 told_end : {A : Type 0} (form : Form A) (runner : Runner A) (end : End) (result : Status) (call : Call) → RanTo form runner call end → result ≡ end_status end →

@@ -5,3 +5,4 @@ pub mod Stages
 pub mod Calls
 pub mod Outcome
 pub mod Exact
+pub mod Commands

@@ -1,11 +1,9 @@
 // The command `run A N`.
-ghost use Rattle.std.specs.Prelude.{◌≡◌, ◌+◌, ℕ, List};
-ghost use Rattle.cmd_session.specs.Reading.{intake, TakesAtMost};
-ghost use Rattle.cmd_files.specs.Outsides.{lookup, outside, FailsAtMost};
-ghost use Rattle.cmd_files.specs.Stages.{input_limit};
+ghost use Rattle.std.specs.Prelude.{◌≡◌, ℕ, List};
+ghost use Rattle.cmd_session.specs.Reading.{intake};
+ghost use Rattle.cmd_files.specs.Outsides.{outside};
 ghost use Rattle.cmd_files.specs.Calls.{call_of};
-ghost use Rattle.cmd_files.specs.Outcome.{Leaves};
-ghost use Rattle.cmd_files.specs.Exact.{IsExact};
+ghost use Rattle.cmd_files.specs.Commands.{IsRunOfFile};
 ghost use Rattle.cmd_run.specs.Texts.{text_form, code_runner};
 
 use crate::text::CodeText;
@@ -25,16 +23,12 @@ pub fn run_text<F: Folder, I: Source, O: Sink, E: Sink>(
     out: &mut O,
     report: &mut E,
 ) -> Status
-    // What each status says of the file, of the input, of the run, and of what both outputs gained.
-    ensures leaves { Leaves text_form code_runner result (call_of name.now count (intake I.Source input.old input.new)
+    // What each status says of the file, of the input, of the run, and of what both outputs gained; that each comes where its cause is
+    // there; and what is asked of the folder and taken of the input.
+    ensures runs { IsRunOfFile text_form code_runner result (call_of name.now count (intake I.Source input.old input.new)
         (outside F.Folder O.Sink E.Sink folder.old folder.new out.old out.new report.old report.new)) }
-    // And that each comes where its cause is there, but for counted faults and want of memory.
-    ensures exact { IsExact text_form code_runner result (call_of name.now count (intake I.Source input.old input.new)
-        (outside F.Folder O.Sink E.Sink folder.old folder.new out.old out.new report.old report.new)) }
-    // The folder is asked for that name alone, and stays as it was; one byte beyond the limit is taken of the input at most.
-    ensures names { FailsAtMost name.now (lookup F.Folder folder.old folder.new) }
+    // The folder stays as it was.
     ensures holds { (n : List ℕ) → F.holds folder.new n ≡ F.holds folder.old n }
-    ensures taken { TakesAtMost (input_limit + 1) (intake I.Source input.old input.new) }
 {
     run_file::<CodeText, F, I, O, E>(alloc, name, count, folder, input, out, report)
 }

@@ -19,28 +19,28 @@ returns-in-Meaning-clause-meaning g c = λ source count said.
     carried (λ s n. Leaves source_form source_runner c.run_source.result (call_of s n
     (intake g.I.Source c.args.input.now c.run_source.new.input)
     (outside g.F.Folder g.O.Sink g.E.Sink c.args.folder.now c.run_source.new.folder c.args.out.now c.run_source.new.out c.args.report.now c.run_source.new.report)))
-    _ _ _ _ (only_meaning _ _ _ _ c.in-Some.ensures.only c.in-Meaning.is source count said) c.run_source.ensures.leaves
+    _ _ _ _ (only_meaning _ _ _ _ c.in-Some.ensures.only c.in-Meaning.is source count said) c.run_source.ensures.runs.leaves
 
 pub returns-in-Meaning-clause-meaning_exact : goal.returns-in-Meaning-clause-meaning_exact
 returns-in-Meaning-clause-meaning_exact g c = λ source count said.
     carried (λ s n. IsExact source_form source_runner c.run_source.result (call_of s n
     (intake g.I.Source c.args.input.now c.run_source.new.input)
     (outside g.F.Folder g.O.Sink g.E.Sink c.args.folder.now c.run_source.new.folder c.args.out.now c.run_source.new.out c.args.report.now c.run_source.new.report)))
-    _ _ _ _ (only_meaning _ _ _ _ c.in-Some.ensures.only c.in-Meaning.is source count said) c.run_source.ensures.exact
+    _ _ _ _ (only_meaning _ _ _ _ c.in-Some.ensures.only c.in-Meaning.is source count said) c.run_source.ensures.runs.exact
 
 pub returns-in-Run-clause-run : goal.returns-in-Run-clause-run
 returns-in-Run-clause-run g c = λ text count said.
     carried (λ s n. Leaves text_form code_runner c.run_text.result (call_of s n
     (intake g.I.Source c.args.input.now c.run_text.new.input)
     (outside g.F.Folder g.O.Sink g.E.Sink c.args.folder.now c.run_text.new.folder c.args.out.now c.run_text.new.out c.args.report.now c.run_text.new.report)))
-    _ _ _ _ (only_run _ _ _ _ c.in-Some.ensures.only c.in-Run.is text count said) c.run_text.ensures.leaves
+    _ _ _ _ (only_run _ _ _ _ c.in-Some.ensures.only c.in-Run.is text count said) c.run_text.ensures.runs.leaves
 
 pub returns-in-Run-clause-run_exact : goal.returns-in-Run-clause-run_exact
 returns-in-Run-clause-run_exact g c = λ text count said.
     carried (λ s n. IsExact text_form code_runner c.run_text.result (call_of s n
     (intake g.I.Source c.args.input.now c.run_text.new.input)
     (outside g.F.Folder g.O.Sink g.E.Sink c.args.folder.now c.run_text.new.folder c.args.out.now c.run_text.new.out c.args.report.now c.run_text.new.report)))
-    _ _ _ _ (only_run _ _ _ _ c.in-Some.ensures.only c.in-Run.is text count said) c.run_text.ensures.exact
+    _ _ _ _ (only_run _ _ _ _ c.in-Some.ensures.only c.in-Run.is text count said) c.run_text.ensures.runs.exact
 
 pub returns-in-Check-clause-check : goal.returns-in-Check-clause-check
 returns-in-Check-clause-check g c = λ d said.
