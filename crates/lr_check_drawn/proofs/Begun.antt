@@ -6,8 +6,7 @@ use Rattle.tree_core.specs.Grammar.{kids}
 use Rattle.md_reader.specs.declared.types.Sym.{Sym}
 use Rattle.lr_check_sets.specs.Automaton.{Automaton}
 use Rattle.lr_check_sets.specs.Trees.{May}
-use Rattle.lr_check_sets.specs.Answers.{Leaf}
-use Rattle.lr_check.specs.Tree.{Node}
+use Rattle.lr_check.specs.Tree.{Node, Token}
 use Rattle.lr_check.specs.Statement.{KidsFit}
 use Rattle.lr_check_found.specs.declared.places.Place.{Place}
 use Rattle.lr_check_found.specs.declared.places.Origin.{Origin}
@@ -68,7 +67,7 @@ up_grows g (up_more u o) = up_more (up_grows g u) (over_grows g o)
 module _ (A : Automaton) (f : FoundView) (nodes : List Node) (whole : AreWhole nodes)
     (draws : (i p : ℕ) (x : Place) (s : List Sym) → SettlesAt f i x s p → Draws A f nodes i x) where
   -- a tree that begins with the token
-  pub begins_with : (o : ℕ) (k : Tok) (ks : List ℕ) (v : Sort) → IsNode nodes o k ks [] → May k v → (us : List Leaf) × (BeginsWith v k us × Stands nodes (o ∷ []) us)
+  pub begins_with : (o : ℕ) (k : Tok) (ks : List ℕ) (v : Sort) → IsNode nodes o k ks [] → May k v → (us : List Token) × (BeginsWith v k us × Stands nodes (o ∷ []) us)
   begins_with o k ks v there may =
       let fit : KidsFit nodes ks (kids k) = whole.typed.each o (record { tok = k; kids = ks; answers = [] }) there in
       let h : HaveLeaves nodes ks (kids k) = kids_leaves nodes whole ks (kids k) fit in (

@@ -6,8 +6,7 @@ use Rattle.tree_core.specs.declared.token.Sort.{Sort}
 use Rattle.tree_core.specs.Grammar.{kids}
 use Rattle.lr_tables.proofs.Members.{In, In-Contains}
 use Rattle.lr_check_sets.specs.Trees.{May}
-use Rattle.lr_check_sets.specs.Answers.{Leaf}
-use Rattle.lr_check.specs.Tree.{Node}
+use Rattle.lr_check.specs.Tree.{Node, Token}
 use Rattle.lr_check.specs.Statement.{fits_at, KidsFit}
 use Rattle.lr_check_parse.specs.Typed as parse
 use Rattle.lr_check_samples.specs.Fixed.{leaf, tokens}
@@ -23,12 +22,12 @@ typed_append {ys = ys} {v = v} (parse.begins {xs = xs} {w = w} t fit h) g =
     parse.begins t fit (subst (λ l. parse.AreTyped l (w ++ v)) (append_assoc (kids t) xs ys) (typed_append h g))
 
 -- a token and the trees of its kids
-pub typed_node : (k : Tok) (x : Sort) (us : List Leaf) → May k x → parse.AreTyped (kids k) (tokens us) → parse.AreTyped (x ∷ []) (k ∷ tokens us)
+pub typed_node : (k : Tok) (x : Sort) (us : List Token) → May k x → parse.AreTyped (kids k) (tokens us) → parse.AreTyped (x ∷ []) (k ∷ tokens us)
 typed_node k x us may h = parse.begins k may (subst (λ l. parse.AreTyped l (tokens us)) (sym (append-nil (kids k))) h)
 
 -- the trees of nodes that fit
 pub record HaveLeaves (nodes : List Node) (ks : List ℕ) (xs : List Sort) : Type 0 where
-  pub leaves : List Leaf
+  pub leaves : List Token
   pub stands : Stands nodes ks leaves
   pub typed : parse.AreTyped xs (tokens leaves)
 

@@ -32,10 +32,10 @@ use Rattle.lr_check_sets.proofs.Whole_ends.{whole_trees_end}
 use Rattle.lr_check_sets.proofs.Meeting.{tables_meet_laws}
 use Rattle.lr_check_sets.specs.Exact.{MeetsLaws}
 use Rattle.lr_check_sets.specs.Trees.{Tree, Trees, node, no_trees, more_trees, May, may, onto, onto_all}
-use Rattle.lr_check_sets.specs.Answers.{Leaf, leaves, leaves_all}
+use Rattle.lr_check_sets.specs.Answers.{leaves, leaves_all}
 use Rattle.tree_core.specs.declared.token.Sort.{Sort}
 use Rattle.tree_core.specs.declared.token.Sort.TheVariants as sort
-use Rattle.lr_check_law.specs.Accepting.{tokens_of, EveryTreeIsAccepted}
+use Rattle.lr_check_law.specs.Accepting.{EveryTreeIsAccepted}
 use Rattle.lr_check.specs.declared.sample.Outcome.TheVariants as outcome
 use Rattle.lr_check.specs.Tree.{Token}
 use Rattle.lr_check.specs.Parse as parse
@@ -240,12 +240,10 @@ module _ (t : TableView) (v : IsValid t.content) (b : IsNumbered t) where
       (candidates t.content.rules (stmt_of t.content.classes) (length t.content.classes) (is_grammar t.content v) t.content t.rows b a p k (leads t a p here)) refl
 
 mutual
-  pub toks-tree : {x : Sort} (v : Tree x) (w : List Leaf) → toks (map (λ (l : Leaf). record { tok = l.tok; answers = l.answers }) (leaves v w)) ≡ onto v
-      (toks (map (λ (l : Leaf). record { tok = l.tok; answers = l.answers }) w))
+  pub toks-tree : {x : Sort} (v : Tree x) (w : List Token) → toks (leaves v w) ≡ onto v (toks w)
   toks-tree (node k m c vs) w = ap (λ l. k ∷ l) (toks-trees vs w)
 
-  toks-trees : {xs : List Sort} (vs : Trees xs) (w : List Leaf) → toks (map (λ (l : Leaf). record { tok = l.tok; answers = l.answers }) (leaves_all vs w)) ≡ onto_all vs
-      (toks (map (λ (l : Leaf). record { tok = l.tok; answers = l.answers }) w))
+  toks-trees : {xs : List Sort} (vs : Trees xs) (w : List Token) → toks (leaves_all vs w) ≡ onto_all vs (toks w)
   toks-trees no_trees w = refl
   toks-trees (more_trees v vs) w = toks-tree v (leaves_all vs w) ∙ ap (onto v) (toks-trees vs w)
 
@@ -253,17 +251,15 @@ not_end : (k : Tok) (x : Sort) → May k x → k ≡ tok.End → ⊥
 not_end k x m e = false≢true (subst (λ z. may z x ≡ true) e m)
 
 mutual
-  no-ends : {x : Sort} (v : Tree x) (w : List Leaf) → NoEnds (map (λ (l : Leaf). record { tok = l.tok; answers = l.answers }) w) →
-      NoEnds (map (λ (l : Leaf). record { tok = l.tok; answers = l.answers }) (leaves v w))
+  no-ends : {x : Sort} (v : Tree x) (w : List Token) → NoEnds w → NoEnds (leaves v w)
   no-ends (node {x = x} k m c vs) w h = (not_end k x m, no-ends-all vs w h)
 
-  no-ends-all : {xs : List Sort} (vs : Trees xs) (w : List Leaf) → NoEnds (map (λ (l : Leaf). record { tok = l.tok; answers = l.answers }) w) →
-      NoEnds (map (λ (l : Leaf). record { tok = l.tok; answers = l.answers }) (leaves_all vs w))
+  no-ends-all : {xs : List Sort} (vs : Trees xs) (w : List Token) → NoEnds w → NoEnds (leaves_all vs w)
   no-ends-all no_trees w h = h
   no-ends-all (more_trees v vs) w h = no-ends v (leaves_all vs w) (no-ends-all vs w h)
 
 pub every_tree_is_accepted : EveryTreeIsAccepted
 every_tree_is_accepted t v b fine tree =
     let m : MeetsLaws t = tables_meet_laws t v b in
-    ending t v b (whole_trees_end (productions t.content.rules) (automaton_of t) m.no_end m.no_empty m.trees m.exact fine tree) 0 [] (tokens_of tree) [] (toks-tree tree [])
+    ending t v b (whole_trees_end (productions t.content.rules) (automaton_of t) m.no_end m.no_empty m.trees m.exact fine tree) 0 [] (leaves tree []) [] (toks-tree tree [])
     (no-ends tree [] tt) refl (λ x c. absurd (nowhere_in x c))

@@ -1,5 +1,5 @@
 -- Every typed tree is accepted, where the sets of the tables have no fault.
-use Rattle.std.specs.Prelude.{ℕ, List, [], map}
+use Rattle.std.specs.Prelude.{[]}
 use Rattle.tree_core.specs.declared.token.Sort.TheVariants as sort
 use Rattle.md_reader.specs.Valid.{IsValid}
 use Rattle.lr_tables.specs.View.{TableView}
@@ -8,17 +8,12 @@ use Rattle.lr_tables.specs.Promises.{IsNumbered}
 use Rattle.lr_check_sets.specs.Trees.{Tree}
 use Rattle.lr_check_sets.specs.Table.{automaton_of}
 use Rattle.lr_check_sets.specs.Faults.{NoFault}
-use Rattle.lr_check_sets.specs.Answers.{Leaf, leaves}
+use Rattle.lr_check_sets.specs.Answers.{leaves}
 use Rattle.lr_check.specs.declared.sample.Outcome.TheVariants as outcome
-use Rattle.lr_check.specs.Tree.{Token}
 use Rattle.lr_check.specs.Parse.{Ends}
-
--- a tree's tokens in prefix order, with their answers
-abbrev pub tokens_of : Tree sort.Stmt → List Token
-tokens_of v = map (λ (l : Leaf). record { tok = l.tok; answers = l.answers }) (leaves v [])
 
 -- the parse of each typed tree with its answers ends with accepting
 abbrev pub EveryTreeIsAccepted : Type 0
 EveryTreeIsAccepted =
     (t : TableView) → IsValid t.content → IsNumbered t → NoFault (automaton_of t) →
-    (v : Tree sort.Stmt) → Ends t.content.rules (stmt_of t.content.classes) 0 [] (tokens_of v) [] outcome.Done
+    (v : Tree sort.Stmt) → Ends t.content.rules (stmt_of t.content.classes) 0 [] (leaves v []) [] outcome.Done

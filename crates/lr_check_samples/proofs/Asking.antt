@@ -4,8 +4,9 @@ use Rattle.std.proofs.Common.{⊎_elim, subst, arith, length-append}
 use Rattle.std.specs.Prelude.{◌==◌, nat_lt, if◌then◌else◌}
 use Rattle.std.proofs.lemmas.Bool.{cases_lt, eq-eqb, ne_eqb, lt-ltb, le-ltb, eqb-true, and_parts, and_from, true≢false}
 use Rattle.md_reader.specs.declared.types.Sym.{Sym}
+use Rattle.lr_check.specs.Parse.{Part}
 use Rattle.lr_check_sets.specs.Automaton.{Automaton, Production, Candidate, shift, reduce, walk, size_of, Free}
-use Rattle.lr_check_sets.specs.Answers.{Entry, pick}
+use Rattle.lr_check_sets.specs.Answers.{pick}
 use Rattle.lr_check_sets.specs.Shapes.{wanted, IsTree}
 use Rattle.lr_check_sets.proofs.Asks.{pick_free, pick_yes, pick_no}
 use Rattle.lr_check_sets.proofs.Shapes.{tree_some}
@@ -24,7 +25,7 @@ pub record Taking (A : Automaton) (q : ℕ) (s : List Sym) (cs : List Candidate)
   pub left : rule.left ≡ c
   pub size : size_of rule ≡ length s
   pub deep : (a : List Sym) → walk A 0 a ≡ Some q → DeepIn a ds
-  pub picks : (b : List Bool) (z : List Entry) → pick cs (hold s (own ++ b) ++ pushes ds z) ≡ record { taken = Some (reduce rule); stack = hold s b ++ z }
+  pub picks : (b : List Bool) (z : List Part) → pick cs (hold s (own ++ b) ++ pushes ds z) ≡ record { taken = Some (reduce rule); stack = hold s b ++ z }
 
 by_if : {X : Type 0} (b c : Bool) (x y : X) → b ≡ c → (if b then x else y) ≡ (if c then x else y)
 by_if b c x y e = ap (λ (d : Bool). if d then x else y) e

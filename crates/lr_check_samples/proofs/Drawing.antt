@@ -5,36 +5,29 @@ use Rattle.tree_core.specs.declared.token.Sort.{Sort}
 use Rattle.tree_core.specs.Grammar.{kids}
 use Rattle.lr_check_sets.specs.Automaton.{Automaton}
 use Rattle.lr_check_sets.specs.Trees.{May}
-use Rattle.lr_check_sets.specs.Answers.{Leaf}
 use Rattle.lr_check.specs.Tree.{Node, Token, Unfolds, goes_on}
 use Rattle.lr_check.specs.Statement.{fits_at}
 use Rattle.lr_check.proofs.Typed.{fit_none, fit_one, fit_two}
 use Rattle.lr_check_found.specs.declared.places.Place.{Place}
 use Rattle.lr_check_found.specs.Found.{FoundView, SettlesAt}
 use Rattle.lr_check_found.specs.Sound.{IsFound}
-use Rattle.lr_check_samples.specs.Fixed.{leaf, sample_tokens, fixed_leaf, fixed_one, fixed_two, fixed_reduced, at_root, at_only, at_first, at_second}
+use Rattle.lr_check_samples.specs.Fixed.{leaf, fixed_leaf, fixed_one, fixed_two, fixed_reduced, at_root, at_only, at_first, at_second}
 use Rattle.lr_check_samples.specs.Nodes.{Stands, IsNode, DrawnKids, kids_leaf, kids_one, kids_two, kids_reduced, DrawnRound, round_root, round_only, round_first, round_second}
 use Rattle.lr_check_samples.specs.Claims.{IsDrawn, IsRound, DrawnTreesStand}
 use Rattle.lr_check_samples.proofs.Making.{AreSame, same_settling, settles_of, settled_so, MadeLeaf, MadeOne, MadeTwo, MadeReduced, made_leaf, made_one, made_two, made_reduced}
 
-sample-append : (u v : List Leaf) → sample_tokens (u ++ v) ≡ sample_tokens u ++ sample_tokens v
-sample-append [] v = refl
-sample-append (l ∷ u) v = ap (λ w. record { tok = l.tok; answers = l.answers } ∷ w) (sample-append u v)
-
 unfolds_as : {nodes : List Node} {ks ks' : List ℕ} {u u' : List Token} → ks ≡ ks' → u ≡ u' → Unfolds nodes ks u → Unfolds nodes ks' u'
 unfolds_as {nodes = nodes} {ks = ks} {u' = u'} e f h = subst (λ l. Unfolds nodes l u') e (subst (λ l. Unfolds nodes ks l) f h)
 
-pub stands_as : {nodes : List Node} {ks : List ℕ} {u v : List Leaf} → u ≡ v → Stands nodes ks u → Stands nodes ks v
+pub stands_as : {nodes : List Node} {ks : List ℕ} {u v : List Token} → u ≡ v → Stands nodes ks u → Stands nodes ks v
 stands_as {nodes = nodes} {ks = ks} e h = subst (Stands nodes ks) e h
 
-pub stands_both : {nodes : List Node} {ks ls : List ℕ} {u v : List Leaf} → Stands nodes ks u → Stands nodes ls v → Stands nodes (ks ++ ls) (u ++ v)
+pub stands_both : {nodes : List Node} {ks ls : List ℕ} {u v : List Token} → Stands nodes ks u → Stands nodes ls v → Stands nodes (ks ++ ls) (u ++ v)
 stands_both {ks = ks} {ls = ls} {u = u} {v = v} a b = record {
-  unfolds = λ rest w h.
-      unfolds_as (sym (append_assoc ks ls rest)) (sym (append_assoc (sample_tokens u) (sample_tokens v) w) ∙ ap (λ l. l ++ w) (sym (sample-append u v)))
-      (a.unfolds (ls ++ rest) (sample_tokens v ++ w) (b.unfolds rest w h));
+  unfolds = λ rest w h. unfolds_as (sym (append_assoc ks ls rest)) (sym (append_assoc u v w)) (a.unfolds (ls ++ rest) (v ++ w) (b.unfolds rest w h));
 }
 
-pub stands_node : {nodes : List Node} {n : ℕ} {k : Tok} {ks : List ℕ} {own : List Bool} {ws : List Leaf} → IsNode nodes n k ks own → Stands nodes ks ws → Stands nodes (n ∷ []) (leaf k own ∷ ws)
+pub stands_node : {nodes : List Node} {n : ℕ} {k : Tok} {ks : List ℕ} {own : List Bool} {ws : List Token} → IsNode nodes n k ks own → Stands nodes ks ws → Stands nodes (n ∷ []) (leaf k own ∷ ws)
 stands_node {k = k} {ks = ks} {own = own} there h = record { unfolds = λ rest u g. goes_on (record { tok = k; kids = ks; answers = own }) there (h.unfolds rest u g) }
 
 stands_none : {nodes : List Node} → Stands nodes [] []
@@ -97,7 +90,7 @@ module _ (A : Automaton) (f : FoundView) (nodes : List Node) (found : IsFound A 
             k.fit x g.whole g.state whole_at;
       }
 
-  pub round : {n top root : ℕ} → DrawnRound A f nodes n top root → (ws : List Leaf) → Stands nodes (top ∷ []) ws → IsRound A f nodes n root ws
+  pub round : {n top root : ℕ} → DrawnRound A f nodes n top root → (ws : List Token) → Stands nodes (top ∷ []) ws → IsRound A f nodes n root ws
   round (round_root is) ws h = record { before = []; behind = []; context = at_root is; stands = stands_as (sym (append-nil ws)) h }
   round (round_only {y = y} is there kid node c) ws h =
       let k = round c (leaf y.token [] ∷ ws) (stands_node node h) in
@@ -118,7 +111,7 @@ module _ (A : Automaton) (f : FoundView) (nodes : List Node) (found : IsFound A 
       }
   round (round_second {y = y} {z = z} {own = own} is there at first kid node c) ws h =
       let d = drawn kid in
-      let u : List Leaf = leaf z.token own ∷ d.leaves in
+      let u : List Token = leaf z.token own ∷ d.leaves in
       let k = round c (leaf y.token [] ∷ (u ++ ws)) (stands_node node (stands_both (stands_node first d.stands) h)) in
       record {
         before = k.before ++ leaf y.token [] ∷ u;

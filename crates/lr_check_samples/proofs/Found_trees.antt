@@ -7,11 +7,11 @@ use Rattle.tree_core.specs.Grammar.{kids}
 use Rattle.md_reader.specs.declared.types.Sym.{Sym}
 use Rattle.md_reader.specs.declared.types.Sym.TheVariants as grammar_symbol
 use Rattle.lr_tables.specs.View.{TableView}
+use Rattle.lr_check.specs.Tree.{Token}
 use Rattle.lr_check_sets.specs.Automaton.{Automaton, Production, reduce, walk, size_of, Free, IsTable}
 use Rattle.lr_check_sets.specs.Shapes.{IsTree}
 use Rattle.lr_check_sets.specs.Exact.{MeetsLaws}
 use Rattle.lr_check_sets.specs.Table.{automaton_of, productions}
-use Rattle.lr_check_sets.specs.Answers.{Leaf}
 use Rattle.lr_check_sets.specs.Sums as sets
 use Rattle.lr_check_sets.proofs.Walks.{walk-append}
 use Rattle.lr_check_sets.proofs.Tables.{table_of_items}
@@ -40,7 +40,7 @@ token_shape k n many = record {
 sum_settles : {A : Automaton} {q : ℕ} {k b : Tok} {s : List Sym} → sets.Sum A q k b s → sets.Settling A q k b s
 sum_settles (sets.sum c set ws f o) = set
 
-leads_as : {A : Automaton} {q : ℕ} {k n : Tok} {s s' : List Sym} {ws : List Leaf} {own own' : List Bool} {ds ds' : List ℕ} → s ≡ s' → own ≡ own' → ds ≡ ds' →
+leads_as : {A : Automaton} {q : ℕ} {k n : Tok} {s s' : List Sym} {ws : List Token} {own own' : List Bool} {ds ds' : List ℕ} → s ≡ s' → own ≡ own' → ds ≡ ds' →
     Leads A q k n s ws own ds → Leads A q k n s' ws own' ds'
 leads_as {A = A} {q = q} {k = k} {n = n} {s = s} {s' = s'} {ws = ws} {own = own} {own' = own'} {ds = ds} {ds' = ds'} e f g l =
     subst (λ u. Leads A q k n u ws own' ds') e (subst (λ u. Leads A q k n s ws u ds') f (subst (λ u. Leads A q k n s ws own u) g l))
@@ -70,14 +70,14 @@ module _ (t : TableView) (m : MeetsLaws t) where
 
   module _ (f : FoundView) (found : IsFound (automaton_of t) f) where
     -- a kid's tree, where it is wanted
-    kid_leads : {p q : ℕ} {y z : Place} {s u : List Sym} {w : Sort} {b : Tok} {ws : List Leaf} {own : List Bool} {ds : List ℕ} {h : ℕ} →
+    kid_leads : {p q : ℕ} {y z : Place} {s u : List Sym} {w : Sort} {b : Tok} {ws : List Token} {own : List Bool} {ds : List ℕ} {h : ℕ} →
         AreSame y z s u p h → Fits z w q b → Leads (automaton_of t) y.state y.token y.behind s ws own ds → Leads (automaton_of t) q y.token b u ws own ds
     kid_leads {q = q} {y = y} {z = z} {s = s} {u = u} {b = b} {ws = ws} {own = own} {ds = ds} same fits l =
         subst (λ v. Leads (automaton_of t) q y.token b v ws own ds) same.lists
         (subst (λ c. Leads (automaton_of t) q y.token c s ws own ds) (ap (λ (x : Place). x.behind) same.places ∙ fits.behind)
         (subst (λ j. Leads (automaton_of t) j y.token y.behind s ws own ds) (ap (λ (x : Place). x.state) same.places ∙ fits.state) l))
 
-    first_kid : (x : Place) (q : ℕ) (k n : Tok) (s : List Sym) (l : ℕ) (ws : List Leaf) (own : List Bool) (ds : List ℕ) → sets.Place (automaton_of t) x.state x.token x.behind →
+    first_kid : (x : Place) (q : ℕ) (k n : Tok) (s : List Sym) (l : ℕ) (ws : List Token) (own : List Bool) (ds : List ℕ) → sets.Place (automaton_of t) x.state x.token x.behind →
         (automaton_of t).go x.state (grammar_symbol.Tok x.token) ≡ Some q → length (kids x.token) ≡ suc l → Leads (automaton_of t) q k n s ws own ds →
         Leads (automaton_of t) x.state x.token n (s ++ (grammar_symbol.Tok x.token ∷ [])) (leaf k own ∷ ws) (root_no 1 ds) (further 1 ds)
     first_kid x q k n s l ws own ds place go many kid =
@@ -85,7 +85,7 @@ module _ (t : TableView) (m : MeetsLaws t) where
         with_kid (automaton_of t) x.state q x.token k n (grammar_symbol.Tok x.token ∷ []) s [] ws [] own [] ds l here.below here.at go (token_shape x.token (suc l) many) (omega arith)
         (opened (automaton_of t) table x.state q x.token k go) kid
 
-    second_kid : (x : Place) (q p : ℕ) (k k' n : Tok) (s u : List Sym) (ws ws' : List Leaf) (own own' : List Bool) (ds ds' : List ℕ) → sets.Place (automaton_of t) x.state x.token x.behind →
+    second_kid : (x : Place) (q p : ℕ) (k k' n : Tok) (s u : List Sym) (ws ws' : List Token) (own own' : List Bool) (ds ds' : List ℕ) → sets.Place (automaton_of t) x.state x.token x.behind →
         (automaton_of t).go x.state (grammar_symbol.Tok x.token) ≡ Some q → length (kids x.token) ≡ 2 → IsTree s → walk (automaton_of t) q s ≡ Some p →
         Leads (automaton_of t) q k k' s ws own ds → Leads (automaton_of t) p k' n u ws' own' ds' →
         Leads (automaton_of t) x.state x.token n (u ++ (s ++ (grammar_symbol.Tok x.token ∷ []))) (leaf k own ∷ (ws ++ (leaf k' own' ∷ ws')))
@@ -100,7 +100,7 @@ module _ (t : TableView) (m : MeetsLaws t) where
         (omega (arith, size))
         (first_kid x q k k' s 1 ws own ds place go many kid) second)
 
-    pub leads : {i : ℕ} {ws : List Leaf} {own : List Bool} {ds : List ℕ} → Fixed (automaton_of t) f i ws own ds → (x : Place) (s : List Sym) (p : ℕ) → SettlesAt f i x s p →
+    pub leads : {i : ℕ} {ws : List Token} {own : List Bool} {ds : List ℕ} → Fixed (automaton_of t) f i ws own ds → (x : Place) (s : List Sym) (p : ℕ) → SettlesAt f i x s p →
         Leads (automaton_of t) x.state x.token x.behind s ws own ds
     leads (fixed_leaf by) x s p at =
         let k = settled_so (automaton_of t) f found by at in

@@ -5,10 +5,11 @@ use Rattle.tree_core.specs.declared.token.Sort.{Sort}
 use Rattle.tree_core.specs.Grammar.{kids}
 use Rattle.md_reader.specs.declared.types.Sym.{Sym}
 use Rattle.md_reader.specs.declared.types.Sym.TheVariants as grammar_symbol
+use Rattle.lr_check.specs.Tree.{Token}
 use Rattle.lr_check_sets.specs.Automaton.{Automaton, Production, size_of, reduced}
 use Rattle.lr_check_sets.proofs.Links.{drop_whole}
 use Rattle.lr_check_sets.specs.Trees.{May, Tree, Trees, node, no_trees, more_trees}
-use Rattle.lr_check_sets.specs.Answers.{Leaf, leaves, leaves_all}
+use Rattle.lr_check_sets.specs.Answers.{leaves, leaves_all}
 use Rattle.lr_check_sets.specs.Faults.{Circles, one, more}
 use Rattle.lr_check_sets.proofs.Reached.{some_trees}
 use Rattle.lr_check_parse.specs.Typed.{AreTyped, ends, begins}
@@ -27,10 +28,10 @@ use Rattle.lr_check_samples.proofs.Making.{settles_of}
 
 -- trees are typed
 mutual
-  typed_tree : {x : Sort} {xs : List Sort} (v : Tree x) (w : List Leaf) → AreTyped xs (tokens w) → AreTyped (x ∷ xs) (tokens (leaves v w))
+  typed_tree : {x : Sort} {xs : List Sort} (v : Tree x) (w : List Token) → AreTyped xs (tokens w) → AreTyped (x ∷ xs) (tokens (leaves v w))
   typed_tree {x = x} (node k may answers vs) w h = begins k may (typed_trees vs w h)
 
-  typed_trees : {ys xs : List Sort} (vs : Trees ys) (w : List Leaf) → AreTyped xs (tokens w) → AreTyped (ys ++ xs) (tokens (leaves_all vs w))
+  typed_trees : {ys xs : List Sort} (vs : Trees ys) (w : List Token) → AreTyped xs (tokens w) → AreTyped (ys ++ xs) (tokens (leaves_all vs w))
   typed_trees no_trees w h = h
   typed_trees (more_trees v vs) w h = typed_tree v (leaves_all vs w) (typed_trees vs w h)
 

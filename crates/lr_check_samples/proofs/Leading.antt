@@ -4,8 +4,10 @@ use Rattle.std.proofs.lemmas.Option.{none-some}
 use Rattle.tree_core.specs.declared.token.Tok.{Tok}
 use Rattle.md_reader.specs.declared.types.Sym.{Sym}
 use Rattle.md_reader.specs.declared.types.Sym.TheVariants as grammar_symbol
+use Rattle.lr_check.specs.Tree.{Token}
+use Rattle.lr_check.specs.Parse.{Part, symbols}
 use Rattle.lr_check_sets.specs.Automaton.{Automaton, Production, reduce, walk, size_of, IsTable}
-use Rattle.lr_check_sets.specs.Answers.{Entry, Leaf, symbols, next_token, pick, held_reduced, Step, reduces, Runs, then_step}
+use Rattle.lr_check_sets.specs.Answers.{next_token, pick, held_reduced, Step, reduces, Runs, then_step}
 use Rattle.lr_check_sets.specs.Shapes.{IsTree}
 use Rattle.lr_check_sets.proofs.Walks.{walk-append}
 use Rattle.lr_check_sets.proofs.Reached.{hold, symbols-hold, length-hold, owner-hold, symbols-append, shift_runs, runs-append}
@@ -17,23 +19,23 @@ use Rattle.lr_check_samples.proofs.Asking.{Taking}
 
 -- A node k with its own answers, and the leaves of kids' trees: from each stack of the state q that has a no at each of the depths, before the token n,
 -- their parse leads to the list s, with what is left of the answers.
-pub record Leads (A : Automaton) (q : ℕ) (k n : Tok) (s : List Sym) (ws : List Leaf) (own : List Bool) (ds : List ℕ) : Type 0 where
+pub record Leads (A : Automaton) (q : ℕ) (k n : Tok) (s : List Sym) (ws : List Token) (own : List Bool) (ds : List ℕ) : Type 0 where
   pub deep : (a : List Sym) → walk A 0 a ≡ Some q → DeepIn a ds
-  pub runs : (b : List Bool) (a : List Sym) (z : List Entry) (w : List Leaf) → walk A 0 a ≡ Some q → symbols z ≡ a → next_token w ≡ Some n →
+  pub runs : (b : List Bool) (a : List Sym) (z : List Part) (w : List Token) → walk A 0 a ≡ Some q → symbols z ≡ a → next_token w ≡ Some n →
       Runs A (pushes ds z) (record { tok = k; answers = own ++ b } ∷ (ws ++ w)) (hold s b ++ z) w
 
 -- a leaf with its answers
-abbrev pub leaf_with : Tok → List Bool → Leaf
+abbrev pub leaf_with : Tok → List Bool → Token
 leaf_with k own = record { tok = k; answers = own }
 
-one_step : (A : Automaton) (p : ℕ) (t : Tok) (r : Production) (u y : List Entry) (w : List Leaf) → next_token w ≡ Some t → walk A 0 (symbols u) ≡ Some p →
+one_step : (A : Automaton) (p : ℕ) (t : Tok) (r : Production) (u y : List Part) (w : List Token) → next_token w ≡ Some t → walk A 0 (symbols u) ≡ Some p →
     pick (A.candidates p t) u ≡ record { taken = Some (reduce r); stack = y } → Step A u w (held_reduced r y) w
 one_step A p t r u y [] g at pk = absurd (none-some t g)
 one_step A p t r u y (d ∷ w) g at pk =
     let same : d.tok ≡ t = cc in
     reduces at (subst (λ m. pick (A.candidates p m) u ≡ record { taken = Some (reduce r); stack = y }) (sym same) pk)
 
-runs_as : {A : Automaton} {x x' y y' : List Entry} {w w' v : List Leaf} → x ≡ x' → w ≡ w' → y ≡ y' → Runs A x w y v → Runs A x' w' y' v
+runs_as : {A : Automaton} {x x' y y' : List Part} {w w' v : List Token} → x ≡ x' → w ≡ w' → y ≡ y' → Runs A x w y v → Runs A x' w' y' v
 runs_as {A = A} {x = x} {x' = x'} {y = y} {y' = y'} {w = w} {w' = w'} {v = v} e f g r =
     subst (λ u. Runs A u w' y' v) e (subst (λ u. Runs A x u y' v) f (subst (λ u. Runs A x w u v) g r))
 
@@ -46,7 +48,7 @@ module _ (A : Automaton) where
   }
 
   -- a kid more
-  pub with_kid : (q p : ℕ) (k m t : Tok) (s s' : List Sym) (ws ws' : List Leaf) (own own' : List Bool) (ds ds' : List ℕ) (l : ℕ) (a0 : List Sym) → walk A 0 a0 ≡ Some q →
+  pub with_kid : (q p : ℕ) (k m t : Tok) (s s' : List Sym) (ws ws' : List Token) (own own' : List Bool) (ds ds' : List ℕ) (l : ℕ) (a0 : List Sym) → walk A 0 a0 ≡ Some q →
       walk A q s ≡ Some p → PartShape s (suc l) → 0 < length s → Leads A q k m s ws own ds → Leads A p m t s' ws' own' ds' →
       Leads A q k t (s' ++ s) (ws ++ leaf_with m own' ∷ ws') (own ++ root_no (length s) ds') (ds ++ further (length s) ds')
   with_kid q p k m t s s' ws ws' own own' ds ds' l a0 at0 walks shape some part kid = record {
@@ -71,14 +73,14 @@ module _ (A : Automaton) where
       far : AreFar (length s) ds'
       far = are_far s a0 l shape ds' (kid.deep (s ++ a0) (there a0 at0))
 
-  result : (s : List Sym) (r : Production) (b : List Bool) (z : List Entry) → IsTree s → size_of r ≡ length s → held_reduced r (hold s b ++ z) ≡ hold (grammar_symbol.Class r.left ∷ []) b ++ z
+  result : (s : List Sym) (r : Production) (b : List Bool) (z : List Part) → IsTree s → size_of r ≡ length s → held_reduced r (hold s b ++ z) ≡ hold (grammar_symbol.Class r.left ∷ []) b ++ z
   result s r b z tree size =
       ap₂ (λ u v. record { symbol = grammar_symbol.Class r.left; answers = u } ∷ v) (owner-hold r.right s b z size (omega (arith, size, tree_some s tree)))
       (drop_at (hold s b) z (size_of r) (length-hold s b ∙ sym size))
 
   -- one reduction of the whole list
   pub reduced_step : (q p : ℕ) (t : Tok) (s : List Sym) (c : ℕ) (own : List Bool) (ds : List ℕ) → IsTree s → walk A q s ≡ Some p → Taking A q s (A.candidates p t) own ds c →
-      (b : List Bool) (a : List Sym) (z : List Entry) (w : List Leaf) → walk A 0 a ≡ Some q → symbols z ≡ a → next_token w ≡ Some t →
+      (b : List Bool) (a : List Sym) (z : List Part) (w : List Token) → walk A 0 a ≡ Some q → symbols z ≡ a → next_token w ≡ Some t →
       Step A (hold s (own ++ b) ++ pushes ds z) w (hold (grammar_symbol.Class c ∷ []) b ++ z) w
   reduced_step q p t s c own ds tree walks k b a z w at e g =
       let there : walk A 0 (symbols (hold s (own ++ b) ++ pushes ds z)) ≡ Some p =
@@ -88,7 +90,7 @@ module _ (A : Automaton) where
       (result s k.rule b z tree k.size ∙ ap (λ x. hold (grammar_symbol.Class x ∷ []) b ++ z) k.left)
       (one_step A p t k.rule (hold s (own ++ b) ++ pushes ds z) (hold s b ++ z) w g there (k.picks b z))
 
-  pub reduced_whole : (q p : ℕ) (k t : Tok) (s : List Sym) (c : ℕ) (ws : List Leaf) (own own' : List Bool) (ds ds' : List ℕ) → IsTree s → walk A q s ≡ Some p →
+  pub reduced_whole : (q p : ℕ) (k t : Tok) (s : List Sym) (c : ℕ) (ws : List Token) (own own' : List Bool) (ds ds' : List ℕ) → IsTree s → walk A q s ≡ Some p →
       Taking A q s (A.candidates p t) own' ds' c → Leads A q k t s ws own ds → Leads A q k t (grammar_symbol.Class c ∷ []) ws (own ++ own') (ds ++ ds')
   reduced_whole q p k t s c ws own own' ds ds' tree walks take set = record {
     deep = λ a at. deep-append a ds ds' (set.deep a at) (take.deep a at);

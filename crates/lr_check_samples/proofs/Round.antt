@@ -7,10 +7,12 @@ use Rattle.tree_core.specs.declared.token.Sort.{Sort}
 use Rattle.md_reader.specs.declared.types.Sym.{Sym}
 use Rattle.md_reader.specs.declared.types.Sym.TheVariants as grammar_symbol
 use Rattle.lr_tables.specs.View.{TableView}
+use Rattle.lr_check.specs.Tree.{Token}
+use Rattle.lr_check.specs.Parse.{Part}
 use Rattle.lr_check_sets.specs.Automaton.{Automaton, walk, go_from, IsTable}
 use Rattle.lr_check_sets.specs.Exact.{MeetsLaws}
 use Rattle.lr_check_sets.specs.Table.{automaton_of}
-use Rattle.lr_check_sets.specs.Answers.{Entry, Leaf, next_token, the_end, pick, shifts, Runs, here, then_step}
+use Rattle.lr_check_sets.specs.Answers.{next_token, the_end, pick, shifts, Runs, here, then_step}
 use Rattle.lr_check_sets.proofs.Walks.{walk-append}
 use Rattle.lr_check_sets.proofs.Reached.{hold, runs-append}
 use Rattle.lr_check_sets.proofs.Fixed.{push_at, pushes}
@@ -28,7 +30,7 @@ use Rattle.lr_check_samples.proofs.Beginning.{BegunFirst, BegunSecond, begun_roo
 use Rattle.lr_check_samples.proofs.Found_trees.{table, leads}
 
 -- no at some depths is as nothing
-push-quiet : (d : ℕ) (s : List Sym) (z : List Entry) → AreAlike z (bare s) → AreAlike (push_at d z) (bare s)
+push-quiet : (d : ℕ) (s : List Sym) (z : List Part) → AreAlike z (bare s) → AreAlike (push_at d z) (bare s)
 push-quiet d [] [] h = tt
 push-quiet d (X ∷ s) [] h = absurd h
 push-quiet d [] (g ∷ z) h = absurd h
@@ -53,25 +55,25 @@ hold-bare (X ∷ []) a = refl
 hold-bare (X ∷ Y ∷ s) a = ap (λ l. record { symbol = X; answers = [] } ∷ l) (hold-bare (Y ∷ s) a)
 
 -- some steps to a stack of these symbols that answers no to all
-pub record Comes (A : Automaton) (z : List Entry) (w : List Leaf) (a : List Sym) (v : List Leaf) : Type 0 where
-  pub stack : List Entry
+pub record Comes (A : Automaton) (z : List Part) (w : List Token) (a : List Sym) (v : List Token) : Type 0 where
+  pub stack : List Part
   pub quiet : IsQuiet a stack
   pub runs : Runs A z w stack v
 
-pub comes-append : {A : Automaton} {z : List Entry} {u v w : List Leaf} {a b : List Sym} → (c : Comes A z u a v) → Comes A c.stack v b w → Comes A z u b w
+pub comes-append : {A : Automaton} {z : List Part} {u v w : List Token} {a b : List Sym} → (c : Comes A z u a v) → Comes A c.stack v b w → Comes A z u b w
 comes-append c d = record { stack = d.stack; quiet = d.quiet; runs = runs-append c.runs d.runs }
 
-comes_as : {A : Automaton} {z : List Entry} {u u' v : List Leaf} {a a' : List Sym} → u ≡ u' → a ≡ a' → Comes A z u a v → Comes A z u' a' v
+comes_as : {A : Automaton} {z : List Part} {u u' v : List Token} {a a' : List Sym} → u ≡ u' → a ≡ a' → Comes A z u a v → Comes A z u' a' v
 comes_as {A = A} {z = z} {u = u} {u' = u'} {v = v} {a = a} {a' = a'} e g c = subst (λ x. Comes A z x a' v) e (subst (λ x. Comes A z u x v) g c)
 
 -- a tree that leads to a list, on a stack that answers no to all
-pub comes_to_list : {A : Automaton} {q : ℕ} {k n : Tok} {s : List Sym} {ws : List Leaf} {own : List Bool} {ds : List ℕ} → Leads A q k n s ws own ds →
-    (b : List Bool) (a : List Sym) (z : List Entry) (w : List Leaf) →
+pub comes_to_list : {A : Automaton} {q : ℕ} {k n : Tok} {s : List Sym} {ws : List Token} {own : List Bool} {ds : List ℕ} → Leads A q k n s ws own ds →
+    (b : List Bool) (a : List Sym) (z : List Part) (w : List Token) →
     IsQuiet a z → walk A 0 a ≡ Some q → next_token w ≡ Some n → RunsSo A z (leaf k (own ++ b) ∷ (ws ++ w)) (hold s b ++ bare a) w
 comes_to_list {ds = ds} l b a z w quiet at next = runs_so z (l.runs b a (bare a) w at (symbols-bare a) next) (alike-trans (pushes ds (bare a)) (bare a) z (pushes-quiet ds a) quiet)
 
-pub comes_to_quiet : {A : Automaton} {q : ℕ} {k n : Tok} {s : List Sym} {ws : List Leaf} {own : List Bool} {ds : List ℕ} → Leads A q k n s ws own ds →
-    (a : List Sym) (z : List Entry) (w : List Leaf) →
+pub comes_to_quiet : {A : Automaton} {q : ℕ} {k n : Tok} {s : List Sym} {ws : List Token} {own : List Bool} {ds : List ℕ} → Leads A q k n s ws own ds →
+    (a : List Sym) (z : List Part) (w : List Token) →
     IsQuiet a z → walk A 0 a ≡ Some q → next_token w ≡ Some n → Comes A z (leaf k own ∷ (ws ++ w)) (s ++ a) w
 comes_to_quiet {A = A} {k = k} {s = s} {ws = ws} {own = own} l a z w quiet at next =
     let r : RunsSo A z (leaf k (own ++ []) ∷ (ws ++ w)) (hold s [] ++ bare a) w = comes_to_list l [] a z w quiet at next in
@@ -82,14 +84,14 @@ comes_to_quiet {A = A} {k = k} {s = s} {ws = ws} {own = own} l a z w quiet at ne
     }
 
 -- the place, with what is before it and behind it
-pub record Reaches (A : Automaton) (x : Place) (before behind : List Leaf) : Type 0 where
+pub record Reaches (A : Automaton) (x : Place) (before behind : List Token) : Type 0 where
   pub below : List Sym
   pub at : walk A 0 below ≡ Some x.state
   pub next : next_token (behind ++ the_end) ≡ Some x.behind
-  pub comes : (w : List Leaf) → next_token w ≡ Some x.token → Comes A [] (before ++ w) below w
+  pub comes : (w : List Token) → next_token w ≡ Some x.token → Comes A [] (before ++ w) below w
 
 -- an ancestor's token is shifted
-shifted : (A : Automaton) (table : IsTable A) (y : Place) (p : ℕ) (a : List Sym) (z : List Entry) (w : List Leaf) → A.go y.state (grammar_symbol.Tok y.token) ≡ Some p → walk A 0 a ≡ Some y.state →
+shifted : (A : Automaton) (table : IsTable A) (y : Place) (p : ℕ) (a : List Sym) (z : List Part) (w : List Token) → A.go y.state (grammar_symbol.Tok y.token) ≡ Some p → walk A 0 a ≡ Some y.state →
     IsQuiet a z →
     Comes A z (leaf y.token [] ∷ w) (grammar_symbol.Tok y.token ∷ a) w
 shifted A table y p a z w go at quiet = record {
@@ -101,7 +103,7 @@ shifted A table y p a z w go at quiet = record {
 walk_one : (A : Automaton) (y : Place) (p : ℕ) (a : List Sym) → A.go y.state (grammar_symbol.Tok y.token) ≡ Some p → walk A 0 a ≡ Some y.state → walk A 0 (grammar_symbol.Tok y.token ∷ a) ≡ Some p
 walk_one A y p a go at = ap (λ o. go_from A o (grammar_symbol.Tok y.token)) at ∙ go
 
-below_first : (A : Automaton) (table : IsTable A) (x y : Place) (before behind us : List Leaf) → Reaches A y before behind → BegunFirst A x y →
+below_first : (A : Automaton) (table : IsTable A) (x y : Place) (before behind us : List Token) → Reaches A y before behind → BegunFirst A x y →
     next_token (us ++ (behind ++ the_end)) ≡ Some x.behind →
     Reaches A x (before ++ leaf y.token [] ∷ []) (us ++ behind)
 below_first A table x y before behind us r g next = record {
@@ -113,11 +115,11 @@ below_first A table x y before behind us r g next = record {
       comes_as (sym (append_assoc before (leaf y.token [] ∷ []) w)) refl (comes-append c (shifted A table y g.state r.below c.stack w g.go r.at c.quiet));
 }
 
-begins_so : {v : Sort} {k : Tok} {us : List Leaf} (w : List Leaf) → BeginsWith v k us → next_token (us ++ w) ≡ Some k
+begins_so : {v : Sort} {k : Tok} {us : List Token} (w : List Token) → BeginsWith v k us → next_token (us ++ w) ≡ Some k
 begins_so w b = ap (λ l. next_token (l ++ w)) b.first
 
 module _ (t : TableView) (m : MeetsLaws t) (f : FoundView) (found : IsFound (automaton_of t) f) where
-  below_second : (x y z : Place) (j p : ℕ) (s : List Sym) (before behind ws : List Leaf) (own : List Bool) (ds : List ℕ) → Reaches (automaton_of t) y before behind →
+  below_second : (x y z : Place) (j p : ℕ) (s : List Sym) (before behind ws : List Token) (own : List Bool) (ds : List ℕ) → Reaches (automaton_of t) y before behind →
       BegunSecond (automaton_of t) f j x y → SettlesAt f j z s p →
       Fixed (automaton_of t) f j ws own ds → Reaches (automaton_of t) x (before ++ leaf y.token [] ∷ leaf z.token own ∷ ws) behind
   below_second x y z j p s before behind ws own ds r g at kid =
@@ -134,7 +136,7 @@ module _ (t : TableView) (m : MeetsLaws t) (f : FoundView) (found : IsFound (aut
         at = walk-append (automaton_of t) 0 g.state s (grammar_symbol.Tok y.token ∷ r.below) one ∙ (walks ∙ ap Some (sym g.second_fits.state));
         next = r.next ∙ ap Some (sym g.second_fits.behind);
         comes = λ w e.
-            let u : List Leaf = leaf z.token own ∷ (ws ++ w) in
+            let u : List Token = leaf z.token own ∷ (ws ++ w) in
             let c : Comes (automaton_of t) [] (before ++ (leaf y.token [] ∷ u)) r.below (leaf y.token [] ∷ u) = r.comes (leaf y.token [] ∷ u) refl in
             let d : Comes (automaton_of t) [] (before ++ (leaf y.token [] ∷ u)) (grammar_symbol.Tok y.token ∷ r.below) u =
             comes-append c (shifted (automaton_of t) (table t m) y g.state r.below c.stack u g.has.go r.at c.quiet) in
@@ -142,7 +144,7 @@ module _ (t : TableView) (m : MeetsLaws t) (f : FoundView) (found : IsFound (aut
             (comes-append d (comes_to_quiet l (grammar_symbol.Tok y.token ∷ r.below) d.stack w d.quiet one e));
       }
 
-  pub reaches : {n : ℕ} {before behind : List Leaf} → Context (automaton_of t) f n before behind → (x : Place) → IsPlaceAt f n x → Reaches (automaton_of t) x before behind
+  pub reaches : {n : ℕ} {before behind : List Token} → Context (automaton_of t) f n before behind → (x : Place) → IsPlaceAt f n x → Reaches (automaton_of t) x before behind
   reaches {n = n} (at_root is) x at =
       let g = begun_root (begun_so (automaton_of t) f found n x origin.Root at is) refl in
       record { below = []; at = ap Some (sym g.state); next = ap Some (sym g.behind); comes = λ w e. record { stack = []; quiet = tt; runs = here } }

@@ -1,12 +1,9 @@
 -- The laws.
-use Rattle.std.proofs.Common.{◌≡◌, List, [], ◌∷◌, map, refl, ap, sym, subst}
 use Rattle.lr_check_sets.specs.Exact.{MeetsLaws}
 use Rattle.lr_check_sets.specs.Table.{automaton_of}
-use Rattle.lr_check_sets.specs.Answers.{Leaf}
 use Rattle.lr_check_sets.proofs.Meeting.{tables_meet_laws}
-use Rattle.lr_check.specs.Tree.{Token}
 use Rattle.lr_check_parse.specs.Typed.{IsStatement}
-use Rattle.lr_check_samples.specs.Fixed.{tokens, sample_tokens}
+use Rattle.lr_check_samples.specs.Fixed.{tokens}
 use Rattle.lr_check_samples.specs.Claims.{FoundTreesLead, ContextsLead, SamplesBlock, SamplesLoop}
 use Rattle.lr_check_samples.proofs.Found_trees.{leads}
 use Rattle.lr_check_samples.proofs.Round.{comes_to_quiet, reaches}
@@ -24,18 +21,14 @@ contexts_lead t v b f found n x before behind at c =
     let r = reaches t (tables_meet_laws t v b) f found c x at in
     record { below = r.below; at = r.at; next = r.next; comes = λ w e. let k = r.comes w e in record { stack = k.stack; quiet = k.quiet; runs = k.runs } }
 
-toks-same : (w : List Leaf) → map (λ (l : Token). l.tok) (sample_tokens w) ≡ tokens w
-toks-same [] = refl
-toks-same (l ∷ w) = ap (λ u. l.tok ∷ u) (toks-same w)
-
 pub samples_block : SamplesBlock
 samples_block t v b f found w s =
     let m : MeetsLaws t = tables_meet_laws t v b in
     let typed : IsStatement (tokens w) = blocking_typed (automaton_of t) f found s in
-    record { statement = subst IsStatement (sym (toks-same w)) typed; blocks = blocks_of t v b m w (typed_no_ends w typed) (blocking_blocks t m f found s) }
+    record { statement = typed; blocks = blocks_of t v b m w (typed_no_ends w typed) (blocking_blocks t m f found s) }
 
 pub samples_loop : SamplesLoop
 samples_loop t v b f found w s =
     let m : MeetsLaws t = tables_meet_laws t v b in
     let typed : IsStatement (tokens w) = looping_typed (automaton_of t) f found s in
-    record { statement = subst IsStatement (sym (toks-same w)) typed; loops = loops_of t v b m w (typed_no_ends w typed) (looping_loops t m f found s) }
+    record { statement = typed; loops = loops_of t v b m w (typed_no_ends w typed) (looping_loops t m f found s) }

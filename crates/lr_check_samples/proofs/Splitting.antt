@@ -5,7 +5,7 @@ use Rattle.std.specs.Prelude.{if◌then◌else◌}
 use Rattle.std.proofs.lemmas.Bool.{cases_lt, cases_eq, eq-eqb, ne_eqb, lt-ltb, le-ltb}
 use Rattle.std.proofs.lemmas.List.{take-append-le}
 use Rattle.md_reader.specs.declared.types.Sym.{Sym}
-use Rattle.lr_check_sets.specs.Answers.{Entry}
+use Rattle.lr_check.specs.Parse.{Part}
 use Rattle.lr_check_sets.specs.Shapes.{wanted}
 use Rattle.lr_check_sets.proofs.Reached.{hold}
 use Rattle.lr_check_sets.proofs.Shapes.{PartShape}
@@ -44,7 +44,7 @@ are_far s a0 l shape (d ∷ ds) h = (⊎_elim (λ lt. absurd (inside lt)) (λ ge
         let g : wanted 1 (take (d + 1) s) ≡ Some 1 = ap (wanted 1) (sym (take-append-le (d + 1) s a0 (omega arith))) ∙ h.0.1 in
         shape.tops (take (d + 1) s) (drop (d + 1) s) 0 (sym top) (omega (arith, length-take (d + 1) s)) (omega (arith, length-drop (d + 1) s)) g
 
-pub split_is : (s : List Sym) (ds : List ℕ) (b : List Bool) (z : List Entry) → AreFar (length s) ds →
+pub split_is : (s : List Sym) (ds : List ℕ) (b : List Bool) (z : List Part) → AreFar (length s) ds →
     pushes ds (hold s b ++ z) ≡ hold s (root_no (length s) ds ++ b) ++ pushes (further (length s) ds) z
 split_is s [] b z far = refl
 split_is s (d ∷ ds) b z far = ap (push_at d) (split_is s ds b z far.1) ∙ ⊎_elim here past (cases_eq (length s) (suc d))

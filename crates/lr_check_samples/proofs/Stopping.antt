@@ -3,12 +3,14 @@ use Rattle.std.proofs.Common.{◌≡◌, ℕ, List, [], ◌∷◌, ◌++◌, Som
 use Rattle.tree_core.specs.declared.token.Tok.{Tok}
 use Rattle.md_reader.specs.declared.types.Sym.{Sym}
 use Rattle.lr_tables.specs.View.{TableView}
+use Rattle.lr_check.specs.Tree.{Token}
+use Rattle.lr_check.specs.Parse.{Part, symbols}
 use Rattle.lr_check_sets.specs.Automaton.{Automaton, walk, CanBlock}
 use Rattle.lr_check_sets.specs.Exact.{MeetsLaws}
 use Rattle.lr_check_sets.specs.Shapes.{IsTree}
 use Rattle.lr_check_sets.specs.Table.{automaton_of, productions}
 use Rattle.lr_check_sets.specs.Sums as sets
-use Rattle.lr_check_sets.specs.Answers.{Entry, Leaf, symbols, next_token, the_end, Runs, IsBlocked, Reductions, one_reduction, more_reductions}
+use Rattle.lr_check_sets.specs.Answers.{next_token, the_end, Runs, IsBlocked, Reductions, one_reduction, more_reductions}
 use Rattle.lr_check_sets.proofs.Walks.{walk-append}
 use Rattle.lr_check_sets.proofs.Reached.{hold, symbols-hold, symbols-append, runs-append}
 use Rattle.lr_check_sets.proofs.Shapes as gaps
@@ -28,34 +30,34 @@ use Rattle.lr_check_samples.proofs.Making.{IsSettledAt, settled_at}
 use Rattle.lr_check_samples.proofs.Found_trees.{leads, is_tree, takes}
 use Rattle.lr_check_samples.proofs.Round.{Reaches, reaches, Comes, comes_to_quiet, pushes-quiet}
 
-pub record BlocksBy (A : Automaton) (w : List Leaf) : Type 0 where
-  pub stack : List Entry
-  pub rest : List Leaf
+pub record BlocksBy (A : Automaton) (w : List Token) : Type 0 where
+  pub stack : List Part
+  pub rest : List Token
   pub runs : Runs A [] (w ++ the_end) stack rest
   pub blocks : IsBlocked A stack rest
 
-pub record LoopsBy (A : Automaton) (w : List Leaf) : Type 0 where
-  pub first : List Entry
-  pub second : List Entry
-  pub rest : List Leaf
+pub record LoopsBy (A : Automaton) (w : List Token) : Type 0 where
+  pub first : List Part
+  pub second : List Part
+  pub rest : List Token
   pub runs : Runs A [] (w ++ the_end) first rest
   pub turns : Reductions A rest first second
   pub same : symbols first ≡ symbols second
 
 -- a stack that answers no to all
-quiet_blocks : (A : Automaton) (p : ℕ) (t : Tok) (a : List Sym) (z : List Entry) (w : List Leaf) → IsQuiet a z → walk A 0 a ≡ Some p → next_token w ≡ Some t → CanBlock (A.candidates p t) →
+quiet_blocks : (A : Automaton) (p : ℕ) (t : Tok) (a : List Sym) (z : List Part) (w : List Token) → IsQuiet a z → walk A 0 a ≡ Some p → next_token w ≡ Some t → CanBlock (A.candidates p t) →
     IsBlocked A z w
 quiet_blocks A p t a z w quiet at next can =
     let k : PicksSo (A.candidates p t) None (bare a) z = quiet_takes_nothing (A.candidates p t) a z can quiet in
     is_blocked A p t z k.stack w next (ap (walk A 0) (symbols-quiet a z quiet) ∙ at) k.picks
 
-whole : (before ws behind : List Leaf) (l : Leaf) → (before ++ (l ∷ (ws ++ behind))) ++ the_end ≡ before ++ (l ∷ (ws ++ (behind ++ the_end)))
+whole : (before ws behind : List Token) (l : Token) → (before ++ (l ∷ (ws ++ behind))) ++ the_end ≡ before ++ (l ∷ (ws ++ (behind ++ the_end)))
 whole before ws behind l = append_assoc before (l ∷ (ws ++ behind)) the_end ∙ ap (λ u. before ++ (l ∷ u)) (append_assoc ws behind the_end)
 
 -- reductions of whole lists, one after another, by the answers to them
 record Turns (A : Automaton) (q : ℕ) (t : Tok) (s s' : List Sym) (own : List Bool) (ds : List ℕ) : Type 0 where
   tree : IsTree s'
-  goes : (b : List Bool) (a : List Sym) (z : List Entry) (w : List Leaf) → walk A 0 a ≡ Some q → symbols z ≡ a → next_token w ≡ Some t →
+  goes : (b : List Bool) (a : List Sym) (z : List Part) (w : List Token) → walk A 0 a ≡ Some q → symbols z ≡ a → next_token w ≡ Some t →
       Reductions A w (hold s (own ++ b) ++ pushes ds z) (hold s' b ++ z)
 
 module _ (t : TableView) (m : MeetsLaws t) where
@@ -83,10 +85,10 @@ module _ (t : TableView) (m : MeetsLaws t) where
       }
 
   module _ (f : FoundView) (found : IsFound (automaton_of t) f) where
-    pub blocking_blocks : {w : List Leaf} → BlockingSample (automaton_of t) f w → BlocksBy (automaton_of t) w
+    pub blocking_blocks : {w : List Token} → BlockingSample (automaton_of t) f w → BlocksBy (automaton_of t) w
     blocking_blocks (of_gap {n = n} {x = x} {before = before} {behind = behind} vs at none c typed) =
         let r : Reaches (automaton_of t) x before behind = reaches t m f found c x at in
-        let w : List Leaf = leaf x.token [] ∷ (vs ++ (behind ++ the_end)) in
+        let w : List Token = leaf x.token [] ∷ (vs ++ (behind ++ the_end)) in
         let k : Comes (automaton_of t) [] (before ++ w) r.below w = r.comes w refl in
         let can : CanBlock ((automaton_of t).candidates x.state x.token) =
         gaps.place_blocks (productions t.content.rules) (automaton_of t) m.no_end m.no_empty m.trees m.exact (place_back (found.places n x at).is_place) none in
@@ -100,8 +102,8 @@ module _ (t : TableView) (m : MeetsLaws t) where
         let r : Reaches (automaton_of t) x before behind = reaches t m f found c x at.place in
         let l : Leads (automaton_of t) x.state x.token x.behind s ws own ds = leads t m f found fixed x s p at in
         let h : IsSettledAt (automaton_of t) x s p = settled_at (automaton_of t) f found at in
-        let u : List Leaf = behind ++ the_end in
-        let w : List Leaf = leaf x.token own ∷ (ws ++ u) in
+        let u : List Token = behind ++ the_end in
+        let w : List Token = leaf x.token own ∷ (ws ++ u) in
         let k : Comes (automaton_of t) [] (before ++ w) r.below w = r.comes w refl in
         let k' : Comes (automaton_of t) k.stack w (s ++ r.below) u = comes_to_quiet l r.below k.stack u k.quiet r.at r.next in
         record {
@@ -111,16 +113,16 @@ module _ (t : TableView) (m : MeetsLaws t) where
           blocks = quiet_blocks (automaton_of t) p x.behind (s ++ r.below) k'.stack u k'.quiet (walk-append (automaton_of t) 0 x.state s r.below r.at ∙ h.walks) r.next can;
         }
 
-    pub looping_loops : {w : List Leaf} → LoopingSample (automaton_of t) f w → LoopsBy (automaton_of t) w
+    pub looping_loops : {w : List Token} → LoopingSample (automaton_of t) f w → LoopsBy (automaton_of t) w
     looping_loops (of_circle {p = p} {x = x} {s = s} {before = before} {behind = behind} {ws = ws} {own = own} {own' = own'} {ds = ds} {ds' = ds'} at c fixed round) =
         let r : Reaches (automaton_of t) x before behind = reaches t m f found c x at.place in
         let l : Leads (automaton_of t) x.state x.token x.behind s ws own ds = leads t m f found fixed x s p at in
         let h : IsSettledAt (automaton_of t) x s p = settled_at (automaton_of t) f found at in
         let g : Turns (automaton_of t) x.state x.behind s s own' ds' = turns h.is_place (is_tree t m h.settles) round in
-        let u : List Leaf = behind ++ the_end in
-        let w : List Leaf = leaf x.token (own ++ own') ∷ (ws ++ u) in
+        let u : List Token = behind ++ the_end in
+        let w : List Token = leaf x.token (own ++ own') ∷ (ws ++ u) in
         let k : Comes (automaton_of t) [] (before ++ w) r.below w = r.comes w refl in
-        let z : List Entry = pushes ds' (bare r.below) in
+        let z : List Part = pushes ds' (bare r.below) in
         let z_is : symbols z ≡ r.below = symbols-pushes ds' (bare r.below) ∙ symbols-bare r.below in
         let low : AreAlike (pushes ds z) k.stack =
         alike-trans (pushes ds z) (bare r.below) k.stack (subst (λ v. AreAlike v (bare r.below)) (pushes-append ds ds' (bare r.below)) (pushes-quiet (ds ++ ds') r.below)) k.quiet in

@@ -7,9 +7,9 @@ use Rattle.tree_core.specs.declared.token.Sort.TheVariants as sort
 use Rattle.tree_core.specs.Grammar.{kids, sort_of}
 use Rattle.tree_core.specs.Trees.{sort_fits}
 use Rattle.md_reader.specs.declared.types.Sym.{Sym}
+use Rattle.lr_check.specs.Tree.{Token}
 use Rattle.lr_check_sets.specs.Automaton.{Automaton}
 use Rattle.lr_check_sets.specs.Trees.{May}
-use Rattle.lr_check_sets.specs.Answers.{Leaf}
 use Rattle.lr_check_parse.specs.Typed.{AreTyped, ends, begins, IsStatement}
 use Rattle.lr_check_found.specs.declared.places.Place.{Place}
 use Rattle.lr_check_found.specs.declared.places.Origin.TheVariants as origin
@@ -37,7 +37,7 @@ reads_of : {xs : List Sort} {u : List Tok} → AreTyped xs u → (ys : List Sort
 reads_of ends ys = reads_none
 reads_of (begins {xs = xs} {w = w} k fits h) ys = reads_more k fits (subst (λ l. Reads l w ys) (append_assoc (kids k) xs ys) (reads_of h ys))
 
-pub tokens-append : (u v : List Leaf) → tokens (u ++ v) ≡ tokens u ++ tokens v
+pub tokens-append : (u v : List Token) → tokens (u ++ v) ≡ tokens u ++ tokens v
 tokens-append [] v = refl
 tokens-append (l ∷ u) v = ap (λ w. l.tok ∷ w) (tokens-append u v)
 
@@ -45,7 +45,7 @@ kids_of : (x y : Place) → x ≡ y → kids x.token ≡ kids y.token
 kids_of x y e = ap (λ (c : Place). kids c.token) e
 
 module _ (A : Automaton) (f : FoundView) (found : IsFound A f) where
-  fixed_reads : {i : ℕ} {ws : List Leaf} {own : List Bool} {ds : List ℕ} → Fixed A f i ws own ds → (x : Place) (s : List Sym) (p : ℕ) → SettlesAt f i x s p → (ys : List Sort) →
+  fixed_reads : {i : ℕ} {ws : List Token} {own : List Bool} {ds : List ℕ} → Fixed A f i ws own ds → (x : Place) (s : List Sym) (p : ℕ) → SettlesAt f i x s p → (ys : List Sort) →
       Reads (kids x.token ++ ys) (tokens ws) ys
   fixed_reads (fixed_leaf by) x s p at ys =
       let k = settled_so A f found by at in
@@ -77,14 +77,14 @@ module _ (A : Automaton) (f : FoundView) (found : IsFound A f) where
       subst (λ l. Reads (l ++ ys) (tokens ws) ys) (kids_of y x same.places) (fixed_reads set y v h set_at ys)
 
   -- a place, with what is wanted behind it
-  record Wants (x : Place) (before behind : List Leaf) : Type 0 where
+  record Wants (x : Place) (before behind : List Token) : Type 0 where
     wanted : Sort
     others : List Sort
     may : May x.token wanted
     reads : Reads (sort.Stmt ∷ []) (tokens before) (wanted ∷ others)
     typed : AreTyped others (tokens behind)
 
-  wants : {n : ℕ} {before behind : List Leaf} → Context A f n before behind → (x : Place) → IsPlaceAt f n x → Wants x before behind
+  wants : {n : ℕ} {before behind : List Token} → Context A f n before behind → (x : Place) → IsPlaceAt f n x → Wants x before behind
   wants {n = n} (at_root is) x at =
       let g = begun_root (begun_so A f found n x origin.Root at is) refl in
       record { wanted = sort.Stmt; others = []; may = g.may; reads = reads_none; typed = ends }
@@ -131,18 +131,18 @@ module _ (A : Automaton) (f : FoundView) (found : IsFound A f) where
       }
 
   -- a place's token with its kids' trees, in what is round it
-  whole : (x : Place) (before behind ws : List Leaf) (own : List Bool) → Wants x before behind → ((ys : List Sort) → Reads (kids x.token ++ ys) (tokens ws) ys) →
+  whole : (x : Place) (before behind ws : List Token) (own : List Bool) → Wants x before behind → ((ys : List Sort) → Reads (kids x.token ++ ys) (tokens ws) ys) →
       IsStatement (tokens (before ++ (leaf x.token own ∷ (ws ++ behind))))
   whole x before behind ws own r kid =
       subst (AreTyped (sort.Stmt ∷ [])) (sym (tokens-append before (leaf x.token own ∷ (ws ++ behind))))
       (typed_of r.reads (begins x.token r.may
       (subst (AreTyped (kids x.token ++ r.others)) (sym (tokens-append ws behind)) (typed_of (kid r.others) r.typed))))
 
-  pub blocking_typed : {w : List Leaf} → BlockingSample A f w → IsStatement (tokens w)
+  pub blocking_typed : {w : List Token} → BlockingSample A f w → IsStatement (tokens w)
   blocking_typed (of_gap {x = x} {before = before} {behind = behind} vs at none c typed) = whole x before behind vs [] (wants c x at) (reads_of typed)
   blocking_typed (of_dead {p = p} {x = x} {s = s} {before = before} {behind = behind} {ws = ws} {own = own} at can c fixed) =
       whole x before behind ws own (wants c x at.place) (fixed_reads fixed x s p at)
 
-  pub looping_typed : {w : List Leaf} → LoopingSample A f w → IsStatement (tokens w)
+  pub looping_typed : {w : List Token} → LoopingSample A f w → IsStatement (tokens w)
   looping_typed (of_circle {p = p} {x = x} {s = s} {before = before} {behind = behind} {ws = ws} {own = own} {own' = own'} at c fixed round) =
       whole x before behind ws (own ++ own') (wants c x at.place) (fixed_reads fixed x s p at)

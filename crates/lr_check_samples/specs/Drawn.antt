@@ -5,7 +5,6 @@ use Rattle.md_reader.specs.declared.types.Sym.{Sym}
 use Rattle.md_reader.specs.declared.types.Sym.TheVariants as grammar_symbol
 use Rattle.md_reader.specs.State.{Content}
 use Rattle.lr_check_sets.specs.Automaton.{Automaton, CanBlock}
-use Rattle.lr_check_sets.specs.Answers.{Leaf}
 use Rattle.lr_check.specs.Tree.{Node, Token, IsTree}
 use Rattle.lr_check_parse.specs.Typed.{AreTyped}
 use Rattle.lr_check_found.specs.declared.places.Place.{Place}
@@ -16,7 +15,7 @@ use Rattle.lr_check_samples.specs.Nodes.{Stands, IsNode, DrawnKids, DrawnRound}
 use Rattle.lr_check_samples.specs.Stops.{Blocking, Looping}
 
 pub data DrawnBlocking (A : Automaton) (f : FoundView) (nodes : List Node) : Type 0 where
-  drawn_gap : {n top root : ℕ} {x : Place} {ks : List ℕ} {vs : List Leaf} →
+  drawn_gap : {n top root : ℕ} {x : Place} {ks : List ℕ} {vs : List Token} →
       IsPlaceAt f n x → ((p : ℕ) → A.go x.state (grammar_symbol.Tok x.token) ≡ Some p → ⊥) →
       Stands nodes ks vs → AreTyped (kids x.token) (tokens vs) →
       IsNode nodes top x.token ks [] → DrawnRound A f nodes n top root → root + 1 ≡ length nodes →

@@ -6,7 +6,6 @@ use Rattle.tree_core.specs.declared.token.Sort.{Sort}
 use Rattle.tree_core.specs.Grammar.{kids}
 use Rattle.md_reader.specs.declared.types.Sym.{Sym}
 use Rattle.lr_check_sets.specs.Automaton.{Automaton}
-use Rattle.lr_check_sets.specs.Answers.{Leaf}
 use Rattle.lr_check.specs.Tree.{Token}
 use Rattle.lr_check_parse.specs.Typed.{AreTyped}
 use Rattle.lr_check_found.specs.declared.places.Place.{Place}
@@ -18,15 +17,11 @@ use Rattle.lr_check_found.specs.declared.settlings.Settling.{Settling}
 use Rattle.lr_check_found.specs.Found.{FoundView, IsPlaceAt, IsSettlingAt, SettlesAt}
 use Rattle.lr_check_samples.specs.Answering.{root_no, further, answers_to, depths_to}
 
-abbrev pub tokens : List Leaf → List Tok
-tokens w = map (λ (l : Leaf). l.tok) w
+abbrev pub tokens : List Token → List Tok
+tokens w = map (λ (l : Token). l.tok) w
 
-abbrev pub leaf : Tok → List Bool → Leaf
+abbrev pub leaf : Tok → List Bool → Token
 leaf k answers = record { tok = k; answers = answers }
-
--- leaves as tokens with answers
-abbrev pub sample_tokens : List Leaf → List Token
-sample_tokens w = map (λ (l : Leaf). record { tok = l.tok; answers = l.answers }) w
 
 -- the settling with the number was found so
 pub record IsMadeBy (f : FoundView) (i : ℕ) (h : How) : Type 0 where
@@ -36,16 +31,16 @@ pub record IsMadeBy (f : FoundView) (i : ℕ) (h : How) : Type 0 where
 
 -- A settling's tree: the leaves of its kids' trees, what its own node is answered, and the depths at which it asks below its list,
 -- each time answered no.
-pub data Fixed (A : Automaton) (f : FoundView) : ℕ → List Leaf → List Bool → List ℕ → Type 0 where
+pub data Fixed (A : Automaton) (f : FoundView) : ℕ → List Token → List Bool → List ℕ → Type 0 where
   fixed_leaf : {i : ℕ} → IsMadeBy f i how.Leaf → Fixed A f i [] [] []
-  fixed_one : {i j p : ℕ} {y : Place} {s : List Sym} {ws : List Leaf} {own : List Bool} {ds : List ℕ} →
+  fixed_one : {i j p : ℕ} {y : Place} {s : List Sym} {ws : List Token} {own : List Bool} {ds : List ℕ} →
       IsMadeBy f i (how.One j) → SettlesAt f j y s p → Fixed A f j ws own ds →
       Fixed A f i (leaf y.token own ∷ ws) (root_no 1 ds) (further 1 ds)
-  fixed_two : {i j k p h : ℕ} {y z : Place} {s u : List Sym} {ws ws' : List Leaf} {own own' : List Bool} {ds ds' : List ℕ} →
+  fixed_two : {i j k p h : ℕ} {y z : Place} {s u : List Sym} {ws ws' : List Token} {own own' : List Bool} {ds ds' : List ℕ} →
       IsMadeBy f i (how.Two j k) → SettlesAt f j y s p → Fixed A f j ws own ds → SettlesAt f k z u h → Fixed A f k ws' own' ds' →
       Fixed A f i (leaf y.token own ∷ ws ++ leaf z.token own' ∷ ws') (root_no 1 ds ++ root_no (length s + 1) ds')
       (further 1 ds ++ further (length s + 1) ds')
-  fixed_reduced : {i j c p : ℕ} {x : Place} {s : List Sym} {ws : List Leaf} {own : List Bool} {ds : List ℕ} →
+  fixed_reduced : {i j c p : ℕ} {x : Place} {s : List Sym} {ws : List Token} {own : List Bool} {ds : List ℕ} →
       IsMadeBy f i (how.Reduced j c) → SettlesAt f j x s p → Fixed A f j ws own ds →
       Fixed A f i ws (own ++ answers_to (A.candidates p x.behind) (length s) c) (ds ++ depths_to (A.candidates p x.behind) (length s) c)
 
@@ -53,23 +48,23 @@ abbrev pub IsOrigin : FoundView → ℕ → Origin → Type 0
 IsOrigin f n o = slice_get f.origins n ≡ Some o
 
 -- the leaves of a typed tree that begins with the token
-pub record BeginsWith (x : Sort) (k : Tok) (ws : List Leaf) : Type 0 where
+pub record BeginsWith (x : Sort) (k : Tok) (ws : List Token) : Type 0 where
   pub answers : List Bool
-  pub others : List Leaf
+  pub others : List Token
   pub first : ws ≡ leaf k answers ∷ others
   pub typed : AreTyped (x ∷ []) (tokens ws)
 
 -- The tree round a place: the leaves before it and those behind it. Its ancestors have no answers.
-pub data Context (A : Automaton) (f : FoundView) : ℕ → List Leaf → List Leaf → Type 0 where
+pub data Context (A : Automaton) (f : FoundView) : ℕ → List Token → List Token → Type 0 where
   at_root : {n : ℕ} → IsOrigin f n origin.Root → Context A f n [] []
-  at_only : {n i : ℕ} {y : Place} {x : Sort} {before behind : List Leaf} →
+  at_only : {n i : ℕ} {y : Place} {x : Sort} {before behind : List Token} →
       IsOrigin f n (origin.First i) → IsPlaceAt f i y → kids y.token ≡ x ∷ [] → Context A f i before behind →
       Context A f n (before ++ leaf y.token [] ∷ []) behind
   -- the second kid is any tree that begins with the token behind
-  at_first : {n i : ℕ} {y z : Place} {x v : Sort} {before behind us : List Leaf} →
+  at_first : {n i : ℕ} {y z : Place} {x v : Sort} {before behind us : List Token} →
       IsOrigin f n (origin.First i) → IsPlaceAt f i y → kids y.token ≡ x ∷ v ∷ [] → IsPlaceAt f n z → BeginsWith v z.behind us →
       Context A f i before behind →
       Context A f n (before ++ leaf y.token [] ∷ []) (us ++ behind)
-  at_second : {n i j p : ℕ} {y z : Place} {s : List Sym} {before behind ws : List Leaf} {own : List Bool} {ds : List ℕ} →
+  at_second : {n i j p : ℕ} {y z : Place} {s : List Sym} {before behind ws : List Token} {own : List Bool} {ds : List ℕ} →
       IsOrigin f n (origin.Second i j) → IsPlaceAt f i y → SettlesAt f j z s p → Fixed A f j ws own ds → Context A f i before behind →
       Context A f n (before ++ leaf y.token [] ∷ leaf z.token own ∷ ws) behind

@@ -5,18 +5,17 @@ use Rattle.tree_core.specs.declared.token.Sort.{Sort}
 use Rattle.tree_core.specs.Grammar.{kids}
 use Rattle.md_reader.specs.declared.types.Sym.{Sym}
 use Rattle.lr_check_sets.specs.Automaton.{Automaton}
-use Rattle.lr_check_sets.specs.Answers.{Leaf}
 use Rattle.lr_check.specs.Tree.{Node, Token, Unfolds}
 use Rattle.lr_check_found.specs.declared.places.Place.{Place}
 use Rattle.lr_check_found.specs.declared.places.Origin.TheVariants as origin
 use Rattle.lr_check_found.specs.declared.settlings.How.TheVariants as how
 use Rattle.lr_check_found.specs.Found.{FoundView, IsPlaceAt, SettlesAt}
 use Rattle.lr_check_samples.specs.Answering.{root_no, further, answers_to, depths_to}
-use Rattle.lr_check_samples.specs.Fixed.{sample_tokens, IsMadeBy, IsOrigin, BeginsWith}
+use Rattle.lr_check_samples.specs.Fixed.{IsMadeBy, IsOrigin, BeginsWith}
 
 -- the nodes with these numbers unfold to these leaves
-pub record Stands (nodes : List Node) (ks : List ℕ) (ws : List Leaf) : Type 0 where
-  pub unfolds : (rest : List ℕ) (u : List Token) → Unfolds nodes rest u → Unfolds nodes (ks ++ rest) (sample_tokens ws ++ u)
+pub record Stands (nodes : List Node) (ks : List ℕ) (ws : List Token) : Type 0 where
+  pub unfolds : (rest : List ℕ) (u : List Token) → Unfolds nodes rest u → Unfolds nodes (ks ++ rest) (ws ++ u)
 
 abbrev pub IsNode : List Node → ℕ → Tok → List ℕ → List Bool → Type 0
 IsNode nodes n k ks answers = slice_get nodes n ≡ Some (record { tok = k; kids = ks; answers = answers })
@@ -42,7 +41,7 @@ pub data DrawnRound (A : Automaton) (f : FoundView) (nodes : List Node) : ℕ �
   round_only : {n i m top root : ℕ} {y : Place} {x : Sort} →
       IsOrigin f n (origin.First i) → IsPlaceAt f i y → kids y.token ≡ x ∷ [] → IsNode nodes m y.token (top ∷ []) [] →
       DrawnRound A f nodes i m root → DrawnRound A f nodes n top root
-  round_first : {n i m o top root : ℕ} {y z : Place} {x v : Sort} {us : List Leaf} →
+  round_first : {n i m o top root : ℕ} {y z : Place} {x v : Sort} {us : List Token} →
       IsOrigin f n (origin.First i) → IsPlaceAt f i y → kids y.token ≡ x ∷ v ∷ [] → IsPlaceAt f n z → BeginsWith v z.behind us →
       Stands nodes (o ∷ []) us → IsNode nodes m y.token (top ∷ o ∷ []) [] → DrawnRound A f nodes i m root → DrawnRound A f nodes n top root
   round_second : {n i j p m o top root : ℕ} {y z : Place} {s : List Sym} {ks : List ℕ} {own : List Bool} {ds : List ℕ} →

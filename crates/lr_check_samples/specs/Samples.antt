@@ -4,22 +4,22 @@ use Rattle.tree_core.specs.declared.token.Tok.{Tok}
 use Rattle.tree_core.specs.Grammar.{kids}
 use Rattle.md_reader.specs.declared.types.Sym.{Sym}
 use Rattle.md_reader.specs.declared.types.Sym.TheVariants as grammar_symbol
+use Rattle.lr_check.specs.Tree.{Token}
 use Rattle.lr_check_sets.specs.Automaton.{Automaton, Production, reduce, walk, size_of, Free, CanBlock}
-use Rattle.lr_check_sets.specs.Answers.{Leaf}
 use Rattle.lr_check_parse.specs.Typed.{AreTyped}
 use Rattle.lr_check_found.specs.declared.places.Place.{Place}
 use Rattle.lr_check_found.specs.Found.{FoundView, IsPlaceAt, SettlesAt}
 use Rattle.lr_check_samples.specs.Answering.{answers_to, depths_to}
 use Rattle.lr_check_samples.specs.Fixed.{tokens, leaf, Fixed, Context}
 
-pub data BlockingSample (A : Automaton) (f : FoundView) : List Leaf → Type 0 where
+pub data BlockingSample (A : Automaton) (f : FoundView) : List Token → Type 0 where
   -- the token of a place is not shifted: its kids are any trees
-  of_gap : {n : ℕ} {x : Place} {before behind : List Leaf} (vs : List Leaf) →
+  of_gap : {n : ℕ} {x : Place} {before behind : List Token} (vs : List Token) →
       IsPlaceAt f n x → ((p : ℕ) → A.go x.state (grammar_symbol.Tok x.token) ≡ Some p → ⊥) → Context A f n before behind →
       AreTyped (kids x.token) (tokens vs) →
       BlockingSample A f (before ++ (leaf x.token [] ∷ (vs ++ behind)))
   -- behind a settling some answers take nothing
-  of_dead : {i p : ℕ} {x : Place} {s : List Sym} {before behind ws : List Leaf} {own : List Bool} {ds : List ℕ} →
+  of_dead : {i p : ℕ} {x : Place} {s : List Sym} {before behind ws : List Token} {own : List Bool} {ds : List ℕ} →
       (at : SettlesAt f i x s p) → CanBlock (A.candidates p x.behind) → Context A f at.entry.place before behind → Fixed A f i ws own ds →
       BlockingSample A f (before ++ (leaf x.token own ∷ (ws ++ behind)))
 
@@ -36,8 +36,8 @@ pub data Turning (A : Automaton) (q : ℕ) (t : Tok) : List Sym → List Sym →
       (ds ++ depths_to (A.candidates p t) (length s') r.left)
 
 -- such reductions lead from a settling's list back to it
-pub data LoopingSample (A : Automaton) (f : FoundView) : List Leaf → Type 0 where
-  of_circle : {i p : ℕ} {x : Place} {s : List Sym} {before behind ws : List Leaf} {own own' : List Bool} {ds ds' : List ℕ} →
+pub data LoopingSample (A : Automaton) (f : FoundView) : List Token → Type 0 where
+  of_circle : {i p : ℕ} {x : Place} {s : List Sym} {before behind ws : List Token} {own own' : List Bool} {ds ds' : List ℕ} →
       (at : SettlesAt f i x s p) → Context A f at.entry.place before behind → Fixed A f i ws own ds →
       Turning A x.state x.behind s s own' ds' →
       LoopingSample A f (before ++ (leaf x.token (own ++ own') ∷ (ws ++ behind)))

@@ -5,17 +5,19 @@ use Rattle.tree_core.specs.declared.token.Tok.{Tok}
 use Rattle.tree_core.specs.declared.token.Sort.TheVariants as sort
 use Rattle.md_reader.specs.declared.types.Sym.{Sym}
 use Rattle.tree_core.specs.Grammar.{kids}
+use Rattle.lr_check.specs.Tree.{Token}
+use Rattle.lr_check.specs.Parse.{Part, symbols}
 use Rattle.lr_check_sets.specs.Trees.{Tree}
 use Rattle.lr_check_sets.specs.Automaton.{Automaton, walk, CanBlock, IsTable, size_of}
 use Rattle.lr_check_sets.specs.Loose.{LoosePlace, LooseSettling}
-use Rattle.lr_check_sets.specs.Answers.{Entry, Leaf, symbols, next_token, leaves_all, pick, IsBlocked, blocked, Blocks, Reductions, one_reduction, more_reductions, Loops}
+use Rattle.lr_check_sets.specs.Answers.{next_token, leaves_all, pick, IsBlocked, blocked, Blocks, Reductions, one_reduction, more_reductions, Loops}
 use Rattle.lr_check_sets.specs.Faults.{Circles, one, more}
 use Rattle.lr_check_sets.proofs.Walks.{walk-append}
 use Rattle.lr_check_sets.proofs.Asks.{Source, block_source}
 use Rattle.lr_check_sets.proofs.Reached.{MetPlace, MetTree, TreeRuns, PlaceRuns, Back, met_place, met_settling, reduce_back, runs-append, some_trees}
 
 -- symbols without answers
-bare : List Sym → List Entry
+bare : List Sym → List Part
 bare [] = []
 bare (X ∷ s) = record { symbol = X; answers = [] } ∷ bare s
 
@@ -24,7 +26,7 @@ unfolding bare
 symbols-bare [] = refl
 symbols-bare (X ∷ s) = ap (λ l. X ∷ l) (symbols-bare s)
 
-pub is_blocked : (A : Automaton) (p : ℕ) (t : Tok) (a b : List Entry) (w : List Leaf) → next_token w ≡ Some t → walk A 0 (symbols a) ≡ Some p →
+pub is_blocked : (A : Automaton) (p : ℕ) (t : Tok) (a b : List Part) (w : List Token) → next_token w ≡ Some t → walk A 0 (symbols a) ≡ Some p →
     pick (A.candidates p t) a ≡ record { taken = None; stack = b } → IsBlocked A a w
 is_blocked A p t a b [] g at pk = absurd (none-some t g)
 is_blocked A p t a b (d ∷ w) g at pk =
@@ -64,12 +66,12 @@ module _ (A : Automaton) (table : IsTable A) where
       )
 
   -- a circle from the stack behind it to the stack before it
-  pub record Round (t : Tok) (y : List Entry) (a : List Sym) : Type 0 where
-    pub source : List Entry
+  pub record Round (t : Tok) (y : List Part) (a : List Sym) : Type 0 where
+    pub source : List Part
     pub same : symbols source ≡ a
-    pub goes : (w : List Leaf) → next_token w ≡ Some t → Reductions A w source y
+    pub goes : (w : List Token) → next_token w ≡ Some t → Reductions A w source y
 
-  circle_back : {q : ℕ} {t : Tok} {s s' : List Sym} (a : List Sym) (y : List Entry) → walk A 0 a ≡ Some q → Circles A q t s s' → symbols y ≡ s' ++ a → Round t y (s ++ a)
+  circle_back : {q : ℕ} {t : Tok} {s s' : List Sym} (a : List Sym) (y : List Part) → walk A 0 a ≡ Some q → Circles A q t s s' → symbols y ≡ s' ++ a → Round t y (s ++ a)
   circle_back {q = q} {t = t} a y at (one {s = s} {p = p} r ws f size) e =
       let le : size_of r ≤ length s = omega arith in
       let back : Back A table t y (s ++ a) = reduce_back A table t s a p r y (walk-append A 0 q s a at ∙ ws) f le e in
@@ -84,7 +86,7 @@ module _ (A : Automaton) (table : IsTable A) where
   circle_loops q k t s set c =
       let both : MetPlace A q k t × MetTree A q k t s = met_settling A table set in
       let a : List Sym = both.0.below in
-      let y : List Entry = bare (s ++ a) in
+      let y : List Part = bare (s ++ a) in
       let round : Round t y (s ++ a) = circle_back a y both.0.at c (symbols-bare (s ++ a)) in
       let tr : TreeRuns A k t round.source a = both.1 a round.source both.0.at round.same in
       let pr : PlaceRuns A k t tr.source = both.0.reached tr.source tr.same in (

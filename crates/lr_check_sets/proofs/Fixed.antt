@@ -5,8 +5,9 @@ use Rattle.std.proofs.lemmas.Bool.{cases_lt}
 use Rattle.std.proofs.lemmas.Option.{none-some, same_Some}
 use Rattle.std.proofs.lemmas.List.{append_cancel_left}
 use Rattle.md_reader.specs.declared.types.Sym.{Sym}
+use Rattle.lr_check.specs.Parse.{Part, symbols}
 use Rattle.lr_check_sets.specs.Automaton.{Automaton, Production, Candidate, shift, reduce, walk, size_of, Free}
-use Rattle.lr_check_sets.specs.Answers.{Entry, symbols, pick}
+use Rattle.lr_check_sets.specs.Answers.{pick}
 use Rattle.lr_check_sets.proofs.Asks.{push, pick_free, pick_yes, pick_no}
 use Rattle.lr_check_sets.specs.Shapes.{wanted, IsTree}
 use Rattle.lr_check_sets.proofs.Shapes.{wanted-append, wanted-none, wanted-more, wanted-zero, tree_some, cut}
@@ -14,30 +15,30 @@ use Rattle.lr_check_sets.proofs.Reached.{hold, length-hold}
 use Rattle.lr_check_sets.proofs.Tables.{reduce_same, shift_reduce}
 
 -- a no more for the symbol at a depth
-abbrev pub push_at : ℕ → List Entry → List Entry
+abbrev pub push_at : ℕ → List Part → List Part
 push_at d [] = []
 push_at zero (h ∷ a) = record { symbol = h.symbol; answers = false ∷ h.answers } ∷ a
 push_at (suc d) (h ∷ a) = h ∷ push_at d a
 
-abbrev pub pushes : List ℕ → List Entry → List Entry
+abbrev pub pushes : List ℕ → List Part → List Part
 pushes [] z = z
 pushes (d ∷ ds) z = push_at d (pushes ds z)
 
-symbols-push_at : (d : ℕ) (z : List Entry) → symbols (push_at d z) ≡ symbols z
+symbols-push_at : (d : ℕ) (z : List Part) → symbols (push_at d z) ≡ symbols z
 symbols-push_at d [] = refl
 symbols-push_at zero (h ∷ a) = refl
 symbols-push_at (suc d) (h ∷ a) = ap (λ l. h.symbol ∷ l) (symbols-push_at d a)
 
-pub symbols-pushes : (ds : List ℕ) (z : List Entry) → symbols (pushes ds z) ≡ symbols z
+pub symbols-pushes : (ds : List ℕ) (z : List Part) → symbols (pushes ds z) ≡ symbols z
 symbols-pushes [] z = refl
 symbols-pushes (d ∷ ds) z = symbols-push_at d (pushes ds z) ∙ symbols-pushes ds z
 
-pub pushes-append : (ds es : List ℕ) (z : List Entry) → pushes (ds ++ es) z ≡ pushes ds (pushes es z)
+pub pushes-append : (ds es : List ℕ) (z : List Part) → pushes (ds ++ es) z ≡ pushes ds (pushes es z)
 pushes-append [] es z = refl
 pushes-append (d ∷ ds) es z = ap (push_at d) (pushes-append ds es z)
 
 -- a push by a right side is a push at a depth
-pub push_is : (right : List Sym) (d : ℕ) (z : List Entry) → length right ≡ suc d → push right false z ≡ push_at d z
+pub push_is : (right : List Sym) (d : ℕ) (z : List Part) → length right ≡ suc d → push right false z ≡ push_at d z
 push_is right d [] e = refl
 push_is [] d (h ∷ a) e = absurd (omega arith)
 push_is (X ∷ []) zero (h ∷ a) e = refl
@@ -46,7 +47,7 @@ push_is (X ∷ Y ∷ right) zero (h ∷ a) e = absurd (omega arith)
 push_is (X ∷ Y ∷ right) (suc d) (h ∷ a) e = ap (λ l. h ∷ l) (push_is (Y ∷ right) d a (omega arith))
 
 -- at the root of a list, and below it
-pub push-root : (right s : List Sym) (x : Bool) (b : List Bool) (z : List Entry) → length right ≡ length s → 0 < length s → push right x (hold s b ++ z) ≡ hold s (x ∷ b) ++ z
+pub push-root : (right s : List Sym) (x : Bool) (b : List Bool) (z : List Part) → length right ≡ length s → 0 < length s → push right x (hold s b ++ z) ≡ hold s (x ∷ b) ++ z
 push-root right [] x b z e lt = absurd (omega arith)
 push-root [] (X ∷ s) x b z e lt = absurd (omega arith)
 push-root (Y ∷ []) (X ∷ []) x b z e lt = refl
@@ -54,21 +55,21 @@ push-root (Y ∷ V ∷ right) (X ∷ []) x b z e lt = absurd (omega arith)
 push-root (Y ∷ []) (X ∷ W ∷ s) x b z e lt = absurd (omega arith)
 push-root (Y ∷ V ∷ right) (X ∷ W ∷ s) x b z e lt = ap (λ l. record { symbol = X; answers = [] } ∷ l) (push-root (V ∷ right) (W ∷ s) x b z (omega arith) (omega arith))
 
-pub push-below : (right s : List Sym) (d : ℕ) (b : List Bool) (z : List Entry) → length right ≡ length s + suc d → 0 < length s → push right false (hold s b ++ z) ≡ hold s b ++ push_at d z
+pub push-below : (right s : List Sym) (d : ℕ) (b : List Bool) (z : List Part) → length right ≡ length s + suc d → 0 < length s → push right false (hold s b ++ z) ≡ hold s b ++ push_at d z
 push-below right [] d b z e lt = absurd (omega arith)
 push-below [] (X ∷ s) d b z e lt = absurd (omega arith)
 push-below (Y ∷ []) (X ∷ s) d b z e lt = absurd (omega arith)
 push-below (Y ∷ V ∷ right) (X ∷ []) d b z e lt = ap (λ l. record { symbol = X; answers = b } ∷ l) (push_is (V ∷ right) d z (omega arith))
 push-below (Y ∷ V ∷ right) (X ∷ W ∷ s) d b z e lt = ap (λ l. record { symbol = X; answers = [] } ∷ l) (push-below (V ∷ right) (W ∷ s) d b z (omega arith) (omega arith))
 
-pub push_at-root : (s : List Sym) (d : ℕ) (b : List Bool) (z : List Entry) → length s ≡ suc d → push_at d (hold s b ++ z) ≡ hold s (false ∷ b) ++ z
+pub push_at-root : (s : List Sym) (d : ℕ) (b : List Bool) (z : List Part) → length s ≡ suc d → push_at d (hold s b ++ z) ≡ hold s (false ∷ b) ++ z
 push_at-root [] d b z e = absurd (omega arith)
 push_at-root (X ∷ []) zero b z e = refl
 push_at-root (X ∷ []) (suc d) b z e = absurd (omega arith)
 push_at-root (X ∷ W ∷ s) zero b z e = absurd (omega arith)
 push_at-root (X ∷ W ∷ s) (suc d) b z e = ap (λ l. record { symbol = X; answers = [] } ∷ l) (push_at-root (W ∷ s) d b z (omega arith))
 
-pub push_at-below : (s : List Sym) (d e : ℕ) (b : List Bool) (z : List Entry) → d ≡ length s + e → push_at d (hold s b ++ z) ≡ hold s b ++ push_at e z
+pub push_at-below : (s : List Sym) (d e : ℕ) (b : List Bool) (z : List Part) → d ≡ length s + e → push_at d (hold s b ++ z) ≡ hold s b ++ push_at e z
 push_at-below [] d e b z h = let same : d ≡ e = omega arith in ap (λ n. push_at n z) same
 push_at-below (X ∷ s) zero e b z h = absurd (omega arith)
 push_at-below (X ∷ []) (suc d) e b z h = let same : d ≡ e = omega arith in ap (λ n. record { symbol = X; answers = b } ∷ push_at n z) same
@@ -126,7 +127,7 @@ pub record Asked (A : Automaton) (q : ℕ) (s : List Sym) (cs : List Candidate) 
   pub root : List Bool
   pub depths : List ℕ
   pub deep : (a : List Sym) → walk A 0 a ≡ Some q → DeepIn a depths
-  pub picks : (b : List Bool) (z : List Entry) → pick cs (hold s (root ++ b) ++ pushes depths z) ≡ record { taken = Some (reduce r); stack = hold s b ++ z }
+  pub picks : (b : List Bool) (z : List Part) → pick cs (hold s (root ++ b) ++ pushes depths z) ≡ record { taken = Some (reduce r); stack = hold s b ++ z }
 
 -- a right side on a stack: the list and some symbols below it
 pub reaches : (s a top below : List Sym) (d : ℕ) → s ++ a ≡ top ++ below → length top ≡ length s + suc d → (d < length a) × (top ≡ s ++ take (d + 1) a)

@@ -9,10 +9,12 @@ use Rattle.tree_core.specs.declared.token.Sort.{Sort}
 use Rattle.md_reader.specs.declared.types.Sym.{Sym}
 use Rattle.md_reader.specs.declared.types.Sym.TheVariants as grammar_symbol
 use Rattle.tree_core.specs.Grammar.{kids}
+use Rattle.lr_check.specs.Tree.{Token}
+use Rattle.lr_check.specs.Parse.{Part, symbols}
 use Rattle.lr_check_sets.specs.Trees.{May, Begins, Tree, Trees, node, no_trees, more_trees, first}
 use Rattle.lr_check_sets.specs.Automaton.{Automaton, Production, Candidate, reduce, walk, size_of, Free, reduced, IsTable}
 use Rattle.lr_check_sets.specs.Items.{AreCandidates, the_shift, the_reductions, IsLongestFirst, IsAutomatonOf, HasNoEnd, HasNoEmpty}
-use Rattle.lr_check_sets.specs.Answers.{Entry, Leaf, symbols, next_token, leaves_all, pick, held_reduced, Step, reduces, Runs, then_step}
+use Rattle.lr_check_sets.specs.Answers.{next_token, leaves_all, pick, held_reduced, Step, reduces, Runs, then_step}
 use Rattle.lr_check_sets.specs.Shapes.{wanted, IsTree, HasTrees}
 use Rattle.lr_check_sets.specs.Sums.{Partly, Settling, Sum, opened, with_kid, whole, settled, sum}
 use Rattle.lr_check_sets.proofs.Walks.{walk-append}
@@ -31,7 +33,7 @@ record Splits (A : Automaton) (q : ℕ) (s : List Sym) (ds : List ℕ) : Type 0 
   root : List Bool
   depths : List ℕ
   deep : (a : List Sym) → walk A 0 a ≡ Some q → DeepIn a depths
-  is : (b : List Bool) (z : List Entry) → pushes ds (hold s b ++ z) ≡ hold s (root ++ b) ++ pushes depths z
+  is : (b : List Bool) (z : List Part) → pushes ds (hold s b ++ z) ≡ hold s (root ++ b) ++ pushes depths z
 
 module _ (A : Automaton) (q : ℕ) (s : List Sym) (l : ℕ) (shape : PartShape s (suc l)) (some : 0 < length s) (a0 : List Sym) (at0 : walk A 0 a0 ≡ Some q) where
   split_depths : (ds : List ℕ) → ((a : List Sym) → walk A 0 a ≡ Some q → DeepIn (s ++ a) ds) → Splits A q s ds
@@ -76,7 +78,7 @@ record FixedPart (A : Automaton) (q : ℕ) (k t : Tok) (s : List Sym) (xs : List
   answers : List Bool
   depths : List ℕ
   deep : (a : List Sym) → walk A 0 a ≡ Some q → DeepIn a depths
-  runs : (b : List Bool) (a : List Sym) (z : List Entry) (vs : Trees xs) (w : List Leaf) → walk A 0 a ≡ Some q → symbols z ≡ a → first vs t ≡ n → next_token w ≡ Some t →
+  runs : (b : List Bool) (a : List Sym) (z : List Part) (vs : Trees xs) (w : List Token) → walk A 0 a ≡ Some q → symbols z ≡ a → first vs t ≡ n → next_token w ≡ Some t →
       Runs A (pushes depths z) (record { tok = k; answers = answers ++ b } ∷ leaves_all (all_kids vs) w) (hold s b ++ z) (leaves_all vs w)
 
 pub record FixedTree (A : Automaton) (q : ℕ) (k t : Tok) (s : List Sym) : Type 0 where
@@ -84,7 +86,7 @@ pub record FixedTree (A : Automaton) (q : ℕ) (k t : Tok) (s : List Sym) : Type
   pub answers : List Bool
   pub depths : List ℕ
   pub deep : (a : List Sym) → walk A 0 a ≡ Some q → DeepIn a depths
-  pub runs : (b : List Bool) (a : List Sym) (z : List Entry) (w : List Leaf) → walk A 0 a ≡ Some q → symbols z ≡ a → next_token w ≡ Some t →
+  pub runs : (b : List Bool) (a : List Sym) (z : List Part) (w : List Token) → walk A 0 a ≡ Some q → symbols z ≡ a → next_token w ≡ Some t →
       Runs A (pushes depths z) (record { tok = k; answers = answers ++ b } ∷ leaves_all its_kids w) (hold s b ++ z) w
 
 -- the candidates of a table go down
@@ -144,7 +146,7 @@ module _ (G : List Production) (A : Automaton) (no_end : HasNoEnd G) (no_empty :
             (sym (append_assoc (hold s' []) (hold s b) z) ∙ ap (λ l. l ++ z) (sym (hold-append s' s b some))) all;
       }
     where
-      glue : (k : Tok) (vs : Trees (kids k)) (w v : List Leaf) {x x' : List Entry} {c c' : List Bool} {y y' : List Entry} → x ≡ x' → c ≡ c' → y ≡ y' →
+      glue : (k : Tok) (vs : Trees (kids k)) (w v : List Token) {x x' : List Part} {c c' : List Bool} {y y' : List Part} → x ≡ x' → c ≡ c' → y ≡ y' →
           Runs A x (record { tok = k; answers = c } ∷ leaves_all vs w) y v → Runs A x' (record { tok = k; answers = c' } ∷ leaves_all vs w) y' v
       glue k vs w v {x = x} {x' = x'} {c = c} {c' = c'} {y = y} {y' = y'} e f g r =
           subst (λ u. Runs A u (record { tok = k; answers = c' } ∷ leaves_all vs w) y' v) e
@@ -174,14 +176,14 @@ module _ (G : List Production) (A : Automaton) (no_end : HasNoEnd G) (no_empty :
         (sym (append_assoc set.answers asked.root b)) (then_step before last));
   }
     where
-      one_step : (u y : List Entry) (w : List Leaf) → next_token w ≡ Some t → walk A 0 (symbols u) ≡ Some p → pick (A.candidates p t) u ≡ record { taken = Some (reduce r); stack = y } →
+      one_step : (u y : List Part) (w : List Token) → next_token w ≡ Some t → walk A 0 (symbols u) ≡ Some p → pick (A.candidates p t) u ≡ record { taken = Some (reduce r); stack = y } →
           Step A u w (held_reduced r y) w
       one_step u y [] g at pk = absurd (none-some t g)
       one_step u y (d ∷ w) g at pk =
           let same : d.tok ≡ t = cc in
           reduces at (subst (λ m. pick (A.candidates p m) u ≡ record { taken = Some (reduce r); stack = y }) (sym same) pk)
 
-      result : (b : List Bool) (z : List Entry) → held_reduced r (hold s b ++ z) ≡ hold (reduced r s) b ++ z
+      result : (b : List Bool) (z : List Part) → held_reduced r (hold s b ++ z) ≡ hold (reduced r s) b ++ z
       result b z =
           let none : drop (size_of r) s ≡ [] = nil_from_length (drop (size_of r) s) (omega (arith, length-drop (size_of r) s)) in
           ap₂ (λ u v. record { symbol = grammar_symbol.Class r.left; answers = u } ∷ v) (owner-hold r.right s b z size (omega (arith, tree_some s tree)))

@@ -10,10 +10,12 @@ use Rattle.tree_core.specs.declared.token.Sort.TheVariants as sort
 use Rattle.md_reader.specs.declared.types.Sym.{Sym}
 use Rattle.md_reader.specs.declared.types.Sym.TheVariants as grammar_symbol
 use Rattle.tree_core.specs.Grammar.{kids}
+use Rattle.lr_check.specs.Tree.{Token}
+use Rattle.lr_check.specs.Parse.{Part, symbols}
 use Rattle.lr_check_sets.specs.Trees.{May, Begins, Tree, Trees, node, no_trees, more_trees, root, first}
 use Rattle.lr_check_sets.specs.Automaton.{Automaton, Production, shift, reduce, walk, size_of, Free, reduced, IsTable}
 use Rattle.lr_check_sets.specs.Loose.{LoosePlace, LoosePartly, LooseSettling, LooseSum, loose_start, loose_kid, loose_opened, loose_with_kid, loose_whole, loose_settled, loose_sum}
-use Rattle.lr_check_sets.specs.Answers.{Entry, Leaf, symbols, next_token, the_end, leaves, leaves_all, owner, pick, held_reduced, Step, shifts, reduces, Runs, here, then_step}
+use Rattle.lr_check_sets.specs.Answers.{next_token, the_end, leaves, leaves_all, owner, pick, held_reduced, Step, shifts, reduces, Runs, here, then_step}
 use Rattle.lr_check_sets.proofs.Walks.{walk-append}
 use Rattle.lr_check_sets.proofs.Asks.{Source, reduce_source}
 
@@ -144,7 +146,7 @@ unfolding fill
 first-fill [] t m h = sym h
 first-fill (x ∷ xs) t m h = root-tree_from x m h
 
-pub next-leaves : {xs : List Sort} (vs : Trees xs) (w : List Leaf) (t : Tok) → next_token w ≡ Some t → next_token (leaves_all vs w) ≡ Some (first vs t)
+pub next-leaves : {xs : List Sort} (vs : Trees xs) (w : List Token) (t : Tok) → next_token w ≡ Some t → next_token (leaves_all vs w) ≡ Some (first vs t)
 next-leaves no_trees w t e = e
 next-leaves (more_trees (node k may b ws) vs) w t e = refl
 
@@ -153,12 +155,12 @@ part_begins (loose_opened place g b) = b
 part_begins (loose_with_kid part ws b s) = b
 
 -- runs one after another
-pub runs-append : {A : Automaton} {a b c : List Entry} {u v w : List Leaf} → Runs A a u b v → Runs A b v c w → Runs A a u c w
+pub runs-append : {A : Automaton} {a b c : List Part} {u v w : List Token} → Runs A a u b v → Runs A b v c w → Runs A a u c w
 runs-append r here = r
 runs-append r (then_step s x) = then_step (runs-append r s) x
 
 -- the symbols of a right side, whose answers the deepest has
-abbrev pub hold : List Sym → List Bool → List Entry
+abbrev pub hold : List Sym → List Bool → List Part
 hold [] b = []
 hold (X ∷ []) b = record { symbol = X; answers = b } ∷ []
 hold (X ∷ Y ∷ s) b = record { symbol = X; answers = [] } ∷ hold (Y ∷ s) b
@@ -173,7 +175,7 @@ length-hold [] b = refl
 length-hold (X ∷ []) b = refl
 length-hold (X ∷ Y ∷ s) b = ap suc (length-hold (Y ∷ s) b)
 
-pub owner-hold : (right s : List Sym) (b : List Bool) (y : List Entry) → length right ≡ length s → 0 < length right → owner right (hold s b ++ y) ≡ b
+pub owner-hold : (right s : List Sym) (b : List Bool) (y : List Part) → length right ≡ length s → 0 < length right → owner right (hold s b ++ y) ≡ b
 owner-hold [] s b y e lt = absurd (omega arith)
 owner-hold (Z ∷ right) [] b y e lt = absurd (omega arith)
 owner-hold (Z ∷ []) (X ∷ []) b y e lt = refl
@@ -181,29 +183,29 @@ owner-hold (Z ∷ []) (X ∷ Y ∷ s) b y e lt = absurd (omega arith)
 owner-hold (Z ∷ V ∷ right) (X ∷ []) b y e lt = absurd (omega arith)
 owner-hold (Z ∷ V ∷ right) (X ∷ Y ∷ s) b y e lt = owner-hold (V ∷ right) (Y ∷ s) b y (omega arith) (omega arith)
 
-pub symbols-append : (a b : List Entry) → symbols (a ++ b) ≡ symbols a ++ symbols b
+pub symbols-append : (a b : List Part) → symbols (a ++ b) ≡ symbols a ++ symbols b
 symbols-append [] b = refl
 symbols-append (h ∷ a) b = ap (λ l. h.symbol ∷ l) (symbols-append a b)
 
 -- A subtree with some kids to come: its parse leads from some answers of the stack below to the answers that are wished.
-pub record PartRuns (A : Automaton) (k t : Tok) (xs : List Sort) (n : Tok) (y : List Entry) (a : List Sym) : Type 0 where
+pub record PartRuns (A : Automaton) (k t : Tok) (xs : List Sort) (n : Tok) (y : List Part) (a : List Sym) : Type 0 where
   pub all_kids : Trees xs → Trees (kids k)
   pub answers : List Bool
-  pub source : List Entry
+  pub source : List Part
   pub same : symbols source ≡ a
-  pub runs : (vs : Trees xs) (w : List Leaf) → first vs t ≡ n → next_token w ≡ Some t → Runs A source (record { tok = k; answers = answers } ∷ leaves_all (all_kids vs) w) y (leaves_all vs w)
+  pub runs : (vs : Trees xs) (w : List Token) → first vs t ≡ n → next_token w ≡ Some t → Runs A source (record { tok = k; answers = answers } ∷ leaves_all (all_kids vs) w) y (leaves_all vs w)
 
 -- the same for a whole subtree
-pub record TreeRuns (A : Automaton) (k t : Tok) (y : List Entry) (a : List Sym) : Type 0 where
+pub record TreeRuns (A : Automaton) (k t : Tok) (y : List Part) (a : List Sym) : Type 0 where
   pub its_kids : Trees (kids k)
   pub answers : List Bool
-  pub source : List Entry
+  pub source : List Part
   pub same : symbols source ≡ a
-  pub runs : (w : List Leaf) → next_token w ≡ Some t → Runs A source (record { tok = k; answers = answers } ∷ leaves_all its_kids w) y w
+  pub runs : (w : List Token) → next_token w ≡ Some t → Runs A source (record { tok = k; answers = answers } ∷ leaves_all its_kids w) y w
 
 -- a whole tree round a subtree that begins with k
-pub record PlaceRuns (A : Automaton) (k t : Tok) (y : List Entry) : Type 0 where
-  pub rest : List Leaf
+pub record PlaceRuns (A : Automaton) (k t : Tok) (y : List Part) : Type 0 where
+  pub rest : List Token
   pub next : next_token rest ≡ Some t
   pub round : List Bool → Trees (kids k) → Tree sort.Stmt
   pub runs : (b : List Bool) (vs : Trees (kids k)) → Runs A [] (leaves (round b vs) the_end) y (record { tok = k; answers = b } ∷ leaves_all vs rest)
@@ -211,16 +213,16 @@ pub record PlaceRuns (A : Automaton) (k t : Tok) (y : List Entry) : Type 0 where
 pub record MetPlace (A : Automaton) (q : ℕ) (k t : Tok) : Type 0 where
   pub below : List Sym
   pub at : walk A 0 below ≡ Some q
-  pub reached : (y : List Entry) → symbols y ≡ below → PlaceRuns A k t y
+  pub reached : (y : List Part) → symbols y ≡ below → PlaceRuns A k t y
 
 abbrev pub MetPart : Automaton → ℕ → Tok → Tok → List Sym → List Sort → Tok → Type 0
-MetPart A q k t s xs n = (a : List Sym) (y : List Entry) → walk A 0 a ≡ Some q → symbols y ≡ s ++ a → PartRuns A k t xs n y a
+MetPart A q k t s xs n = (a : List Sym) (y : List Part) → walk A 0 a ≡ Some q → symbols y ≡ s ++ a → PartRuns A k t xs n y a
 
 abbrev pub MetTree : Automaton → ℕ → Tok → Tok → List Sym → Type 0
-MetTree A q k t s = (a : List Sym) (y : List Entry) → walk A 0 a ≡ Some q → symbols y ≡ s ++ a → TreeRuns A k t y a
+MetTree A q k t s = (a : List Sym) (y : List Part) → walk A 0 a ≡ Some q → symbols y ≡ s ++ a → TreeRuns A k t y a
 
 -- one shift, alone
-pub shift_runs : {A : Automaton} {k : Tok} {a : List Sym} {q : ℕ} (h : Entry) (x : List Entry) (w : List Leaf) → walk A 0 a ≡ Some q → A.candidates q k ≡ shift ∷ [] → h.symbol ≡ grammar_symbol.Tok k →
+pub shift_runs : {A : Automaton} {k : Tok} {a : List Sym} {q : ℕ} (h : Part) (x : List Part) (w : List Token) → walk A 0 a ≡ Some q → A.candidates q k ≡ shift ∷ [] → h.symbol ≡ grammar_symbol.Tok k →
     symbols x ≡ a → Runs A x (record { tok = k; answers = h.answers } ∷ w) (h ∷ x) w
 shift_runs {A = A} {k = k} {a = a} {q = q} h x w at alone hd tl =
     let step : Step A x (record { tok = k; answers = h.answers } ∷ w) (record { symbol = grammar_symbol.Tok k; answers = h.answers } ∷ x) w =
@@ -278,19 +280,19 @@ module _ (A : Automaton) (table : IsTable A) where
       }
 
   -- the stack before a reduction, with the answers that make it and those that are wished behind it
-  pub record Back (t : Tok) (y : List Entry) (a : List Sym) : Type 0 where
-    pub source : List Entry
+  pub record Back (t : Tok) (y : List Part) (a : List Sym) : Type 0 where
+    pub source : List Part
     pub same : symbols source ≡ a
-    pub step : (w : List Leaf) → next_token w ≡ Some t → Step A source w y w
+    pub step : (w : List Token) → next_token w ≡ Some t → Step A source w y w
 
-  pub reduce_back : (t : Tok) (s : List Sym) (a : List Sym) (p : ℕ) (r : Production) (y : List Entry) → walk A 0 (s ++ a) ≡ Some p → Free (A.candidates p t) (reduce r) → size_of r ≤ length s →
+  pub reduce_back : (t : Tok) (s : List Sym) (a : List Sym) (p : ℕ) (r : Production) (y : List Part) → walk A 0 (s ++ a) ≡ Some p → Free (A.candidates p t) (reduce r) → size_of r ≤ length s →
       symbols y ≡ reduced r s ++ a → Back t y (s ++ a)
   reduce_back t s a p r [] at f le e = absurd (unlike e)
     where
       unlike : [] ≡ grammar_symbol.Class r.left ∷ (drop (size_of r) s ++ a) → ⊥
       unlike e = cc
   reduce_back t s a p r (h ∷ y) at f le e =
-      let top : List Entry = hold (take (size_of r) s) h.answers in
+      let top : List Part = hold (take (size_of r) s) h.answers in
       let size : length (take (size_of r) s) ≡ size_of r = omega (arith, length-take (size_of r) s) in
       let some : 0 < size_of r = table.nonempty (s ++ a) p t r at f in
       let both : symbols (top ++ y) ≡ s ++ a =
@@ -314,7 +316,7 @@ module _ (A : Automaton) (table : IsTable A) where
       tail : h.symbol ∷ symbols y ≡ grammar_symbol.Class r.left ∷ (drop (size_of r) s ++ a) → symbols y ≡ drop (size_of r) s ++ a
       tail e = cc
 
-      by_step : (u z : List Entry) (w : List Leaf) → next_token w ≡ Some t → walk A 0 (symbols u) ≡ Some p → pick (A.candidates p t) u ≡ record { taken = Some (reduce r); stack = z } →
+      by_step : (u z : List Part) (w : List Token) → next_token w ≡ Some t → walk A 0 (symbols u) ≡ Some p → pick (A.candidates p t) u ≡ record { taken = Some (reduce r); stack = z } →
           held_reduced r z ≡ h ∷ y → Step A u w (h ∷ y) w
       by_step u z [] g at pk it = absurd (none-some t g)
       by_step u z (d ∷ w) g at pk it =
@@ -352,7 +354,7 @@ module _ (A : Automaton) (table : IsTable A) where
     reached = start_reached;
   }
     where
-      start_reached : (y : List Entry) → symbols y ≡ [] → PlaceRuns A k tok.End y
+      start_reached : (y : List Part) → symbols y ≡ [] → PlaceRuns A k tok.End y
       start_reached [] e = record {
         rest = the_end;
         next = refl;
