@@ -2,7 +2,6 @@
 use Rattle.std.proofs.Common.{◌≡◌, ℕ, zero, suc, ◌+◌, ◌-◌, ◌<◌, List, [], ◌∷◌, Option, Some, None, Bool, true, false, Contains, length, map, drop, slice_get, refl}
 use Rattle.std.proofs.Common.{sym, ap, ◌∙◌, subst, inl, inr, arith}
 use Rattle.std.proofs.lemmas.List.{drop-map}
-use Rattle.std.proofs.lemmas.Bool.{false≢true}
 use Rattle.std.proofs.lemmas.Option.{same_Some}
 use Rattle.gg_base.proofs.Facts.{some_none, head_same, tail_same}
 use Rattle.tree_core.specs.declared.token.Tok.{Tok}
@@ -12,7 +11,6 @@ use Rattle.md_reader.specs.declared.types.Sym.{Sym}
 use Rattle.md_reader.specs.declared.types.Sym.TheVariants as grammar_symbol
 use Rattle.md_reader.specs.Valid.{IsValid}
 use Rattle.lr_tables.specs.declared.types.Choice.{Choice}
-use Rattle.lr_tables.specs.declared.types.Choice.TheVariants as choice
 use Rattle.lr_tables.specs.View.{TableView}
 use Rattle.lr_tables.specs.Statements.{stmt_of}
 use Rattle.lr_tables.specs.Promises.{IsNumbered}
@@ -30,11 +28,11 @@ use Rattle.lr_check_sets.proofs.Bound.{Path, done, next, circle, no_circle}
 use Rattle.lr_check_sets.proofs.Ends_within.{final, tops}
 use Rattle.lr_check_sets.proofs.Whole_ends.{whole_trees_end}
 use Rattle.lr_check_sets.proofs.Meeting.{tables_meet_laws}
+use Rattle.lr_check_sets.proofs.Endless.{NoEnds, not_end}
 use Rattle.lr_check_sets.specs.Exact.{MeetsLaws}
-use Rattle.lr_check_sets.specs.Trees.{Tree, Trees, node, no_trees, more_trees, May, may, onto, onto_all}
+use Rattle.lr_check_sets.specs.Trees.{Tree, Trees, node, no_trees, more_trees, may, onto, onto_all}
 use Rattle.lr_check_sets.specs.Answers.{leaves, leaves_all}
 use Rattle.tree_core.specs.declared.token.Sort.{Sort}
-use Rattle.tree_core.specs.declared.token.Sort.TheVariants as sort
 use Rattle.lr_check_law.specs.Accepting.{EveryTreeIsAccepted}
 use Rattle.lr_check.specs.declared.sample.Outcome.TheVariants as outcome
 use Rattle.lr_check.specs.Tree.{Token}
@@ -47,11 +45,6 @@ use Rattle.lr_check.proofs.Contained.{nowhere_in}
 abbrev pub toks : List Token → List Tok
 toks [] = tok.End ∷ []
 toks (w ∷ ws) = w.tok ∷ toks ws
-
--- none of them is the end
-abbrev pub NoEnds : List Token → Type 0
-NoEnds [] = Unit {0}
-NoEnds (w ∷ ws) = (w.tok ≡ tok.End → ⊥) × NoEnds ws
 
 pub coming-is : (ws : List Token) (k : Tok) (u : List Tok) → toks ws ≡ k ∷ u → coming ws ≡ k
 coming-is [] k u e = head_same tok.End k [] u e
@@ -246,9 +239,6 @@ mutual
   toks-trees : {xs : List Sort} (vs : Trees xs) (w : List Token) → toks (leaves_all vs w) ≡ onto_all vs (toks w)
   toks-trees no_trees w = refl
   toks-trees (more_trees v vs) w = toks-tree v (leaves_all vs w) ∙ ap (onto v) (toks-trees vs w)
-
-not_end : (k : Tok) (x : Sort) → May k x → k ≡ tok.End → ⊥
-not_end k x m e = false≢true (subst (λ z. may z x ≡ true) e m)
 
 mutual
   no-ends : {x : Sort} (v : Tree x) (w : List Token) → NoEnds w → NoEnds (leaves v w)

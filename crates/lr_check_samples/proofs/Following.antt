@@ -1,13 +1,8 @@
 -- What the automaton's parse of a sample comes to, the parse over the rules comes to.
 use Rattle.std.proofs.Common.{◌≡◌, ℕ, suc, List, [], ◌∷◌, ◌++◌, Some, length, refl, sym, ap, ◌∙◌, subst, arith}
-use Rattle.std.specs.Prelude.{IsTrue}
-use Rattle.std.proofs.lemmas.Bool.{false≢true}
 use Rattle.gg_base.proofs.Facts.{nil_cons, head_same, tail_same}
-use Rattle.tree_core.specs.declared.token.Tok.{Tok}
 use Rattle.tree_core.specs.declared.token.Tok.TheVariants as tok
 use Rattle.tree_core.specs.declared.token.Sort.{Sort}
-use Rattle.tree_core.specs.Grammar.{sort_of}
-use Rattle.tree_core.specs.Trees.{sort_fits}
 use Rattle.md_reader.specs.declared.types.Sym.TheVariants as grammar_symbol
 use Rattle.md_reader.specs.Valid.{IsValid}
 use Rattle.lr_tables.specs.View.{TableView}
@@ -17,6 +12,7 @@ use Rattle.lr_check_sets.specs.Automaton.{shift, reduce, walk}
 use Rattle.lr_check_sets.specs.Table.{candidates_at, automaton_of}
 use Rattle.lr_check_sets.specs.Exact.{MeetsLaws}
 use Rattle.lr_check_sets.specs.Answers.{pick, held_reduced, Step, shifts, reduces, Runs, here, then_step, IsBlocked, blocked, Reductions, one_reduction, more_reductions, the_end}
+use Rattle.lr_check_sets.proofs.Endless.{NoEnds, not_end}
 use Rattle.lr_check.specs.Tree.{Token}
 use Rattle.lr_check.specs.Parse.{Part, symbols, coming}
 use Rattle.lr_check_parse.specs.Typed.{AreTyped, begins}
@@ -25,17 +21,9 @@ use Rattle.lr_check_samples.specs.Stops.{Moves, Comes, at_once, by_move, Turns, 
 use Rattle.lr_check_samples.proofs.Ruling.{shift_moves, reduce_moves, blocks_so}
 use Rattle.lr_check_samples.proofs.Stopping.{BlocksBy, LoopsBy}
 
--- none is the end
-abbrev pub NoEnds : List Token → Type 0
-NoEnds [] = Unit {0}
-NoEnds (l ∷ w) = (l.tok ≡ tok.End → ⊥) × NoEnds w
-
-no_end : (k : Tok) (x : Sort) → IsTrue (sort_fits (sort_of k) x) → k ≡ tok.End → ⊥
-no_end k x h e = false≢true (subst (λ j. IsTrue (sort_fits (sort_of j) x)) e h)
-
 pub typed_no_ends : {xs : List Sort} (w : List Token) → AreTyped xs (tokens w) → NoEnds w
 typed_no_ends [] h = tt
-typed_no_ends (l ∷ w) (begins {x = x} k fits h) = (no_end k x fits, typed_no_ends w h)
+typed_no_ends (l ∷ w) (begins {x = x} k fits h) = (not_end k x fits, typed_no_ends w h)
 
 comes-append : {rules : _} {stmt : ℕ} {ws us vs : List Token} {s a b : List Part} → Comes rules stmt ws s us a → Comes rules stmt us a vs b → Comes rules stmt ws s vs b
 comes-append at_once d = d

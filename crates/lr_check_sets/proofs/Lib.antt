@@ -5,6 +5,7 @@ pub mod Walks
 pub mod Beginnings
 pub mod Tables
 pub mod Asks
+pub mod Endless
 pub mod Reached
 pub mod Faults
 pub mod Accepted
