@@ -9,8 +9,9 @@ use Rattle.lr_check_sets.specs.Trees.{May}
 use Rattle.lr_check.specs.Tree.{Node, Token}
 use Rattle.lr_check.specs.Statement.{fits_at, KidsFit}
 use Rattle.lr_check_parse.specs.Typed as parse
-use Rattle.lr_check_samples.specs.Fixed.{leaf, tokens}
+use Rattle.lr_check_samples.specs.Fixed.{leaf}
 use Rattle.lr_check_samples.specs.Nodes.{Stands}
+use Rattle.lr_check_samples.specs.Stops.{tokens}
 use Rattle.lr_check_samples.proofs.Drawing.{stands_both, stands_node}
 use Rattle.lr_check_samples.proofs.Typing.{tokens-append}
 use Rattle.lr_check_nodes.specs.Growing.{AreWhole}

@@ -16,8 +16,7 @@ use Rattle.lr_check_sets.proofs.Endless.{NoEnds, not_end}
 use Rattle.lr_check.specs.Tree.{Token}
 use Rattle.lr_check.specs.Parse.{Part, symbols, coming}
 use Rattle.lr_check_parse.specs.Typed.{AreTyped, begins}
-use Rattle.lr_check_samples.specs.Fixed.{tokens}
-use Rattle.lr_check_samples.specs.Stops.{Moves, Comes, at_once, by_move, Turns, one_turn, more_turns, Blocks, Loops}
+use Rattle.lr_check_samples.specs.Stops.{tokens, Moves, Comes, at_once, by_move, Turns, one_turn, more_turns, Blocks, Loops}
 use Rattle.lr_check_samples.proofs.Ruling.{shift_moves, reduce_moves, blocks_so}
 use Rattle.lr_check_samples.proofs.Stopping.{BlocksBy, LoopsBy}
 

@@ -21,9 +21,10 @@ use Rattle.lr_check_found.specs.Found.{FoundView, IsPlaceAt, IsSettlingAt, Settl
 use Rattle.lr_check_found.specs.Items as items
 use Rattle.lr_check_found.specs.Items.{Begun, Made, IsEarlier, IsLater}
 use Rattle.lr_check_found.specs.Sound.{IsSoundPlace, IsSoundSettling, IsFound}
-use Rattle.lr_check_samples.specs.Fixed.{tokens, fixed_leaf, fixed_one, fixed_two, fixed_reduced, IsOrigin, BeginsWith, at_root, at_only, at_first, at_second}
+use Rattle.lr_check_samples.specs.Fixed.{fixed_leaf, fixed_one, fixed_two, fixed_reduced, IsOrigin, BeginsWith, at_root, at_only, at_first, at_second}
 use Rattle.lr_check_samples.specs.Samples.{of_gap, of_dead, Turning, turn, turn_on, of_circle}
 use Rattle.lr_check_samples.specs.Claims.{HasTree, HasContext, FaultsHaveSamples}
+use Rattle.lr_check_samples.specs.Stops.{tokens}
 use Rattle.lr_check_samples.proofs.Making.{settles_of}
 
 -- trees are typed

@@ -3,8 +3,8 @@ use Rattle.lr_check_sets.specs.Exact.{MeetsLaws}
 use Rattle.lr_check_sets.specs.Table.{automaton_of}
 use Rattle.lr_check_sets.proofs.Meeting.{tables_meet_laws}
 use Rattle.lr_check_parse.specs.Typed.{IsStatement}
-use Rattle.lr_check_samples.specs.Fixed.{tokens}
 use Rattle.lr_check_samples.specs.Claims.{FoundTreesLead, ContextsLead, SamplesBlock, SamplesLoop}
+use Rattle.lr_check_samples.specs.Stops.{tokens}
 use Rattle.lr_check_samples.proofs.Found_trees.{leads}
 use Rattle.lr_check_samples.proofs.Round.{comes_to_quiet, reaches}
 use Rattle.lr_check_samples.proofs.Typing.{blocking_typed, looping_typed}

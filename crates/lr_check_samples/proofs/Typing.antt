@@ -15,8 +15,9 @@ use Rattle.lr_check_found.specs.declared.places.Place.{Place}
 use Rattle.lr_check_found.specs.declared.places.Origin.TheVariants as origin
 use Rattle.lr_check_found.specs.Found.{FoundView, IsPlaceAt, SettlesAt}
 use Rattle.lr_check_found.specs.Sound.{IsFound}
-use Rattle.lr_check_samples.specs.Fixed.{tokens, leaf, Fixed, fixed_leaf, fixed_one, fixed_two, fixed_reduced, Context, at_root, at_only, at_first, at_second}
+use Rattle.lr_check_samples.specs.Fixed.{leaf, Fixed, fixed_leaf, fixed_one, fixed_two, fixed_reduced, Context, at_root, at_only, at_first, at_second}
 use Rattle.lr_check_samples.specs.Samples.{BlockingSample, of_gap, of_dead, LoopingSample, of_circle}
+use Rattle.lr_check_samples.specs.Stops.{tokens}
 use Rattle.lr_check_samples.proofs.Making.{AreSame, same_settling, settles_of, settled_so, MadeLeaf, MadeOne, MadeTwo, MadeReduced, made_leaf, made_one, made_two, made_reduced}
 use Rattle.lr_check_samples.proofs.Beginning.{BegunFirst, BegunSecond, begun_root, begun_first, begun_second, begun_so}
 

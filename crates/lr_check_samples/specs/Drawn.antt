@@ -9,10 +9,9 @@ use Rattle.lr_check.specs.Tree.{Node, Token, IsTree}
 use Rattle.lr_check_parse.specs.Typed.{AreTyped}
 use Rattle.lr_check_found.specs.declared.places.Place.{Place}
 use Rattle.lr_check_found.specs.Found.{FoundView, IsPlaceAt, SettlesAt}
-use Rattle.lr_check_samples.specs.Fixed.{tokens}
 use Rattle.lr_check_samples.specs.Samples.{Turning}
 use Rattle.lr_check_samples.specs.Nodes.{Stands, IsNode, DrawnKids, DrawnRound}
-use Rattle.lr_check_samples.specs.Stops.{Blocking, Looping}
+use Rattle.lr_check_samples.specs.Stops.{tokens, Blocking, Looping}
 
 pub data DrawnBlocking (A : Automaton) (f : FoundView) (nodes : List Node) : Type 0 where
   drawn_gap : {n top root : ℕ} {x : Place} {ks : List ℕ} {vs : List Token} →

@@ -1,6 +1,6 @@
 -- The trees of what was found, by the leaves of their tokens with the answers of their nodes: a settling's, whatever stands round it,
 -- and the tree round a place, in which only subtrees that are read before the place have answers.
-use Rattle.std.specs.Prelude.{◌≡◌, ℕ, ◌+◌, List, [], ◌∷◌, ◌++◌, Some, Bool, length, map, slice_get}
+use Rattle.std.specs.Prelude.{◌≡◌, ℕ, ◌+◌, List, [], ◌∷◌, ◌++◌, Some, Bool, length, slice_get}
 use Rattle.tree_core.specs.declared.token.Tok.{Tok}
 use Rattle.tree_core.specs.declared.token.Sort.{Sort}
 use Rattle.tree_core.specs.Grammar.{kids}
@@ -16,9 +16,7 @@ use Rattle.lr_check_found.specs.declared.settlings.How.TheVariants as how
 use Rattle.lr_check_found.specs.declared.settlings.Settling.{Settling}
 use Rattle.lr_check_found.specs.Found.{FoundView, IsPlaceAt, IsSettlingAt, SettlesAt}
 use Rattle.lr_check_samples.specs.Answering.{root_no, further, answers_to, depths_to}
-
-abbrev pub tokens : List Token → List Tok
-tokens w = map (λ (l : Token). l.tok) w
+use Rattle.lr_check_samples.specs.Stops.{tokens}
 
 abbrev pub leaf : Tok → List Bool → Token
 leaf k answers = record { tok = k; answers = answers }

@@ -10,7 +10,8 @@ use Rattle.lr_check_parse.specs.Typed.{AreTyped}
 use Rattle.lr_check_found.specs.declared.places.Place.{Place}
 use Rattle.lr_check_found.specs.Found.{FoundView, IsPlaceAt, SettlesAt}
 use Rattle.lr_check_samples.specs.Answering.{answers_to, depths_to}
-use Rattle.lr_check_samples.specs.Fixed.{tokens, leaf, Fixed, Context}
+use Rattle.lr_check_samples.specs.Fixed.{leaf, Fixed, Context}
+use Rattle.lr_check_samples.specs.Stops.{tokens}
 
 pub data BlockingSample (A : Automaton) (f : FoundView) : List Token → Type 0 where
   -- the token of a place is not shifted: its kids are any trees

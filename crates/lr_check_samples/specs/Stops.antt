@@ -1,5 +1,6 @@
 -- The parse of tokens over a description's rules, of whatever length, step by step, and where it stops: it knows no table.
 use Rattle.std.specs.Prelude.{◌≡◌, ℕ, List, [], ◌∷◌, Some, None, map, slice_get}
+use Rattle.tree_core.specs.declared.token.Tok.{Tok}
 use Rattle.tree_core.specs.declared.token.Tok.TheVariants as tok
 use Rattle.md_reader.specs.declared.types.Rule.{Rule}
 use Rattle.md_reader.specs.declared.types.Sym.TheVariants as grammar_symbol
@@ -10,6 +11,10 @@ use Rattle.lr_check.specs.Tree.{Token}
 use Rattle.lr_check.specs.declared.sample.Outcome.TheVariants as outcome
 use Rattle.lr_check.specs.Parse.{Part, symbols, reduced, Reduction, Ends}
 use Rattle.lr_check_parse.specs.Typed.{IsStatement}
+
+-- the tokens without their answers
+abbrev pub tokens : List Token → List Tok
+tokens w = map (λ (l : Token). l.tok) w
 
 -- a token is shifted where an item stands before it, or a rule is taken
 pub data Moves (rules : List Rule) (stmt : ℕ) : List Token → List Part → List Token → List Part → Type 0 where
@@ -50,12 +55,12 @@ pub record Loops (d : Content) (w : List Token) : Type 0 where
 
 -- a typed statement whose parse blocks by its own answers
 pub record Blocking (d : Content) (w : List Token) : Type 0 where
-  pub statement : IsStatement (map (λ (l : Token). l.tok) w)
+  pub statement : IsStatement (tokens w)
   pub blocks : Blocks d w
 
 -- a typed statement whose parse turns by its own answers
 pub record Looping (d : Content) (w : List Token) : Type 0 where
-  pub statement : IsStatement (map (λ (l : Token). l.tok) w)
+  pub statement : IsStatement (tokens w)
   pub loops : Loops d w
 
 -- how the parse of `lr_check` ends, which stops at the first stack that comes twice

@@ -19,7 +19,8 @@ use Rattle.lr_check_parse.specs.Lists.{EndsSo}
 use Rattle.lr_check_parse.specs.Claims.{questioned}
 use Rattle.lr_check_parse.specs.Typed.{IsStatement}
 use Rattle.lr_check_parse.proofs.Sources.{parse_answered}
-use Rattle.lr_checked.specs.Accepted.{tokens, moves}
+use Rattle.lr_check_samples.specs.Stops.{tokens}
+use Rattle.lr_checked.specs.Accepted.{moves}
 use Rattle.lr_checked.specs.Claims.{NoFaultIsEnough, ParsesAccept}
 use Rattle.lr_checked.proofs.Trees.{statement_tree}
 use Rattle.lr_checked.proofs.Counting.{counted}

@@ -9,7 +9,7 @@ use Rattle.lr_check_sets.specs.Trees.{Tree, Trees, node, no_trees, more_trees, M
 use Rattle.lr_check_sets.specs.Answers.{leaves, leaves_all}
 use Rattle.lr_check.specs.Tree.{Token}
 use Rattle.lr_check_parse.specs.Typed.{AreTyped, ends, begins, IsStatement}
-use Rattle.lr_checked.specs.Accepted.{tokens}
+use Rattle.lr_check_samples.specs.Stops.{tokens}
 
 -- trees of the first sorts, and those of the others behind them
 record Parted (xs ys : List Sort) (vs : Trees (xs ++ ys)) (w : List Token) : Type 0 where

@@ -1,6 +1,5 @@
 -- What an accepted description says: no typed statement blocks the parser or makes it turn for ever.
-use Rattle.std.specs.Prelude.{◌≡◌, ℕ, suc, ◌+◌, ◌*◌, ◌≤◌, List, [], length, map}
-use Rattle.tree_core.specs.declared.token.Tok.{Tok}
+use Rattle.std.specs.Prelude.{◌≡◌, ℕ, suc, ◌+◌, ◌*◌, ◌≤◌, List, [], length}
 use Rattle.md_reader.specs.declared.types.Rule.{Rule}
 use Rattle.md_reader.specs.declared.types.Sym.{Sym}
 use Rattle.md_reader.specs.State.{Content}
@@ -10,10 +9,7 @@ use Rattle.lr_check.specs.declared.sample.Outcome.TheVariants as outcome
 use Rattle.lr_check.specs.Tree.{Token}
 use Rattle.lr_check.specs.Parse.{Part, Ends, loops, accepts, shifts, reduces, blocks}
 use Rattle.lr_check_parse.specs.Typed.{IsStatement}
-
--- the tokens of leaves with answers
-abbrev pub tokens : List Token → List Tok
-tokens w = map (λ (l : Token). l.tok) w
+use Rattle.lr_check_samples.specs.Stops.{tokens}
 
 -- how many shifts and reductions a parse makes
 abbrev pub moves : {rules : List Rule} {stmt at : ℕ} {before : List (List Sym)} {ws : List Token} {s : List Part} {o : Outcome} →
