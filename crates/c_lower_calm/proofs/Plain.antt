@@ -10,7 +10,7 @@ use Rattle.c_types.specs.declared.typed.ArithmeticOperator.TheVariants as ariths
 use Rattle.c_types.specs.Constants.{scale}
 use Rattle.c_types.specs.Typed.{APlace, VariableAt, PointedBy, ElementBy, AnExpression, Constant, LiteralAt, ArrayAt, ReadOf, SizeOfExpression, SizeOf, AddressOf, CallOf, StepOf}
 use Rattle.c_types.specs.Typed.{UnaryOf, CastTo, ConvertTo, ArithmeticOf, CompareOf, BothOf, EitherOf, AdvanceOf, AdvanceByOf, RetreatOf, DistanceOf, ChoiceOf, AssignTo}
-use Rattle.c_types.specs.Typed.{ArithmeticAssignTo, AdvanceAssignTo, RetreatAssignTo, CommaOf}
+use Rattle.c_types.specs.Typed.{ArithmeticAssignTo, AdvanceAssignTo, RetreatAssignTo, CommaOf, place_type}
 use Rattle.tree_core.specs.declared.program.TreeItem.{TreeItem}
 use Rattle.tree_core.specs.declared.program.TreeItem.TheVariants as tree_item
 use Rattle.c_lower_scheme.specs.Trees.{Tree, Num, Neg, Com, Bin, Item, divides, reads, breaks, AssignLoc}
@@ -22,7 +22,7 @@ use Rattle.c_lower_scheme.specs.Expressions.{unary, seek, way}
 use Rattle.c_lower_scheme.specs.Conditions.{deliver_as}
 use Rattle.c_lower_scheme.specs.Spelling.{spelled}
 use Rattle.c_lower_scheme.proofs.Places.{local_is}
-use Rattle.c_lower_calm.specs.Plain.{PlainPlace, Plain, PlainUnary, unary_tree, type_at, place_at, plain_tree}
+use Rattle.c_lower_calm.specs.Plain.{PlainPlace, Plain, PlainUnary, unary_tree, place_at, plain_tree}
 use Rattle.c_lower_calm.specs.Claim.{SpellsCalm, only, returned, stored, PlainIsOneTree}
 use Rattle.c_lower_calm.proofs.Trees.{Apart, IsCalm, IsCalmItem, RootIsCalm}
 use Rattle.c_lower_calm.proofs.Backs.{item_back}
@@ -104,7 +104,9 @@ module _ (size count : ℕ) where
   unary_due unaries.Not e w p h t l = absurd p
 
   mutual
-    place_due : (p : APlace) → PlainPlace p → IsCalm (address_tree (place_at p)) → (t l : ℕ) → seek size count p t l ≡ found_at (type_at p) (place_at p) t l
+    unfolding place_type
+
+    place_due : (p : APlace) → PlainPlace p → IsCalm (address_tree (place_at p)) → (t l : ℕ) → seek size count p t l ≡ found_at (place_type p) (place_at p) t l
     place_due (VariableAt ty v) p h t l = refl
     place_due (PointedBy ty e) p h t l = ap (pointed ty) (plain_due e p h t l)
     place_due (ElementBy ty e) p h t l = ap (pointed ty) (plain_due e p h t l)
@@ -113,7 +115,7 @@ module _ (size count : ℕ) where
     plain_due (Constant n) p h t l = refl
     plain_due (LiteralAt n bytes) p h t l = refl
     plain_due (ArrayAt ty v bytes) p h t l = refl
-    plain_due (ReadOf x) p h t l = ap read_low (place_due x p (read_calm (type_at x) (place_at x) h) t l)
+    plain_due (ReadOf x) p h t l = ap read_low (place_due x p (read_calm (place_type x) (place_at x) h) t l)
     plain_due (SizeOfExpression n e) p h t l = refl
     plain_due (SizeOf n) p h t l = refl
     plain_due (AddressOf ty x) p h t l = absurd p
@@ -232,7 +234,7 @@ pub plain_is_one_tree : PlainIsOneTree
 plain_is_one_tree = record {
   returns = λ size count lb lc l rest e p h. plain_deliver size count e p (calm_item (returned e) h) AsResult size l;
   stores = λ size count lb lc l rest p e pp pe h.
-      let c = parts_of size count (type_at p) (place_at p) (plain_tree e) (calm_item (stored p e) h) in
+      let c = parts_of size count (place_type p) (place_at p) (plain_tree e) (calm_item (stored p e) h) in
       ap (λ (x : Located). assign_drop size count (local_of size count x) x (way size count e)) (place_due size count p pp c.0 size l)
-      ∙ assigned_due size count (local_in (integer_of (type_at p)) (place_at p)) (type_at p) (place_at p) e refl pe c.1 c.2 size l;
+      ∙ assigned_due size count (local_in (integer_of (place_type p)) (place_at p)) (place_type p) (place_at p) e refl pe c.1 c.2 size l;
 }

@@ -6,7 +6,7 @@ use Rattle.tree_core.specs.declared.program.TreeItem.TheVariants as tree_item
 use Rattle.tree_core.specs.declared.program.TreeFn.{TreeFn}
 use Rattle.tree_core.specs.declared.program.TreeProgram.{TreeProgram}
 use Rattle.tree_core.specs.Calm.{Calm}
-use Rattle.c_types.specs.Typed.{APlace, AnExpression, AssignTo}
+use Rattle.c_types.specs.Typed.{APlace, AnExpression, AssignTo, place_type}
 use Rattle.c_program.specs.Statements.{AnAction, SomeActions, NoActions, MoreActions, DeclareOf, BlockOf, EvaluateOf}
 use Rattle.c_program.specs.Statements.{BreakOf, ContinueOf, ReturnOf, IfOf, IfElseOf, WhileOf, DoOf, ForOf}
 use Rattle.c_program.specs.Programs.{ARoutine, AProgram}
@@ -16,7 +16,7 @@ use Rattle.c_lower_scheme.specs.Places.{assign_to}
 use Rattle.c_lower_scheme.specs.Statements.{lower}
 use Rattle.c_lower_scheme.specs.Spelling.{spelled}
 use Rattle.c_lower_scheme.specs.Programs.{lowered}
-use Rattle.c_lower_calm.specs.Plain.{PlainPlace, Plain, type_at, place_at, plain_tree}
+use Rattle.c_lower_calm.specs.Plain.{PlainPlace, Plain, place_at, plain_tree}
 
 -- In none of a program's trees is memory read behind a division.
 abbrev pub TreesAreCalm : TreeProgram → Type 0
@@ -40,7 +40,7 @@ abbrev pub returned : AnExpression → Item
 returned e = Ret (plain_tree e)
 
 abbrev pub stored : APlace → AnExpression → Item
-stored p e = assign_to (type_at p) (place_at p) (plain_tree e)
+stored p e = assign_to (place_type p) (place_at p) (plain_tree e)
 
 -- the statements of a body in the order of the text, but for blocks, `if` and loops, whose parts stand in their place
 abbrev mutual

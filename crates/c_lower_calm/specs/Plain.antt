@@ -1,12 +1,11 @@
 -- Plain expressions, and the tree that follows each part for part.
-use Rattle.c_types.specs.declared.types.CType.{CType}
 use Rattle.c_types.specs.declared.typed.UnaryOperator.{UnaryOperator}
 use Rattle.c_types.specs.declared.typed.UnaryOperator.TheVariants as unaries
 use Rattle.c_types.specs.Typed.{APlace, VariableAt, PointedBy, ElementBy, AnExpression, Constant, LiteralAt, ArrayAt}
 use Rattle.c_types.specs.Typed.{ReadOf, SizeOfExpression, SizeOf, AddressOf, CallOf, StepOf}
 use Rattle.c_types.specs.Typed.{UnaryOf, CastTo, ConvertTo, ArithmeticOf, CompareOf, BothOf, EitherOf, AdvanceOf}
 use Rattle.c_types.specs.Typed.{AdvanceByOf, RetreatOf, DistanceOf, ChoiceOf, AssignTo}
-use Rattle.c_types.specs.Typed.{ArithmeticAssignTo, AdvanceAssignTo, RetreatAssignTo, CommaOf}
+use Rattle.c_types.specs.Typed.{ArithmeticAssignTo, AdvanceAssignTo, RetreatAssignTo, CommaOf, place_type}
 use Rattle.c_lower_scheme.specs.Trees.{Tree, Num, Gaddr, Neg, Com, Bin}
 use Rattle.c_lower_scheme.specs.Parts.{Where, InMem}
 use Rattle.c_lower_scheme.specs.Places.{where_of, address_tree, read_from, fitted}
@@ -61,11 +60,6 @@ unary_tree unaries.Minus w = Neg w
 unary_tree unaries.Complement w = Com w
 unary_tree unaries.Not w = w
 
-abbrev pub type_at : APlace → CType
-type_at (VariableAt t v) = t
-type_at (PointedBy t e) = t
-type_at (ElementBy t e) = t
-
 -- A number is its constant, a local or parameter its slot, memory is read at its address, and an operator stands over
 -- its parts. Phrases that are not plain have no tree of their
 -- own, and stand here as 0.
@@ -79,7 +73,7 @@ abbrev mutual
   plain_tree (Constant n) = Num n
   plain_tree (LiteralAt object size) = Gaddr object
   plain_tree (ArrayAt t v size) = address_tree (where_of v)
-  plain_tree (ReadOf p) = read_from (type_at p) (place_at p)
+  plain_tree (ReadOf p) = read_from (place_type p) (place_at p)
   plain_tree (SizeOfExpression n e) = Num n
   plain_tree (SizeOf n) = Num n
   plain_tree (AddressOf t p) = Num 0
