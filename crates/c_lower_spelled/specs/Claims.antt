@@ -1,10 +1,7 @@
 -- What is claimed of the trees of a program where code is written for them: their names, numbers, offsets and labels can be spelled.
 use Rattle.std.specs.Prelude.{◌≡◌, ℕ, ◌≤◌, ◌^◌, List, [], ◌∷◌, length, Some, true, slice_get}
 use Rattle.std.specs.List.{AllByRecursion}
-use Rattle.tree_core.specs.declared.tree.Leaf.{Leaf}
-use Rattle.tree_core.specs.declared.program.TreeItem.TheVariants as tree_item
 use Rattle.tree_core.specs.declared.program.TreeFn.{TreeFn}
-use Rattle.tree_core.specs.declared.program.TreeProgram.{TreeProgram}
 use Rattle.tree_core.specs.Names.{function_label}
 use Rattle.c_phrases.specs.Units.{AUnit}
 use Rattle.c_program.specs.Need.{need_of}
@@ -13,7 +10,7 @@ use Rattle.c_typed_law.specs.Texts.{IsText}
 use Rattle.c_typed_words.specs.Words.{IsName, HasTokens}
 use Rattle.c_sound.specs.Sound.{IsSound}
 use Rattle.c_lower_scheme.specs.Programs.{body_of, lowered}
-use Rattle.sel_target.specs.Spelled.{IsSpelled}
+use Rattle.sel_target.specs.Spelled.{TreesAreSpelled}
 use Rattle.vax_core.specs.Valid.{is_name}
 use Rattle.gg_compile_law.specs.Names.{HaveSmall}
 
@@ -26,13 +23,7 @@ labels_behind count (g ∷ gs) l = labels_behind count gs (body_of count g l).la
 abbrev pub label_count : AProgram → ℕ
 label_count p = labels_behind (length p.routines) p.routines 0
 
--- The numbers, offsets and labels in the trees of a program are longwords, and their objects the program's.
-abbrev pub TreesAreSpelled : TreeProgram → Type 0
-TreesAreSpelled q = (f n : ℕ) (g : TreeFn) (w : List Leaf) → slice_get q.functions f ≡ Some g → slice_get g.items n
-    ≡ Some (tree_item.Root w)
-    → AllByRecursion (λ (l : Leaf). IsSpelled q l.att) w
-
--- So it is with what a sound program is lowered to, where longwords count its labels.
+-- The trees that a sound program is lowered to can be spelled, where longwords count its labels.
 abbrev pub LoweredIsSpelled : Type 0
 LoweredIsSpelled = (p : AProgram) → IsSound p → label_count p ≤ 2 ^ 32 → TreesAreSpelled (lowered p)
 

@@ -1,22 +1,15 @@
 -- Tree programs of which code is selected.
-use Rattle.std.specs.Prelude.{◌≡◌, ℕ, ◌≤◌, List, Some, slice_get}
-use Rattle.std.specs.List.{All, AllByRecursion}
-use Rattle.tree_core.specs.declared.tree.Leaf.{Leaf}
-use Rattle.tree_core.specs.declared.program.TreeItem.TheVariants as tree_item
+use Rattle.std.specs.Prelude.{◌≡◌, ℕ, ◌≤◌, Some, slice_get}
+use Rattle.std.specs.List.{All}
 use Rattle.tree_core.specs.declared.program.TreeFn.{TreeFn}
 use Rattle.tree_core.specs.declared.program.TreeProgram.{TreeProgram}
 use Rattle.tree_core.specs.Calm.{Calm}
 use Rattle.tree_core.specs.Valid.{IsValid}
-use Rattle.sel_target.specs.Spelled.{IsSpelled}
+use Rattle.sel_target.specs.Spelled.{EachTree, TreesAreSpelled}
 use Rattle.vax_target_meaning.specs.Fitting.{CanWrite}
 use Rattle.gg_compile_law.specs.Spelling.{HoldsNumbers}
 use Rattle.gg_compile_law.specs.Names.{HaveSmall}
 use Rattle.gg_compile_law.specs.Loaded.{AreApart}
-
--- it holds of each tree of each function
-abbrev pub EachTree : (List Leaf → Type 0) → TreeProgram → Type 0
-EachTree P q = (f n : ℕ) (g : TreeFn) (w : List Leaf) → slice_get q.functions f ≡ Some g → slice_get g.items n
-    ≡ Some (tree_item.Root w) → P w
 
 -- A tree program that code can be selected of: it is valid, in none of its trees is memory read behind a division, each
 -- function's locals fit
@@ -29,5 +22,5 @@ pub record IsSelectable (q : TreeProgram) : Type 0 where
   pub numbers : All (HoldsNumbers q.objects) q.objects
   -- its names can be spelled, and its numbers, offsets and labels are longwords
   pub names : CanWrite q
-  pub longwords : EachTree (λ (w : List Leaf). AllByRecursion (λ (l : Leaf). IsSpelled q l.att) w) q
+  pub longwords : TreesAreSpelled q
   pub small : HaveSmall q.functions

@@ -2,7 +2,6 @@
 use Rattle.std.specs.Prelude.{◌≡◌, ℕ, ◌≤◌, List, Some, true, slice_get}
 use Rattle.std.specs.List.{AllByRecursion}
 use Rattle.gg_base.specs.Follows.{Follows}
-use Rattle.tree_core.specs.declared.tree.Leaf.{Leaf}
 use Rattle.tree_core.specs.declared.program.TreeFn.{TreeFn}
 use Rattle.tree_core.specs.declared.program.TreeProgram.{TreeProgram}
 use Rattle.tree_core.specs.Names.{function_label}
@@ -12,7 +11,7 @@ use Rattle.c_sound.specs.Sound.{IsSound}
 use Rattle.c_meaning.specs.Programs.{source}
 use Rattle.c_lower_scheme.specs.Programs.{lowered}
 use Rattle.md_reader.specs.State.{Content}
-use Rattle.sel_target.specs.Spelled.{IsSpelled}
+use Rattle.sel_target.specs.Spelled.{TreesAreSpelled}
 use Rattle.sel_parse_written.specs.sel_parse_effect.specs.Claims.{IsFit}
 use Rattle.vax_core.specs.declared.code.Code.{Code}
 use Rattle.vax_core.specs.Valid.{is_name}
@@ -21,7 +20,6 @@ use Rattle.vax_machine.specs.Running.{run}
 use Rattle.vax_target_meaning.specs.Vax.{vax}
 use Rattle.gg_compile_law.specs.Names.{HaveSmall}
 use Rattle.gg_compile_keeps.specs.gg_compile_code.specs.Selecting.{SelectedAll}
-use Rattle.gg_compile_keeps.specs.Programs.{EachTree}
 
 -- The code loads, and on every input of bytes its run follows the program's.
 pub record Keeps (p : AProgram) (c : Code) : Type 0 where
@@ -33,7 +31,7 @@ pub record Keeps (p : AProgram) (c : Code) : Type 0 where
 -- function's locals fit its frame.
 pub record IsWithinLimits (q : TreeProgram) : Type 0 where
   pub names : AllByRecursion (λ (f : TreeFn). is_name (function_label f.name) ≡ true) q.functions
-  pub longwords : EachTree (λ (w : List Leaf). AllByRecursion (λ (l : Leaf). IsSpelled q l.att) w) q
+  pub longwords : TreesAreSpelled q
   pub small : HaveSmall q.functions
   pub locals : (n : ℕ) (g : TreeFn) → slice_get q.functions n ≡ Some g → g.locals ≤ 1024
 

@@ -1,6 +1,5 @@
 -- By a description that was checked and shown, the trees of a program all have code.
 use Rattle.std.specs.Prelude.{◌≡◌, ℕ, List, Some, slice_get}
-use Rattle.std.specs.List.{AllByRecursion}
 use Rattle.tree_core.specs.declared.tree.Leaf.{Leaf}
 use Rattle.tree_core.specs.declared.program.TreeItem.TheVariants as tree_item
 use Rattle.tree_core.specs.declared.program.TreeFn.{TreeFn}
@@ -10,13 +9,12 @@ use Rattle.md_reader.specs.State.{Content}
 use Rattle.lr_tables.specs.View.{TableView}
 use Rattle.lr_tables.specs.Promises.{IsNumbered}
 use Rattle.sel_parse_written.specs.lr_checked.specs.Accepted.{NeverStops}
-use Rattle.sel_target.specs.Spelled.{IsSpelled}
+use Rattle.sel_target.specs.Spelled.{TreesAreSpelled}
 use Rattle.sel_parse_desk.specs.Selected.{tree_of}
 use Rattle.sel_parse_written.specs.sel_parse_effect.specs.Claims.{IsFit}
 use Rattle.sel_parse_written.specs.sel_parse_law.specs.Claims.{HasCode}
 use Rattle.vax_target_meaning.specs.Fitting.{CanWrite}
 use Rattle.vax_target_meaning.specs.Vax.{vax}
-use Rattle.gg_compile_keeps.specs.Programs.{EachTree}
 use Rattle.gg_compile_keeps.specs.gg_compile_code.specs.Going.{ProgramGoes}
 use Rattle.gg_compile_laws.specs.Rooms.{HasRooms}
 
@@ -25,7 +23,7 @@ pub record HasReadyTrees (q : TreeProgram) : Type 0 where
   pub valid : IsValid q
   pub rooms : HasRooms q
   pub names : CanWrite q
-  pub longwords : EachTree (λ (w : List Leaf). AllByRecursion (λ (l : Leaf). IsSpelled q l.att) w) q
+  pub longwords : TreesAreSpelled q
 
 -- By a description whose rules were shown on the VAX, and whose typed statements never stop a parse, no tree of such a program stops its
 -- code: its parse neither blocks nor turns, and its frame isn't full.
