@@ -24,7 +24,11 @@ pub data Unfolds (nodes : List Node) : List ℕ → List Token → Type 0 where
 abbrev pub IsTree : List Node → List Token → Type 0
 IsTree nodes w = Unfolds nodes ((length nodes - 1) ∷ []) w
 
--- there is a node, and each kid has a lower number than its node
+-- each kid has a lower number than its node
+abbrev pub KidsAreLower : List Node → Type 0
+KidsAreLower nodes = (n k : ℕ) (v : Node) → slice_get nodes n ≡ Some v → Contains v.kids k → k < n
+
+-- there is a node, and kids have lower numbers
 pub record IsSample (nodes : List Node) : Type 0 where
   pub some : 0 < length nodes
-  pub lower : (n k : ℕ) (v : Node) → slice_get nodes n ≡ Some v → Contains v.kids k → k < n
+  pub lower : KidsAreLower nodes

@@ -1,15 +1,15 @@
 -- Nodes of a sample that grow: each node's kids stand before it and fit its token, and what stands stays.
-use Rattle.std.specs.Prelude.{◌≡◌, ℕ, ◌+◌, ◌<◌, List, [], ◌++◌, Some, Bool, true, Contains, length, slice_get}
+use Rattle.std.specs.Prelude.{◌≡◌, ℕ, ◌+◌, List, [], ◌++◌, Some, Bool, true, length, slice_get}
 use Rattle.tree_core.specs.declared.token.Tok.{Tok}
 use Rattle.tree_core.specs.declared.token.Tok.TheVariants as tok
 use Rattle.tree_core.specs.declared.token.Sort.{Sort}
 use Rattle.tree_core.specs.declared.token.Sort.TheVariants as sort
-use Rattle.lr_check.specs.Tree.{Node}
+use Rattle.lr_check.specs.Tree.{Node, KidsAreLower}
 use Rattle.lr_check.specs.Statement.{fits_at, KidsFit, AreTyped}
 
 -- each kid has a lower number than its node, and fits there
 pub record AreWhole (nodes : List Node) : Type 0 where
-  pub lower : (n k : ℕ) (v : Node) → slice_get nodes n ≡ Some v → Contains v.kids k → k < n
+  pub lower : KidsAreLower nodes
   pub typed : AreTyped nodes
 
 -- with more nodes behind them
