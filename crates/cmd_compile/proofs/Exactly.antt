@@ -7,14 +7,14 @@ use Rattle.cmd_session.specs.Writing.{Change}
 use Rattle.cmd_session.specs.Telling.{IsRefused}
 use Rattle.cmd_files.specs.Forms.{Holds, HoldsNone}
 use Rattle.cmd_files.specs.Outsides.{Outside}
-use Rattle.cmd_files.specs.Stages.{FileRefused, Unread, LongFile, WrongFile, StarvedFile, OutputRefused, CutOutput, StarvedOutput}
+use Rattle.cmd_files.specs.Stages.{input_limit, FileRefused, Unread, LongFile, WrongFile, StarvedFile, OutputRefused, CutOutput, StarvedOutput}
 use Rattle.cmd_files.specs.Exact.{IsLongFile, IsNoItem, IsItem, IsAnswer}
 use Rattle.cmd_files.proofs.Exactly.{long_no_item, long_not_wrong, item_not_long, none_not_long, none_no_item, item_not_wrong, same_item}
 use Rattle.md_reader.specs.State.{Content}
 use Rattle.c_program.specs.Programs.{AProgram}
 use Rattle.cmd_check.proofs.Exactly as check
 use Rattle.cmd_check.proofs.Exactly.{OfDescription, Comes, IsNot, of_description, not_refused, refuses}
-use Rattle.cmd_meaning.specs.Sources.{source_limit, source_form}
+use Rattle.cmd_meaning.specs.Sources.{source_form}
 use Rattle.gg_compile.specs.Needs.{AllFit, IsFirstOver}
 use Rattle.cmd_compile.specs.Texts.{FrameIsFull, StarvedText}
 use Rattle.cmd_compile.specs.Outcome.{Files, FindsDescription, Leaves, NoDescription, NoProgram, NoText, NotWritten, Written}
@@ -22,7 +22,7 @@ use Rattle.cmd_compile.specs.Exact.{Works, Given, Answers, HasNoFaults}
 
 -- how a source ends behind an accepted description
 data OfSource (result : Status) (names : Files) (at : Outside) (d : Content) : Type 0 where
-  LongSource : (is : result ≡ statuses.TooLong) (longer : IsLonger (at.folder.holds names.source) source_limit) → OfSource result names at d
+  LongSource : (is : result ≡ statuses.TooLong) (longer : IsLonger (at.folder.holds names.source) input_limit) → OfSource result names at d
   WrongSource : (is : result ≡ statuses.SourceRefused) (line : List ℕ) (wrong : HoldsNone source_form (at.folder.holds names.source) line)
       → OfSource result names at d
   Over : (p : AProgram) (holds : Holds source_form (at.folder.holds names.source) p) (function need : ℕ) (is : result ≡ statuses.FrameFull)
@@ -76,7 +76,7 @@ module _ (result : Status) (names : Files) (at : Outside) where
   before : (d : Content) (status : Status) → Works names at d → OfDescription result (at.folder.holds names.description) → IsAnswer status result
   before d status w of = not_refused result (at.folder.holds names.description) d status w.item w.accepted of
 
-  long_source : (d : Content) → Works names at d → IsLongFile source_limit (at.folder.holds names.source) → Kind result names at
+  long_source : (d : Content) → Works names at d → IsLongFile input_limit (at.folder.holds names.source) → Kind result names at
       → IsAnswer statuses.TooLong result
   long_source d w h (Memory is) = inr is
   long_source d w h (Before of) = before d statuses.TooLong w of

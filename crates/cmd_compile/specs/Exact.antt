@@ -3,12 +3,13 @@ use Rattle.std.specs.Prelude.{ℕ}
 use Rattle.cmd_session.specs.declared.status.Status.{Status}
 use Rattle.cmd_session.specs.declared.status.Status.TheVariants as statuses
 use Rattle.cmd_files.specs.Outsides.{Outside, HasNoFault}
+use Rattle.cmd_files.specs.Stages.{input_limit}
 use Rattle.cmd_files.specs.Exact.{IsLongFile, IsNoItem, IsItem, IsAnswer}
 use Rattle.md_reader.specs.State.{Content}
 use Rattle.c_program.specs.Programs.{AProgram}
 use Rattle.cmd_check.specs.Descriptions.{description_form, IsAccepted}
 use Rattle.cmd_check.specs.Exact.{Refuses}
-use Rattle.cmd_meaning.specs.Sources.{source_limit, source_form}
+use Rattle.cmd_meaning.specs.Sources.{source_form}
 use Rattle.gg_compile.specs.Needs.{AllFit, IsFirstOver}
 use Rattle.cmd_compile.specs.Outcome.{Files}
 
@@ -26,7 +27,7 @@ pub record Given (names : Files) (at : Outside) (p : AProgram) : Type 0 where
 -- each status where its cause is there
 pub record Answers (result : Status) (names : Files) (at : Outside) : Type 0 where
   pub description : Refuses result (at.folder.holds names.description)
-  pub long_source : (d : Content) → Works names at d → IsLongFile source_limit (at.folder.holds names.source)
+  pub long_source : (d : Content) → Works names at d → IsLongFile input_limit (at.folder.holds names.source)
       → IsAnswer statuses.TooLong result
   pub no_source : (d : Content) → Works names at d → IsNoItem source_form (at.folder.holds names.source)
       → IsAnswer statuses.SourceRefused result

@@ -10,7 +10,7 @@ use Rattle.cmd_session.specs.Telling.{IsRefused, IsStarved, Tells}
 use Rattle.cmd_files.specs.Forms.{Form, Runner, HoldsNone}
 use Rattle.cmd_files.specs.Outsides.{Lookup, IsUnfailed, Fails, FailsAtMost}
 
--- the longest input
+-- the longest input of a run, and the longest source
 abbrev pub input_limit : ℕ
 input_limit = 1048576
 

@@ -6,15 +6,12 @@ use Rattle.gg_base.specs.declared.run.End.TheVariants as ends
 use Rattle.cmd_session.specs.declared.status.Status.TheVariants as statuses
 use Rattle.cmd_session.specs.Running.{coming_of}
 use Rattle.cmd_files.specs.Forms.{Form, Runner}
+use Rattle.cmd_files.specs.Stages.{input_limit}
 use Rattle.c_program.specs.Programs.{AProgram}
 use Rattle.c_typed.specs.declared.source.SourceKind.{SourceKind}
 use Rattle.c_typed.specs.Sources.{Reads, IsFaultAt}
 use Rattle.c_meaning.specs.Programs.{source}
 use Rattle.cmd_meaning.specs.Lines.{fault_line}
-
--- the longest source
-abbrev pub source_limit : ℕ
-source_limit = 1048576
 
 -- the line names the first fault of the bytes, and where that stands
 pub record NamesFirstFault (bytes line : List ℕ) : Type 0 where
@@ -25,7 +22,7 @@ pub record NamesFirstFault (bytes line : List ℕ) : Type 0 where
 
 -- a file is the source of a program
 abbrev pub source_form : Form AProgram
-source_form = record { limit = source_limit; reads = Reads; refuses = NamesFirstFault; status = statuses.SourceRefused; of_files = tt }
+source_form = record { limit = input_limit; reads = Reads; refuses = NamesFirstFault; status = statuses.SourceRefused; of_files = tt }
 
 -- the ends of a source's run
 abbrev pub IsSourceEnd : End → Type 0
