@@ -145,10 +145,7 @@ fn lowest(registers: &[Register; 16]) -> Option<u8>
 fn is_free(register: Register) -> bool
     ensures { IsTrue result ↔ (register ≡ Register.Free) }
 {
-    match register {
-        Register::Free => true,
-        _ => false,
-    }
+    matches!(register, Register::Free)
 }
 
 fn is_free_at(registers: &[Register; 16], r: u8) -> bool
