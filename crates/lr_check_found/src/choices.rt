@@ -29,10 +29,7 @@ impl Seen {
     pub fn leads_out(&self) -> bool
         ensures { result ≡ is_out self.now.leads }
     {
-        match self.leads {
-            Leads::Out(_) => true,
-            _ => false,
-        }
+        matches!(self.leads, Leads::Out(_))
     }
 }
 
