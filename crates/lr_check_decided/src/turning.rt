@@ -44,10 +44,7 @@ fn next(tables: &Tables, state: State, behind: Tok, marks: &[bool], class: u16) 
     requires stuck { Stuck (automaton_of tables.now) state behind marks.now class }
     ensures { IsNext (automaton_of tables.now) state behind marks.now class result }
 {
-    match next_unmarked(tables, state, behind, marks, class) {
-        Some(next) => next,
-        None => unreachable!(),
-    }
+    next_unmarked(tables, state, behind, marks, class).unwrap()
 }
 
 /// A class that comes again, to which reductions lead from the class, which isn't marked.
