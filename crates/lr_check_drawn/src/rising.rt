@@ -38,10 +38,7 @@ fn behind_of(found: &Found, place: usize) -> Tok
 fn origin_of(found: &Found, place: usize) -> Origin
     ensures { (o : Origin) → IsOrigin found.now place o → result ≡ o }
 {
-    match found.origins().get(place) {
-        Some(origin) => *origin,
-        None => Origin::Root,
-    }
+    found.origins().get(place).copied().unwrap_or(Origin::Root)
 }
 
 fn has_two(token: Tok) -> bool
