@@ -42,10 +42,7 @@ fn register_in(attr: &Attr<Operand>) -> Reg
     ensures { result ≡ register_in attr.now }
 {
     match attr {
-        Attr::Reg(n) => match Reg::from_number(*n as usize) {
-            Some(r) => r,
-            None => Reg::R0,
-        },
+        Attr::Reg(n) => Reg::from_number(*n as usize).unwrap_or(Reg::R0),
         _ => Reg::R0,
     }
 }
@@ -95,10 +92,7 @@ impl<'a> Filling<'a> {
         if i == 0 {
             return self.zero;
         }
-        match self.holes.get(i as usize - 1) {
-            Some(attr) => attr,
-            None => self.zero,
-        }
+        self.holes.get(i as usize - 1).unwrap_or(self.zero)
     }
 
     // The address behind an object's label.

@@ -58,10 +58,7 @@ fn forms(alloc: Global, kinds: &[OperandKind], marks: &[Mark]) -> Result<Vec<For
 fn is_label(marks: &[Mark]) -> bool
     ensures { result ≡ behind_blank is_label (strip 32 marks.now) }
 {
-    match strip(b' ', marks) {
-        Some([Mark::Label]) => true,
-        _ => false,
-    }
+    matches!(strip(b' ', marks), Some([Mark::Label]))
 }
 
 // `%N,%F`
@@ -71,10 +68,7 @@ fn is_call(marks: &[Mark]) -> bool
     let [Mark::Count, rest @ ..] = marks else {
         return false;
     };
-    match strip(b',', rest) {
-        Some([Mark::Callee]) => true,
-        _ => false,
-    }
+    matches!(strip(b',', rest), Some([Mark::Callee]))
 }
 
 // ` %N,%F`

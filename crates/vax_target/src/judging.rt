@@ -95,28 +95,19 @@ fn puts(alloc: Global, t: Box<Term>) -> Step
 fn is_relation(hole: Hole) -> bool
     ensures { result ≡ is_relation hole }
 {
-    match hole {
-        Hole::Relation => true,
-        _ => false,
-    }
+    matches!(hole, Hole::Relation)
 }
 
 fn is_movl(op: Op) -> bool
     ensures { result ≡ is_movl op }
 {
-    match op {
-        Op::Movl => true,
-        _ => false,
-    }
+    matches!(op, Op::Movl)
 }
 
 fn is_last_result(t: &Term) -> bool
     ensures { result ≡ is_last_result (shape_of t.now) }
 {
-    match t {
-        Term::Res => true,
-        _ => false,
-    }
+    matches!(t, Term::Res)
 }
 
 // A result at its destination.

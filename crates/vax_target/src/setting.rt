@@ -81,10 +81,7 @@ pub fn hole_at(holes: &[Hole], i: u8) -> Hole
     if i == 0 {
         return Hole::Other;
     }
-    match holes.get(i as usize - 1) {
-        Some(hole) => *hole,
-        None => Hole::Other,
-    }
+    holes.get(i as usize - 1).copied().unwrap_or(Hole::Other)
 }
 
 fn own_of(give: &Give) -> Own
