@@ -32,6 +32,8 @@ module _ (names : List (List ℕ × Entry)) (signatures : List Signature) where
   pub parameters_end : (defines : Bool) (at : ℕ) (ps : List Param) (i : ℕ) (s : State) → length ps ≤ i → type_parameters names signatures defines at (param_list (drop i ps)) i s ≡ Ok s
   parameters_end defines at ps i s le = rw (drop_all i ps le) refl
 
+pub ruleset parameter_facts = (parameter_step, parameter_fails, parameters_end)
+
 pub types_written : (ps : List Param) → map (λ p. parameter_type (param_of p)) ps ≡ map parameter_type (param_list ps)
 types_written [] = refl
 types_written (p ∷ ps) = ap (λ (types : List CType). parameter_type (param_of p) ∷ types) (types_written ps)

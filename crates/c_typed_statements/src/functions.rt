@@ -87,10 +87,7 @@ fn earlier(here: &Block, name: &Name, at: u32) -> Result<Option<usize>, TypeFaul
 fn defines(f: &Function) -> bool
     ensures { result ≡ is_some (function_of f.now).body }
 {
-    match &f.body {
-        None => false,
-        Some(_) => true,
-    }
+    f.body.is_some()
 }
 
 // The result of a function is no `void` with stars.
@@ -203,7 +200,7 @@ fn declare_parameter(
 }
 
 // The parameters, numbered in order.
-#[tactic(auto, using(crate::proofs::Parameters::parameter_step, crate::proofs::Parameters::parameter_fails, crate::proofs::Parameters::parameters_end))]
+#[tactic(auto, using(crate::proofs::Parameters::parameter_facts))]
 fn declare_parameters(
     alloc: Global,
     functions: &Functions,
