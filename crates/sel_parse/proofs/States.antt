@@ -1,10 +1,11 @@
 -- The states of a stack, and the leaf that comes next.
-use Rattle.std.proofs.Common.{◌≡◌, ◌⊎◌, inl, inr, ℕ, zero, suc, ◌+◌, ◌-◌, ◌≤◌, List, [], ◌∷◌, ◌++◌, Some, None, length, take, drop, slice_get, refl, sym, ap, ◌∙◌, subst, arith, length-append}
+use Rattle.std.proofs.Common.{◌≡◌, ◌⊎◌, inl, inr, ℕ, zero, suc, ◌+◌, ◌-◌, ◌≤◌, List, [], ◌∷◌, ◌++◌, Option, Some, None, length, take, drop, slice_get, refl, sym, ap, ◌∙◌, subst, arith, length-append}
+use Rattle.std.specs.Option.{unwrap_or}
 use Rattle.tree_core.specs.declared.tree.Leaf.{Leaf}
 use Rattle.md_reader.specs.declared.types.Sym.{Sym}
 use Rattle.lr_tables.specs.View.{TableView}
 use Rattle.lr_tables.specs.Leads.{Leads, nowhere}
-use Rattle.sel_parse.specs.Steps.{state_in, top_of}
+use Rattle.sel_parse.specs.Steps.{top_of}
 
 get_last : (qs : List ℕ) (p k : ℕ) → k ≡ length qs → slice_get (qs ++ p ∷ []) k ≡ Some p
 get_last [] p zero e = refl
@@ -15,7 +16,7 @@ get_last (q ∷ qs) p (suc k) e = get_last qs p k (omega (arith, e))
 pub top_of-snoc : (qs : List ℕ) (p : ℕ) → top_of (qs ++ p ∷ []) ≡ p
 top_of-snoc qs p =
     let n = length-append qs (p ∷ []) in
-    ap state_in (get_last qs p (length (qs ++ p ∷ []) - 1) (omega (arith, n)))
+    ap (λ (o : Option ℕ). unwrap_or o 0) (get_last qs p (length (qs ++ p ∷ []) - 1) (omega (arith, n)))
 
 take_all : (qs : List ℕ) (k : ℕ) → k ≡ length qs → take k qs ≡ qs
 take_all [] zero e = refl

@@ -1,6 +1,7 @@
 -- The parse as the code computes it by the tables, step by step.
 use Rattle.std.specs.Prelude.{◌≡◌, ◌⊎◌, ℕ, ◌+◌, ◌-◌, ◌==◌, nat_lt, List, [], ◌∷◌, ◌++◌, Option, Some, None, Bool, true}
 use Rattle.std.specs.Prelude.{false, length, take, replicate, slice_get, slice_index_or, slice_set, ◌||◌, if◌then◌else◌}
+use Rattle.std.specs.Option.{unwrap_or}
 use Rattle.tree_core.specs.declared.token.Tok.{Tok}
 use Rattle.tree_core.specs.declared.token.Tok.TheVariants as tok
 use Rattle.tree_core.specs.declared.tree.Leaf.{Leaf}
@@ -25,9 +26,8 @@ use Rattle.sel_parse.specs.declared.selection.Parse.{Parse}
 use Rattle.sel_parse.specs.declared.selection.ParseFault.{ParseFault}
 use Rattle.sel_parse.specs.declared.selection.ParseFault.TheVariants as parse_fault
 
--- the offset of the next leaf, the states of the stack, whose top stands last, the classes that were on top since a
--- leaf was shifted or the stack
--- became shorter, and the stack with its code
+-- the offset of the next leaf, the states of the stack, whose top stands last, the classes that were on top since a leaf was shifted or
+-- the stack became shorter, and the stack with its code
 pub record Config (O I : Type 0) : Type 0 where
   pub at : ℕ
   pub states : List ℕ
@@ -48,12 +48,8 @@ pub data Turn (O I : Type 0) : Type 0 where
   Circle : Turn O I
 
 -- the state of a stack, whose top stands last
-abbrev pub state_in : Option ℕ → ℕ
-state_in None = 0
-state_in (Some q) = q
-
 abbrev pub top_of : List ℕ → ℕ
-top_of states = state_in (slice_get states (length states - 1))
+top_of states = unwrap_or (slice_get states (length states - 1)) 0
 
 -- the next token, which is `End` behind the last leaf
 abbrev pub coming : Option Leaf → Tok

@@ -105,10 +105,7 @@ struct Parse<O, I> {
 fn top_of(states: &[State]) -> State
     ensures { result ≡ top_of states.now }
 {
-    match states.last() {
-        Some(state) => *state,
-        None => State::START,
-    }
+    states.last().copied().unwrap_or(State::START)
 }
 
 fn leaf_at(tree: &[Leaf], at: usize) -> Option<Leaf>
