@@ -7,34 +7,10 @@ use Rattle.c_types.specs.declared.types.Integer.TheVariants as ints
 use Rattle.c_types.specs.declared.typed.Variable.TheVariants.{Global, Automatic, Parameter}
 use Rattle.c_types.specs.declared.typed.Callee.TheVariants.{Defined, Putchar}
 use Rattle.c_types.specs.declared.typed.ArithmeticOperator.TheVariants.{Add, Multiply, And, Xor, ShiftRight}
-use Rattle.c_types.specs.Typed.{
-  APlace,
-  VariableAt,
-  ElementBy,
-  AnExpression,
-  Constant,
-  ArrayAt,
-  ReadOf,
-  CallOf,
-  ConvertTo,
-  ArithmeticOf,
-  AdvanceOf,
-  AssignTo,
-  NoExpressions,
-  MoreExpressions,
-}
-use Rattle.c_program.specs.Statements.{
-  ClearOf,
-  AnAction,
-  SomeActions,
-  NoActions,
-  MoreActions,
-  DeclareOf,
-  BlockOf,
-  EvaluateOf,
-  ReturnOf,
-  WhileOf,
-}
+use Rattle.c_types.specs.Typed.{APlace, VariableAt, ElementBy, AnExpression, Constant, ArrayAt, ReadOf, CallOf, ConvertTo}
+use Rattle.c_types.specs.Typed.{ArithmeticOf, AdvanceOf, AssignTo, NoExpressions, MoreExpressions}
+use Rattle.c_program.specs.Statements.{ClearOf, AnAction, SomeActions, NoActions, MoreActions, DeclareOf, BlockOf}
+use Rattle.c_program.specs.Statements.{EvaluateOf, ReturnOf, WhileOf}
 use Rattle.c_program.specs.Programs.{ARoutine, AProgram}
 use Rattle.c_program.specs.Need.{need_of}
 use Rattle.gg_load_tokens.specs.Lines.{function_name}
