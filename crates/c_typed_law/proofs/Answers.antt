@@ -46,3 +46,5 @@ module _ {X : Type 0} (view : X → AProgram) (r : Result X TypeFault) (text : L
   -- the text's first fault is answered
   pub text_first : Gives view r (type_text text end) → (f : Fault) → TextFault text end f → OnlyFault r f
   text_first given = means_first view r (type_text text end) (IsText text) (TextFault text end) (text_means text end) given
+
+pub ruleset text_answers = (text_found, text_only, text_refused, text_first)

@@ -17,7 +17,7 @@ pub fn text_law()
 
 /// So does a function that computes the definition, whatever it answers with, unless memory runs out: `view` is what its answer
 /// is as plain data.
-#[tactic(auto, using(crate::proofs::Answers::text_found, crate::proofs::Answers::text_only, crate::proofs::Answers::text_refused, crate::proofs::Answers::text_first))]
+#[tactic(auto, using(crate::proofs::Answers::text_answers))]
 pub fn answer_law<T>()
     ensures found { (view : T → AProgram) (r : Result T TypeFault) (text : List AnExternal) (end : ℕ)
         → Gives view r (type_text text end) → IfOk r (λ x. IsText text (view x)) }
