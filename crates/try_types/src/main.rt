@@ -10,7 +10,8 @@ use std::alloc::AllocError;
 use std::io;
 
 const HEAD: &str =
-    "int i;char c;short s;unsigned char u;unsigned short w;int*p;int*q;char*r;int**pp;int a[3];void v(){}int f(int x,char*y){return x;}int main(){int k;";
+    "int i;char c;short s;unsigned char u;unsigned short w;int*p;int*q;char*r;int**pp;int a[3];\
+    void v(){}int f(int x,char*y){return x;}int main(){int k;";
 
 const TAIL: &str = ";return 0;}";
 
