@@ -33,6 +33,8 @@ pub form_scalar : (d : ADeclarator) (t : CType) (s : Scope) → form_of d t s �
 unfolding form_of is_taken
 form_scalar d t s h = scalar_by (is_some (find s.here d.name)) (form_fits t (brackets_in d.length) (init_in d.init)) (is_scalar t) d.at h
 
+pub ruleset form_facts = (form_free, form_scalar)
+
 pub automatic_free : (d : ADeclarator) (t : CType) (s : Scope) → automatic_form d t s ≡ Ok tt → find s.here d.name ≡ None
 unfolding automatic_form is_taken
 automatic_free d t s h = free_by (find s.here d.name) d.at _ h

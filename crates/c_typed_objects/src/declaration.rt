@@ -1,8 +1,10 @@
 // The declarations of a block.
 ghost use Rattle.std.specs.Prelude.{◌≡◌, [], map};
-ghost use Rattle.c_phrases.specs.UnitShapes.{declarator_of, declarators_of};
+ghost use Rattle.c_phrases.specs.UnitShapes.{declarator_of, declarators_of, initialised_of};
 ghost use Rattle.c_program.specs.Statements.{declaration};
 ghost use Rattle.c_typed_scope.specs.Answers.{Turns};
+ghost use Rattle.c_typed_expressions.specs.Functions.{by_functions};
+ghost use Rattle.c_typed_expressions.specs.Phrases.{init_in};
 ghost use Rattle.c_typed_objects.specs.Views.{state};
 ghost use Rattle.c_typed_definition.specs.Declarations.{begun, type_automatic, type_local, type_locals};
 
@@ -49,10 +51,6 @@ fn begin(
         }
     }
 }
-
-ghost use Rattle.c_phrases.specs.UnitShapes.{initialised_of};
-ghost use Rattle.c_typed_expressions.specs.Functions.{by_functions};
-ghost use Rattle.c_typed_expressions.specs.Phrases.{init_in};
 
 #[tactic(auto, unfolding(c_typed_definition::specs::Declarations::type_automatic), using(crate::proofs::Forms::automatic_free))]
 fn automatic(

@@ -5,7 +5,7 @@ ghost use Rattle.c_phrases.specs.Shapes.{exp};
 ghost use Rattle.c_phrases.specs.UnitShapes.{declarator_of, length_of, initialised_of};
 ghost use Rattle.c_typed_scope.specs.Views.{scope};
 ghost use Rattle.c_typed_expressions.specs.Phrases.{init_in, brackets_in};
-ghost use Rattle.c_typed_definition.specs.Forms.{text_of, form_fits, given_count, own_length, form_of, automatic_form};
+ghost use Rattle.c_typed_definition.specs.Forms.{text_of, text_fits, form_fits, given_count, own_length, form_of, automatic_form};
 
 use c_phrases::tree::{Declarator, Expr, Initialised, Initialiser, Length};
 use c_typed_scope::Blocks;
@@ -32,8 +32,6 @@ fn is_text(of: CType, e: &Expr) -> bool
         Some(_) => of.size() == 1,
     }
 }
-
-ghost use Rattle.c_typed_definition.specs.Forms.{text_fits};
 
 // An array's initialiser is a list that isn't empty, or for one-byte elements a string literal; any other variable's is
 // one value.

@@ -1,17 +1,18 @@
 // The objects of variables at file level and of static locals.
 ghost use Rattle.std.specs.Prelude.{◌≡◌, ◌≤◌, Ok, None, [], Bool, true, false};
-ghost use Rattle.c_types.specs.Types.{size_of};
+ghost use Rattle.c_types.specs.Types.{size_of, pointer_to, is_scalar};
+ghost use Rattle.c_types.specs.Answers.{Gives};
 ghost use Rattle.c_phrases.specs.UnitShapes.{declarator_of, initialised_of, part};
-ghost use Rattle.c_typed_scope.specs.Answers.{Turns};
+ghost use Rattle.c_typed_scope.specs.Answers.{Turns, OnlyTurns};
 ghost use Rattle.c_typed_scope.specs.Scopes.{find};
 ghost use Rattle.c_typed_scope.specs.Views.{scope, area, filled_so_far};
 ghost use Rattle.c_typed_scope.specs.Layout.{placed};
 ghost use Rattle.c_typed_expressions.specs.Functions.{by_functions};
 ghost use Rattle.c_typed_expressions.specs.Phrases.{init_in};
 ghost use Rattle.c_typed_objects.specs.Views.{state};
-ghost use Rattle.c_typed_definition.specs.State.{variable_of, label_of, counted_static, laid};
+ghost use Rattle.c_typed_definition.specs.State.{variable_of, array_entry, label_of, counted_static, laid};
 ghost use Rattle.c_typed_definition.specs.Declarations.{length_in, literals_in, contents_of, plain_object};
-ghost use Rattle.c_typed_definition.specs.Declarations.{array_object, type_object};
+ghost use Rattle.c_typed_definition.specs.Declarations.{object_with, counted_array, array_object, type_object};
 
 use crate::environment::{Environment, declare};
 use crate::form::{check_form, given_count, own_length, text_of};
@@ -66,8 +67,6 @@ fn lay_literals(
     }
     Ok(())
 }
-
-ghost use Rattle.c_typed_scope.specs.Answers.{OnlyTurns};
 
 // A variable's object, and the count of static locals.
 #[tactic(auto, unfolding(c_typed_definition::specs::State::laid))]
@@ -172,8 +171,6 @@ fn declare_object(
     Ok(number)
 }
 
-ghost use Rattle.c_typed_definition.specs.Declarations.{object_with, counted_array};
-
 #[tactic(auto, unfolding(c_typed_definition::specs::Declarations::plain_object))]
 fn plain_object(
     alloc: Global,
@@ -225,10 +222,6 @@ fn array_entry(of: CType, variable: Variable, size: u32) -> Result<Entry, TypeFa
         },
     }
 }
-
-ghost use Rattle.c_types.specs.Types.{pointer_to, is_scalar};
-ghost use Rattle.c_types.specs.Answers.{Gives};
-ghost use Rattle.c_typed_definition.specs.State.{array_entry};
 
 // The object of an array of this many elements.
 #[tactic(auto, unfolding(c_typed_definition::specs::Declarations::counted_array), using(crate::proofs::Limits::too_large))]
@@ -328,7 +321,7 @@ fn array_object(
 }
 
 /// A global variable or a static local: the number of its object, and the variable in scope.
-#[tactic(auto, unfolding(c_typed_definition::specs::Declarations::type_object), using(crate::proofs::Forms::form_free, crate::proofs::Forms::form_scalar))]
+#[tactic(auto, unfolding(c_typed_definition::specs::Declarations::type_object), using(crate::proofs::Forms::form_facts))]
 pub fn object(
     alloc: Global,
     functions: &Functions,
