@@ -3,6 +3,7 @@ ghost use Rattle.std.specs.Prelude.{◌≡◌, ◌++◌, ◌∷◌, [], IfOk, On
 ghost use Rattle.tree_core.specs.Attributes.{end_leaf};
 ghost use Rattle.c_lower_scheme.specs.Spelling as spelling;
 ghost use Rattle.c_lower_code.specs.Views.{tree, item};
+ghost use Rattle.c_lower_code.specs.Roots.{root_leaves};
 
 use crate::item::Item;
 use crate::part::after;
@@ -230,5 +231,3 @@ pub(crate) fn spelled(alloc: Global, one: &Item) -> Result<TreeItem, NoMemory>
     leaves.push(Leaf::END)?;
     Ok(TreeItem::Root(Leaves::from_vec(leaves)))
 }
-
-ghost use Rattle.c_lower_code.specs.Roots.{root_leaves};

@@ -1,9 +1,10 @@
 // Statements. Temporaries begin anew at each full expression.
-ghost use Rattle.std.specs.Prelude.{◌≡◌, IfOk, map};
+ghost use Rattle.std.specs.Prelude.{◌≡◌, suc, IfOk, map};
 ghost use Rattle.c_types.specs.Typed.{expression_of};
-ghost use Rattle.c_program.specs.Statements.{act, acts, declaration, optional_expression};
+ghost use Rattle.c_program.specs.Statements.{act, acts, declaration, optional_expression, NoActions, WhileOf, DoOf, IfOf};
 ghost use Rattle.c_lower_scheme.specs.Statements as statements;
 ghost use Rattle.c_lower_code.specs.Views.{done};
+ghost use Rattle.c_lower_code.specs.Declarations.{one_declared};
 
 use crate::expression::{branch, deliver, discard};
 use crate::flow::{
@@ -271,7 +272,3 @@ pub(crate) fn row(
     }
     Ok(whole)
 }
-
-ghost use Rattle.std.specs.Prelude.{suc};
-ghost use Rattle.c_program.specs.Statements.{NoActions, WhileOf, DoOf, IfOf};
-ghost use Rattle.c_lower_code.specs.Declarations.{one_declared};
