@@ -1,8 +1,8 @@
 // One step of the parse.
-ghost use Rattle.std.specs.Prelude.{◌≡◌, IfOk, IfSome};
+ghost use Rattle.std.specs.Prelude.{◌≡◌, ◌<◌, ◌^◌, IfOk, IfSome, false, length, replicate, slice_get};
 ghost use Rattle.md_reader.specs.declared.types.Sym.TheVariants as grammar_symbol;
 ghost use Rattle.lr_tables.specs.Leads.{target_at};
-ghost use Rattle.lr_check.specs.Steps.{top_of, token_of, shifted, marked, placed, reduced, after_choice, step};
+ghost use Rattle.lr_check.specs.Steps.{first_config, top_of, token_of, shifted, marked, placed, reduced, after_choice, step};
 
 use crate::sample::{Outcome, SampleNode};
 use crate::stack::{Entry, choose, first_place, top_of};
@@ -29,9 +29,6 @@ impl Model for Parse {
 
     ghost view = { λ p. record { at = p.at; stack = p.stack.items; seen = p.seen.items } };
 }
-
-ghost use Rattle.std.specs.Prelude.{◌<◌, ◌^◌, length, replicate, slice_get, false};
-ghost use Rattle.lr_check.specs.Steps.{first_config};
 
 /// Nothing is seen any more.
 pub fn clear(seen: &mut [bool])
