@@ -1,11 +1,10 @@
 -- Counts of the entries that hold a register or a frame word.
-use Rattle.std.proofs.Common.{◌≡◌, ℕ, zero, suc, ◌+◌, ◌<◌, ◌≤◌, List, [], ◌∷◌, ◌++◌, length, set, take, drop, get_or, slice_get, Some, count_by, Bool, true, false, cond, refl, ap}
+use Rattle.std.proofs.Common.{◌≡◌, ℕ, zero, suc, ◌+◌, ◌<◌, ◌≤◌, List, [], ◌∷◌, ◌++◌, length, set, take, drop, get_or, count_by, Bool, true, false, cond, refl, ap}
 use Rattle.std.proofs.Common.{sym, ◌∙◌, subst, arith}
 use Rattle.std.specs.Prelude.{◌==◌, ◌||◌, not}
 use Rattle.std.specs.List.{list_any}
 use Rattle.std.proofs.lemmas.Bool.{ne_eqb}
 use Rattle.std.proofs.lemmas.List.Sums.{sum_by-set, sum_by-cons}
-use Rattle.std.proofs.lemmas.Option.{slice_get_read, get_or_from_slice_get}
 use Rattle.sel_parse_desk.specs.Tallied.{one}
 
 module _ {X : Type 0} (p : X → Bool) where
@@ -33,6 +32,7 @@ module _ {X : Type 0} (p : X → Bool) where
       let f = count-cons x (take n xs) in
       omega (arith, ih, e, f)
 
+  -- whether there is one to count
   pub count-some : (xs : List X) → not (count_by p xs == 0) ≡ list_any p xs
   count-some [] = refl
   count-some (x ∷ xs) = by (p x) (count_by p xs) (count_by p (x ∷ xs)) (count-cons x xs) (list_any p xs) (count-some xs)
@@ -62,11 +62,3 @@ module _ {X : Type 0} (p : X → Bool) where
       let m = count-more xs i x lt e in
       let n = count-parts (i + 1) xs in
       omega (arith, m, n)
-
-  -- a count tells whether some element passes
-  pub count_tells : (counts : List ℕ) (i n x : ℕ) (xs : List X) → length counts ≡ n → i < n → x ≡ get_or counts i x → get_or counts i 0 ≡ count_by p xs
-      → not (x == 0) ≡ list_any p xs
-  count_tells counts i n x xs long lt e c =
-      let there : slice_get counts i ≡ Some x = slice_get_read counts n i x (sym long) lt e in
-      let same : x ≡ count_by p xs = sym (get_or_from_slice_get counts i x 0 there) ∙ c in
-      ap (λ (k : ℕ). not (k == 0)) same ∙ count-some xs

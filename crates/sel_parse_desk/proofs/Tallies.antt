@@ -1,9 +1,9 @@
 -- Counts of the entries below a rule's symbols.
 use Rattle.std.proofs.Common.{◌≡◌, ℕ, zero, suc, ◌+◌, ◌<◌, ◌≤◌, ◌^◌, List, [], ◌∷◌, ◌++◌, length, take, drop, set, get_or, Option, Some, None, Bool, true, false, refl, ap, sym}
 use Rattle.std.proofs.Common.{◌∙◌, arith, length-append, length-take, length-set}
-use Rattle.std.specs.Prelude.{count_by, replicate, slice_index, unwrap_or, IfSome}
+use Rattle.std.specs.Prelude.{◌==◌, not, count_by, replicate, slice_index, unwrap_or, IfSome}
 use Rattle.std.specs.List.{list_any}
-use Rattle.std.proofs.lemmas.List.{length-replicate, get_or-replicate}
+use Rattle.std.proofs.lemmas.List.{get_or-replicate}
 use Rattle.std.proofs.lemmas.List.Sums.{count_by-le-length}
 use Rattle.gg_base.proofs.Facts.{take_within}
 use Rattle.md_reader.specs.declared.types.Kind.{Kind}
@@ -11,10 +11,12 @@ use Rattle.sel_target.specs.declared.attr.Attr.{Attr}
 use Rattle.sel_target.specs.Meaning.{Meaning}
 use Rattle.sel_target.specs.Symbols.{first_that}
 use Rattle.sel_parse_desk.specs.Entries.{Entry, attrs, in_register, in_word}
+use Rattle.sel_parse_desk.specs.Desk.{register_held, word_held}
 use Rattle.sel_parse_desk.specs.Spills.{holds_some}
-use Rattle.sel_parse_desk.specs.Tallied.{one, HaveRisen, HaveFallen, registers_of, words_of, registers_among, words_among, AreTallied}
+use Rattle.sel_parse_desk.specs.Tallied.{one, HaveRisen, HaveFallen, registers_of, words_of, registers_among, words_among, AreTallied, IsTallied}
+use Rattle.sel_parse_desk.specs.declared.stack.Stack.{Stack}
 use Rattle.sel_parse_desk.proofs.JoinedLemmas.{length-attrs, attrs-snoc, attrs-set, attrs-take, attrs-drop}
-use Rattle.sel_parse_desk.proofs.Counting.{count-snoc, count-set, count-parts, count-one}
+use Rattle.sel_parse_desk.proofs.Counting.{count-snoc, count-set, count-parts, count-some, count-one}
 use Rattle.sel_parse_desk.proofs.Searching.{first_before, first_none}
 
 take_short : {X : Type 0} (p : X → Bool) (xs : List X) (i n : ℕ) (x : X) → i ≤ n → list_any p (take i (set xs n x)) ≡ list_any p (take i xs)
@@ -44,27 +46,29 @@ module _ {O I S F : Type 0} (of : Meaning O I S F) where
   pub none_tallied : (es : List (Entry O)) (registers words : List ℕ) → es ≡ [] → registers ≡ replicate 12 0 → words ≡ replicate 1024 0
       → AreTallied of (attrs es) registers words 0
   none_tallied es registers words none rs ws = let z : ℕ = 0 in record {
-    twelve = ap (λ (xs : List ℕ). length xs) rs ∙ length-replicate 12 z;
-    all_words = ap (λ (xs : List ℕ). length xs) ws ∙ length-replicate 1024 z;
     each_register = λ r lt. ap (λ (xs : List ℕ). slice_index xs r) rs ∙ (get_or-replicate 12 r z z lt ∙ sym (ap (λ (xs : List (Entry O)). count_by (in_register of r) (attrs xs)) none));
     each_word = λ w lt. ap (λ (xs : List ℕ). slice_index xs w) ws ∙ (get_or-replicate 1024 w z z lt ∙ sym (ap (λ (xs : List (Entry O)). count_by (in_word of w) (attrs xs)) none));
     within = omega arith;
     no_register = refl;
   }
 
+  -- a count tells whether an entry holds the register, or the frame word
+  pub register_tells : (s : Stack O) (r : ℕ) → IsTallied of s → r < 12 → not (slice_index s.tally.registers.items r == 0) ≡ register_held of (attrs s.entries) r
+  register_tells s r t lt = ap (λ (k : ℕ). not (k == 0)) (t.each_register r lt) ∙ count-some (in_register of r) (attrs s.entries)
+
+  pub word_tells : (s : Stack O) (w : ℕ) → IsTallied of s → w < 1024 → not (slice_index s.tally.words.items w == 0) ≡ word_held of (attrs s.entries) w
+  word_tells s w t lt = ap (λ (k : ℕ). not (k == 0)) (t.each_word w lt) ∙ count-some (in_word of w) (attrs s.entries)
+
   -- one more entry
   pub pushed_tallied : (es fs : List (Entry O)) (e : Entry O) (rs ws rs' ws' : List ℕ) (n : ℕ) → fs ≡ es ++ e ∷ [] → AreTallied of (attrs es) rs ws n
-      → length rs' ≡ 12 → length ws' ≡ 1024
       → HaveRisen 12 rs rs' (registers_of of e.attr)
       → HaveRisen 1024 ws ws' (words_of of e.attr)
       → AreTallied of (attrs fs) rs' ws' n
-  pushed_tallied es fs e rs ws rs' ws' n is t lr lw ups upw =
+  pushed_tallied es fs e rs ws rs' ws' n is t ups upw =
       let all : attrs fs ≡ attrs es ++ e.attr ∷ [] = ap (λ (xs : List (Entry O)). attrs xs) is ∙ attrs-snoc es e in
       let long = length-append (attrs es) (e.attr ∷ []) in
       let more : length (attrs fs) ≡ length (attrs es ++ e.attr ∷ []) = ap (λ (hs : List (Attr O)). length hs) all in
       record {
-        twelve = lr;
-        all_words = lw;
         each_register = λ r lt. ups r lt
             ∙ (ap (λ (k : ℕ). k + one (in_register of r e.attr)) (t.each_register r lt)
             ∙ (sym (count-snoc (in_register of r) (attrs es) e.attr) ∙ sym (ap (λ (hs : List (Attr O)). count_by (in_register of r) hs) all)));
@@ -79,21 +83,19 @@ module _ {O I S F : Type 0} (of : Meaning O I S F) where
   -- another attribute at a place
   pub put_tallied : (es fs : List (Entry O)) (i : ℕ) (k : Option Kind) (h g : Attr O) (rs ws ra wa rb wb : List ℕ) (n : ℕ)
       → fs ≡ set es i (record { kind = k; attr = h }) → i < length es → n ≤ i → g ≡ get_or (attrs es) i g
-      → AreTallied of (attrs es) rs ws n → length rb ≡ 12 → length wb ≡ 1024
+      → AreTallied of (attrs es) rs ws n
       → HaveFallen 12 rs ra (registers_of of g)
       → HaveFallen 1024 ws wa (words_of of g)
       → HaveRisen 12 ra rb (registers_of of h)
       → HaveRisen 1024 wa wb (words_of of h)
       → AreTallied of (attrs fs) rb wb n
-  put_tallied es fs i k h g rs ws ra wa rb wb n is lt le at t lr lw da dw ua uw =
+  put_tallied es fs i k h g rs ws ra wa rb wb n is lt le at t da dw ua uw =
       let all : attrs fs ≡ set (attrs es) i h = ap (λ (xs : List (Entry O)). attrs xs) is ∙ attrs-set es i (record { kind = k; attr = h }) in
       let l = length-attrs es in
       let in_list : i < length (attrs es) = omega (arith, l, lt) in
       let long = length-set (attrs es) i h in
       let more : length (attrs fs) ≡ length (set (attrs es) i h) = ap (λ (hs : List (Attr O)). length hs) all in
       record {
-        twelve = lr;
-        all_words = lw;
         each_register = λ r small.
             (let c = count-set (in_register of r) (attrs es) i h g in_list at in
             let a = da r small in
@@ -131,19 +133,17 @@ module _ {O I S F : Type 0} (of : Meaning O I S F) where
 
   -- the top is taken off
   pub part_tallied : (es fs gs : List (Entry O)) (b : ℕ) (rs ws rs' ws' : List ℕ) (n m : ℕ) → fs ≡ take b es → gs ≡ drop b es → m ≤ b → m ≤ n → b ≤ length es
-      → AreTallied of (attrs es) rs ws n → length rs' ≡ 12 → length ws' ≡ 1024
+      → AreTallied of (attrs es) rs ws n
       → HaveFallen 12 rs rs' (registers_among of (attrs gs))
       → HaveFallen 1024 ws ws' (words_among of (attrs gs))
       → AreTallied of (attrs fs) rs' ws' m
-  part_tallied es fs gs b rs ws rs' ws' n m low high mb mn bl t lr lw dr dw =
+  part_tallied es fs gs b rs ws rs' ws' n m low high mb mn bl t dr dw =
       let all : attrs fs ≡ take b (attrs es) = ap (λ (xs : List (Entry O)). attrs xs) low ∙ attrs-take b es in
       let rest : attrs gs ≡ drop b (attrs es) = ap (λ (xs : List (Entry O)). attrs xs) high ∙ attrs-drop b es in
       let l = length-attrs es in
       let long = length-take b (attrs es) in
       let more : length (attrs fs) ≡ length (take b (attrs es)) = ap (λ (hs : List (Attr O)). length hs) all in
       record {
-        twelve = lr;
-        all_words = lw;
         each_register = λ r small. less (in_register of r) all rest (dr r small) (t.each_register r small);
         each_word = λ w small. less (in_word of w) all rest (dw w small) (t.each_word w small);
         within = omega (arith, l, long, more, mb, bl);
@@ -176,8 +176,6 @@ module _ {O I S F : Type 0} (of : Meaning O I S F) where
   pub settled_tallied : (es : List (Entry O)) (rs ws : List ℕ) (o : Option ℕ) (n k m : ℕ) → AreTallied of (attrs es) rs ws k
       → o ≡ first_that (holds_some of) (attrs es) → n ≡ length es → m ≡ unwrap_or o n → AreTallied of (attrs es) rs ws m
   settled_tallied es rs ws None n k m t e l f = record {
-    twelve = t.twelve;
-    all_words = t.all_words;
     each_register = t.each_register;
     each_word = t.each_word;
     within = (let a = length-attrs es in omega (arith, a, l, f));
@@ -186,8 +184,6 @@ module _ {O I S F : Type 0} (of : Meaning O I S F) where
   settled_tallied es rs ws (Some i) n k m t e l f =
       let h = first_before (holds_some of) (attrs es) i (sym e) in
       record {
-        twelve = t.twelve;
-        all_words = t.all_words;
         each_register = t.each_register;
         each_word = t.each_word;
         within = (let lt = h.0 in omega (arith, lt, f));

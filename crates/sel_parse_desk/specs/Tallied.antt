@@ -40,12 +40,10 @@ module _ {O I S F : Type 0} (of : Meaning O I S F) where
 
 -- so many of the attributes hold each register, and each frame word; before a place none holds a register
 pub record AreTallied {O I S F : Type 0} (of : Meaning O I S F) (hs : List (Attr O)) (registers words : List ℕ) (settled : ℕ) : Type 0 where
-  pub twelve : length registers ≡ 12
-  pub all_words : length words ≡ 1024
   pub each_register : (r : ℕ) → r < 12 → slice_index registers r ≡ count_by (in_register of r) hs
   pub each_word : (w : ℕ) → w < 1024 → slice_index words w ≡ count_by (in_word of w) hs
   pub within : settled ≤ length hs
   pub no_register : list_any (holds_some of) (take settled hs) ≡ false
 
 abbrev pub IsTallied : {O I S F : Type 0} → Meaning O I S F → Stack O → Type 0
-IsTallied of s = AreTallied of (attrs s.entries) s.registers.items s.words.items s.settled
+IsTallied of s = AreTallied of (attrs s.entries) s.tally.registers.items s.tally.words.items s.settled

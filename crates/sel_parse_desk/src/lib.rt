@@ -8,6 +8,7 @@ mod questions;
 mod reductions;
 mod spills;
 mod stack;
+mod tally;
 
 pub use desk::{Desk, DeskFault, Setting};
 pub use questions::answered;

@@ -19,7 +19,8 @@ use crate::desk::{Desk, DeskFault, Setting};
 use crate::entries::Entries;
 use crate::questions::{alone_in, constant_of};
 use crate::spills::due;
-use crate::stack::{empty, part, push};
+use crate::stack::{Stack, part, push};
+use crate::tally::Tally;
 use gg_base::NoMemory;
 use md_reader::{Give, Kind, Line, Piece, Rule, kind_at};
 use sel_target::{Attr, Templates, hole};
@@ -31,9 +32,14 @@ pub fn begin<T: Templates>(setting: &Setting<T>) -> Result<Desk<T::Operand, T::I
     ensures start { IfOk result (λ k. stack_of k ≡ record { entries = []; code = []; most = setting.now.first }) }
     ensures ready { IfOk result (λ k. IsReady T.meaning k) }
 {
-    let stack = empty(setting.target, setting.alloc)?;
+    let tally = Tally::new(setting.alloc)?;
+    let entries = Entries::new(setting.alloc);
     Ok(Desk {
-        stack,
+        stack: Stack {
+            entries,
+            tally,
+            settled: 0,
+        },
         symbols: Entries::new(setting.alloc),
         late: Vec::new(setting.alloc),
         code: Vec::new(setting.alloc),

@@ -13,11 +13,13 @@ ghost use Rattle.sel_parse_desk.specs.Mirror.{desk_of, in_setting, saved_line, F
 use crate::desk::{Desk, DeskFault, Setting};
 use crate::entries::Entries;
 use crate::holding::{REGISTERS, first_to_go, is_in, register_held, word_held, word_of};
-use crate::stack::{deepest, holds_register, holds_word, put};
+use crate::stack::{deepest, put};
+use gg_base::limits::NEED_LIMIT;
 use gg_base::{NoMemory, Size};
 use md_reader::{Kind, Line};
 use sel_target::{Attr, Templates};
 
+#[tactic(auto, using(crate::proofs::Tallies::register_tells))]
 fn is_free_register<T: Templates>(
     setting: &Setting<T>,
     desk: &Desk<T::Operand, T::Instr>,
@@ -29,7 +31,7 @@ fn is_free_register<T: Templates>(
     ensures { result ≡ is_free_register T.meaning setting.now.description.now given (desk_of desk.now) register }
 {
     is_in(setting.description.pool(), register)
-        && !holds_register(setting.target, &desk.stack, register)
+        && !desk.stack.tally.holds_register(register)
         && (given || !register_held(setting.target, desk.symbols.attrs(), register))
 }
 
@@ -56,6 +58,7 @@ fn is_late(late: &[u32], word: u32) -> bool
     late.iter().any(|own| *own == word)
 }
 
+#[tactic(auto, using(crate::proofs::Tallies::word_tells))]
 fn is_free_word<T: Templates>(
     setting: &Setting<T>,
     desk: &Desk<T::Operand, T::Instr>,
@@ -66,7 +69,7 @@ fn is_free_word<T: Templates>(
     ensures { result ≡ is_free_word T.meaning (desk_of desk.now) word }
 {
     !is_late(&desk.late, word)
-        && !holds_word(setting.target, &desk.stack, word)
+        && !desk.stack.tally.holds_word(word)
         && !word_held(setting.target, desk.symbols.attrs(), word)
 }
 
@@ -76,7 +79,7 @@ fn free_slot<T: Templates>(setting: &Setting<T>, desk: &Desk<T::Operand, T::Inst
     ensures word { result ≡ free_slot T.meaning setting.now.first (desk_of desk.now) }
     ensures small { IfSome result (λ w. w < 1024) }
 {
-    (setting.first..1024).find(|word| is_free_word(setting, desk, *word))
+    (setting.first..NEED_LIMIT).find(|word| is_free_word(setting, desk, *word))
 }
 
 fn saving_place(kind: Option<Kind>) -> usize

@@ -12,6 +12,6 @@ returns-clause-unsettled g c =
 
 pub returns-clause-tallied : goal.returns-clause-tallied
 returns-clause-tallied g c =
-    settled_tallied g.T.Templates.meaning c.args.stack.now.entries c.args.stack.now.registers.items c.args.stack.now.words.items c.first_from-found.result c.len.result
+    settled_tallied g.T.Templates.meaning c.args.stack.now.entries c.args.stack.now.tally.registers.items c.args.stack.now.tally.words.items c.first_from-found.result c.len.result
     c.args.stack.now.settled c.unwrap_or-stack.result c.requires.tallied
     (c.first_from-found.ensures ∙ ap (λ (hs : List (Attr g.row.T-Operand.Denot)). first_that (holds_some g.T.Templates.meaning) hs) c.attrs.ensures.attrs) c.len.ensures c.unwrap_or-stack.ensures

@@ -10,7 +10,9 @@ returns-clause-tallied g c =
     pushed_there g.T.Templates.meaning c.args.stack.now.entries c.push.new.self (record { kind = c.args.kind; attr = c.args.attr }) c.len-at.result c.index-attrs-at.result
     c.in_ok-push.ensures c.len-at.ensures (c.index-attrs-at.is ∙ ap (λ (hs : List (Attr g.row.T-Operand.Denot)). get_or hs c.len-at.result c.index-attrs-at.result) c.attrs.ensures.attrs) in
     pushed_tallied g.T.Templates.meaning c.args.stack.now.entries c.push.new.self (record { kind = c.args.kind; attr = c.args.attr })
-    c.args.stack.now.registers.items c.args.stack.now.words.items c.raise.new.registers.items c.raise.new.words.items c.args.stack.now.settled
-    c.in_ok-push.ensures c.requires.tallied c.raise.ensures.twelve c.raise.ensures.all_words
-    (subst (λ (a : Attr g.row.T-Operand.Denot). HaveRisen 12 c.args.stack.now.registers.items c.raise.new.registers.items (registers_of g.T.Templates.meaning a)) there c.raise.ensures.registers)
-    (subst (λ (a : Attr g.row.T-Operand.Denot). HaveRisen 1024 c.args.stack.now.words.items c.raise.new.words.items (words_of g.T.Templates.meaning a)) there c.raise.ensures.words)
+    c.args.stack.now.tally.registers.items c.args.stack.now.tally.words.items c.raise.new.self.registers.items c.raise.new.self.words.items c.args.stack.now.settled
+    c.in_ok-push.ensures c.requires.tallied
+    (subst (λ (a : Attr g.row.T-Operand.Denot). HaveRisen 12 c.args.stack.now.tally.registers.items c.raise.new.self.registers.items (registers_of g.T.Templates.meaning a))
+    there c.raise.ensures.registers)
+    (subst (λ (a : Attr g.row.T-Operand.Denot). HaveRisen 1024 c.args.stack.now.tally.words.items c.raise.new.self.words.items (words_of g.T.Templates.meaning a))
+    there c.raise.ensures.words)

@@ -1,9 +1,0 @@
-use Rattle.std.proofs.Common.{◌≡◌, ℕ, ◌≤◌}
-use Rattle.std.specs.Prelude.{slice_index}
-use Rattle.sel_parse_desk.specs.Tallied.{HaveRisen, registers_of}
-use Rattle.sel_parse_desk.proofs.stack.raise_registers.Given as goal
-
-abbrev pub invariant-loop-register : goal.invariant-loop-register
-invariant-loop-register g l =
-    HaveRisen l.register l.initial.counts l.counts (registers_of g.T.Templates.meaning l.attr)
-    × ((r : ℕ) → l.register ≤ r → slice_index l.counts r ≡ slice_index l.initial.counts r)
