@@ -1,5 +1,6 @@
 -- Lists of kinds and of attributes, joined.
 use Rattle.std.proofs.Common.{◌≡◌, ℕ, zero, suc, ◌<◌, ◌≤◌, List, [], ◌∷◌, ◌++◌, length, set, take, drop, get_or, slice_get, Option, Some, None, true, refl, ap, sym, ◌∙◌, arith}
+use Rattle.std.specs.Option.{option_flatten}
 use Rattle.std.proofs.lemmas.Bool.{and_from}
 use Rattle.gg_base.proofs.Facts.{first_true, second_true}
 use Rattle.md_reader.specs.declared.types.Kind.{Kind}
@@ -47,25 +48,12 @@ module _ {O : Type 0} where
   attrs-joined (k ∷ ks) [] e = absurd (omega (arith, e))
   attrs-joined (k ∷ ks) (h ∷ hs) e = ap (λ (gs : List (Attr O)). h ∷ gs) (attrs-joined ks hs (same_rest (length ks) (length hs) e))
 
-  pub kind_there : (ks : List (Option Kind)) (hs : List (Attr O)) (i : ℕ) (k : Option Kind) → length ks ≡ length hs → slice_get ks i ≡ Some k
-      → k ≡ kind_in (slice_get (joined ks hs) i)
-  kind_there [] hs i k e there = absurd (cc)
-  kind_there (j ∷ ks) [] i k e there = absurd (omega (arith, e))
-  kind_there (j ∷ ks) (h ∷ hs) zero k e there = sym (inside there)
-    where
-      out : Option (Option Kind) → Option Kind
-      out None = k
-      out (Some x) = x
-
-      inside : Some j ≡ Some k → j ≡ k
-      inside f = ap out f
-  kind_there (j ∷ ks) (h ∷ hs) (suc i) k e there = kind_there ks hs i k (same_rest (length ks) (length hs) e) there
-
-  pub kind_nowhere : (ks : List (Option Kind)) (hs : List (Attr O)) (i : ℕ) → slice_get ks i ≡ None → None ≡ kind_in (slice_get (joined ks hs) i)
-  kind_nowhere [] hs i there = refl
-  kind_nowhere (k ∷ ks) [] i there = refl
-  kind_nowhere (k ∷ ks) (h ∷ hs) zero there = absurd (cc)
-  kind_nowhere (k ∷ ks) (h ∷ hs) (suc i) there = kind_nowhere ks hs i there
+  pub kind_there : (ks : List (Option Kind)) (hs : List (Attr O)) (i : ℕ) → length ks ≡ length hs
+      → option_flatten (slice_get ks i) ≡ kind_in (slice_get (joined ks hs) i)
+  kind_there [] hs i e = refl
+  kind_there (k ∷ ks) [] i e = absurd (omega (arith, e))
+  kind_there (k ∷ ks) (h ∷ hs) zero e = refl
+  kind_there (k ∷ ks) (h ∷ hs) (suc i) e = kind_there ks hs i (same_rest (length ks) (length hs) e)
 
   pub joined-set : (ks : List (Option Kind)) (hs : List (Attr O)) (i : ℕ) (h : Attr O)
       → joined ks (set hs i h) ≡ set (joined ks hs) i (record { kind = kind_in (slice_get (joined ks hs) i); attr = h })

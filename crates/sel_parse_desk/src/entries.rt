@@ -1,5 +1,6 @@
 // Entries of a parse stack.
 ghost use Rattle.std.specs.Prelude.{◌≡◌, ◌∷◌, ◌++◌, [], ◌<◌, ◌≤◌, true, length, take, drop, OnOk, IfOk, IfSome, slice_get, slice_set};
+ghost use Rattle.std.specs.Option.{option_flatten};
 ghost use Rattle.sel_parse_desk.specs.Entries.{attrs, kind_in, slot_of, slot_in};
 ghost use Rattle.sel_parse_desk.specs.Joined.{attr_in, is_low, are_low};
 
@@ -41,10 +42,10 @@ fn slot_of<O>(attr: &Attr<O>) -> Option<u32>
     }
 }
 
-fn kind_at(kinds: &[Option<Kind>], at: usize) -> Option<Option<Kind>>
-    ensures { result ≡ slice_get kinds.now at }
+fn kind_at(kinds: &[Option<Kind>], at: usize) -> Option<Kind>
+    ensures { result ≡ option_flatten (slice_get kinds.now at) }
 {
-    kinds.get(at).copied()
+    kinds.get(at).copied().flatten()
 }
 
 impl<O: Drop> Entries<O> {
@@ -68,10 +69,7 @@ impl<O: Drop> Entries<O> {
     pub fn kind(&self, at: usize) -> Option<Kind>
         ensures { result ≡ kind_in (slice_get self.now at) }
     {
-        match kind_at(&self.kinds, at) {
-            Some(kind) => kind,
-            None => None,
-        }
+        kind_at(&self.kinds, at)
     }
 
     /// The attributes, in order.
