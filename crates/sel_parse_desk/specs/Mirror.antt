@@ -1,5 +1,5 @@
 -- What the code works on, as the definition of a selection sees it.
-use Rattle.std.specs.Prelude.{◌≡◌, ℕ, ◌≤◌, List, map, reverse}
+use Rattle.std.specs.Prelude.{◌≡◌, ℕ, ◌≤◌, List, map, reverse, Result, MatchResult}
 use Rattle.tree_core.specs.declared.program.TreeProgram.{TreeProgram}
 use Rattle.md_reader_pieces.specs.declared.piece.Line.{Line}
 use Rattle.md_reader.specs.State.{Content}
@@ -8,7 +8,7 @@ use Rattle.sel_target.specs.declared.attr.Attr.TheVariants as attr
 use Rattle.sel_target.specs.Meaning.{Meaning}
 use Rattle.lr_check_parse.specs.Attributes.{Selecting}
 use Rattle.sel_parse_desk.specs.Entries.{Entry}
-use Rattle.sel_parse_desk.specs.Desk.{Desk, Stack, Outcome, Full, Stuck}
+use Rattle.sel_parse_desk.specs.Desk.{Desk, Stack, Outcome, Full, Stuck, Done}
 use Rattle.sel_parse_desk.specs.Selected.{Kept, selecting}
 use Rattle.sel_parse_desk.specs.declared.desk.Desk.{Desk as Held}
 use Rattle.sel_parse_desk.specs.declared.desk.Setting.{Setting}
@@ -40,6 +40,13 @@ abbrev pub Fails : {X : Type 0} → DeskFault → Outcome X → Type 0
 Fails desk_fault.NoMemory o = Unit {0}
 Fails desk_fault.FrameFull o = o ≡ Full
 Fails desk_fault.NoRegister o = o ≡ Stuck
+
+-- A step does what a definition says: where it is Ok the outcome is done, with what it gives or leaves; a refusal is the definition's.
+abbrev pub Gives : {X Y : Type 0} → Result X DeskFault → Outcome Y → (X → Y) → Type 0
+Gives r o given = MatchResult r (λ x. o ≡ Done (given x)) (λ e. Fails e o)
+
+abbrev pub Does : {X Y : Type 0} → Result X DeskFault → Outcome Y → Y → Type 0
+Does r o left = Gives r o (λ _. left)
 
 module _ {O I S F : Type 0} (of : Meaning O I S F) where
   -- the instruction that saves an attribute alone in a word

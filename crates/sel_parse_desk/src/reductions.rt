@@ -1,5 +1,5 @@
 // A reduction, in its order.
-ghost use Rattle.std.specs.Prelude.{◌≡◌, ◌++◌, [], ◌+◌, ◌-◌, ◌<◌, ◌≤◌, ◌^◌, true, false, Some, OnOk, IfOk, IfErr};
+ghost use Rattle.std.specs.Prelude.{◌≡◌, ◌++◌, [], ◌+◌, ◌-◌, ◌<◌, ◌≤◌, ◌^◌, true, false, Some, OnOk, IfOk};
 ghost use Rattle.std.specs.Prelude.{slice_get, slice_set};
 ghost use Rattle.md_reader.specs.declared.types.Give.TheVariants as give;
 ghost use Rattle.sel_target.specs.declared.attr.Attr.TheVariants as attr;
@@ -13,7 +13,7 @@ ghost use Rattle.sel_parse_desk.specs.Reductions.{reloaded_at, reloaded, own_reg
 ghost use Rattle.sel_parse_desk.specs.Reductions.{finished, with_result, with_scratch, given_by, reduced};
 ghost use Rattle.sel_parse_desk.specs.Selected.{shifted};
 ghost use Rattle.sel_parse_desk.specs.Joined.{is_low};
-ghost use Rattle.sel_parse_desk.specs.Mirror.{desk_of, in_setting, stack_of, filled_lines, Fails, IsReady};
+ghost use Rattle.sel_parse_desk.specs.Mirror.{desk_of, in_setting, stack_of, filled_lines, Does, IsReady};
 
 use crate::desk::{Desk, DeskFault, Setting};
 use crate::entries::Entries;
@@ -98,10 +98,8 @@ fn reload<T: Templates>(
     at: usize,
 ) -> Result<(), DeskFault>
     requires ready { IsReady T.meaning desk.old }
-    ensures done { OnOk result (in_setting T.meaning setting.now reloaded_at at (desk_of desk.old)
-        (slot_in (slice_get (desk_of desk.old).symbols at)) ≡ Done (desk_of desk.new)) }
-    ensures fails { IfErr result (λ e. Fails e (in_setting T.meaning setting.now reloaded_at at (desk_of desk.old)
-        (slot_in (slice_get (desk_of desk.old).symbols at)))) }
+    ensures done { Does result (in_setting T.meaning setting.now reloaded_at at (desk_of desk.old)
+        (slot_in (slice_get (desk_of desk.old).symbols at))) (desk_of desk.new) }
     ensures ready { OnOk result (IsReady T.meaning desk.new) }
 {
     let Some(word) = desk.symbols.slot(at) else {
@@ -124,8 +122,7 @@ fn reload_all<T: Templates>(
 ) -> Result<(), DeskFault>
     requires few { at + count < 2 ^ 64 }
     requires ready { IsReady T.meaning desk.old }
-    ensures done { OnOk result (in_setting T.meaning setting.now reloaded count at (desk_of desk.old) ≡ Done (desk_of desk.new)) }
-    ensures fails { IfErr result (λ e. Fails e (in_setting T.meaning setting.now reloaded count at (desk_of desk.old))) }
+    ensures done { Does result (in_setting T.meaning setting.now reloaded count at (desk_of desk.old)) (desk_of desk.new) }
     ensures ready { OnOk result (IsReady T.meaning desk.new) }
 {
     if count == 0 {
@@ -248,10 +245,8 @@ fn give_register<T: Templates>(
     given: bool,
 ) -> Result<(), DeskFault>
     requires ready { IsReady T.meaning desk.old }
-    ensures done { OnOk result (bind (in_setting T.meaning setting.now due given (desk_of desk.old))
-        (in_setting T.meaning setting.now with_result rule.now) ≡ Done (stack_of desk.new)) }
-    ensures fails { IfErr result (λ e. Fails e (bind (in_setting T.meaning setting.now due given (desk_of desk.old))
-        (in_setting T.meaning setting.now with_result rule.now))) }
+    ensures done { Does result (bind (in_setting T.meaning setting.now due given (desk_of desk.old))
+        (in_setting T.meaning setting.now with_result rule.now)) (stack_of desk.new) }
     ensures ready { OnOk result (IsReady T.meaning desk.new) }
 {
     let register = due(setting, desk, given)?;
@@ -266,10 +261,8 @@ fn give_scratch<T: Templates>(
     rule: &Rule,
 ) -> Result<(), DeskFault>
     requires ready { IsReady T.meaning desk.old }
-    ensures done { OnOk result (bind (in_setting T.meaning setting.now due false (desk_of desk.old))
-        (in_setting T.meaning setting.now with_scratch rule.now) ≡ Done (stack_of desk.new)) }
-    ensures fails { IfErr result (λ e. Fails e (bind (in_setting T.meaning setting.now due false (desk_of desk.old))
-        (in_setting T.meaning setting.now with_scratch rule.now))) }
+    ensures done { Does result (bind (in_setting T.meaning setting.now due false (desk_of desk.old))
+        (in_setting T.meaning setting.now with_scratch rule.now)) (stack_of desk.new) }
     ensures ready { OnOk result (IsReady T.meaning desk.new) }
 {
     let register = due(setting, desk, false)?;
@@ -300,9 +293,7 @@ fn give<T: Templates>(
     rule: &Rule,
 ) -> Result<(), DeskFault>
     requires ready { IsReady T.meaning desk.old }
-    ensures done { OnOk result (in_setting T.meaning setting.now given_by rule.now rule.now.give (desk_of desk.old)
-        ≡ Done (stack_of desk.new)) }
-    ensures fails { IfErr result (λ e. Fails e (in_setting T.meaning setting.now given_by rule.now rule.now.give (desk_of desk.old))) }
+    ensures done { Does result (in_setting T.meaning setting.now given_by rule.now rule.now.give (desk_of desk.old)) (stack_of desk.new) }
     ensures ready { OnOk result (IsReady T.meaning desk.new) }
 {
     match &rule.give {
@@ -342,8 +333,7 @@ pub fn reduce<T: Templates>(
     rule: &Rule,
 ) -> Result<(), DeskFault>
     requires ready { IsReady T.meaning desk.old }
-    ensures done { OnOk result (in_setting T.meaning setting.now reduced rule.now (stack_of desk.old) ≡ Done (stack_of desk.new)) }
-    ensures fails { IfErr result (λ e. Fails e (in_setting T.meaning setting.now reduced rule.now (stack_of desk.old))) }
+    ensures done { Does result (in_setting T.meaning setting.now reduced rule.now (stack_of desk.old)) (stack_of desk.new) }
     ensures ready { OnOk result (IsReady T.meaning desk.new) }
 {
     let size = rule.right.as_slice().len();

@@ -1,14 +1,14 @@
 // A register that is due.
-ghost use Rattle.std.specs.Prelude.{◌≡◌, ◌==◌, ◌∷◌, ◌++◌, [], ◌<◌, ◌≤◌, true, Some, length, OnOk, IfOk, IfErr, IfSome};
+ghost use Rattle.std.specs.Prelude.{◌≡◌, ◌==◌, ◌∷◌, ◌++◌, [], ◌<◌, ◌≤◌, true, Some, length, OnOk, IfOk, IfSome};
 ghost use Rattle.std.specs.Prelude.{option_to_list, slice_get};
 ghost use Rattle.std.specs.List.{list_any};
 ghost use Rattle.sel_target.specs.SavingLaws.{saving};
 ghost use Rattle.sel_target.specs.Symbols.{saving_place, saving_line};
 ghost use Rattle.sel_parse_desk.specs.Entries.{kind_in, word_of};
-ghost use Rattle.sel_parse_desk.specs.Desk.{is_free_register, free_register, is_free_word, free_slot, Done};
+ghost use Rattle.sel_parse_desk.specs.Desk.{is_free_register, free_register, is_free_word, free_slot};
 ghost use Rattle.sel_parse_desk.specs.Spills.{in_slot, victim, spilled, due, Below, Among};
 ghost use Rattle.sel_parse_desk.specs.Joined.{is_low, attr_in};
-ghost use Rattle.sel_parse_desk.specs.Mirror.{desk_of, in_setting, saved_line, Fails, IsReady};
+ghost use Rattle.sel_parse_desk.specs.Mirror.{desk_of, in_setting, saved_line, Gives, Does, IsReady};
 
 use crate::desk::{Desk, DeskFault, Setting};
 use crate::entries::Entries;
@@ -185,8 +185,7 @@ fn save_below<T: Templates>(
     requires within { at < length desk.old.stack.entries }
     requires unsettled { desk.old.stack.settled ≤ at }
     requires ready { IsReady T.meaning desk.old }
-    ensures done { OnOk result (in_setting T.meaning setting.now spilled (desk_of desk.old) (Some (Below at)) ≡ Done (desk_of desk.new)) }
-    ensures fails { IfErr result (λ e. Fails e (in_setting T.meaning setting.now spilled (desk_of desk.old) (Some (Below at)))) }
+    ensures done { Does result (in_setting T.meaning setting.now spilled (desk_of desk.old) (Some (Below at))) (desk_of desk.new) }
     ensures ready { OnOk result (IsReady T.meaning desk.new) }
 {
     let Some(word) = free_slot(setting, desk) else {
@@ -213,8 +212,7 @@ fn save_symbol<T: Templates>(
 ) -> Result<(), DeskFault>
     requires within { at < length desk.old.symbols }
     requires ready { IsReady T.meaning desk.old }
-    ensures done { OnOk result (in_setting T.meaning setting.now spilled (desk_of desk.old) (Some (Among at)) ≡ Done (desk_of desk.new)) }
-    ensures fails { IfErr result (λ e. Fails e (in_setting T.meaning setting.now spilled (desk_of desk.old) (Some (Among at)))) }
+    ensures done { Does result (in_setting T.meaning setting.now spilled (desk_of desk.old) (Some (Among at))) (desk_of desk.new) }
     ensures ready { OnOk result (IsReady T.meaning desk.new) }
 {
     let Some(word) = free_slot(setting, desk) else {
@@ -240,10 +238,8 @@ fn spill<T: Templates>(
     given: bool,
 ) -> Result<(), DeskFault>
     requires ready { IsReady T.meaning desk.old }
-    ensures done { OnOk result (in_setting T.meaning setting.now spilled (desk_of desk.old) (victim T.meaning given (desk_of desk.old))
-        ≡ Done (desk_of desk.new)) }
-    ensures fails { IfErr result (λ e. Fails e (in_setting T.meaning setting.now spilled (desk_of desk.old)
-        (victim T.meaning given (desk_of desk.old)))) }
+    ensures done { Does result (in_setting T.meaning setting.now spilled (desk_of desk.old) (victim T.meaning given (desk_of desk.old)))
+        (desk_of desk.new) }
     ensures ready { OnOk result (IsReady T.meaning desk.new) }
 {
     if let Some(at) = deepest(setting.target, &mut desk.stack) {
@@ -266,8 +262,7 @@ pub fn due<T: Templates>(
     given: bool,
 ) -> Result<u8, DeskFault>
     requires ready { IsReady T.meaning desk.old }
-    ensures done { IfOk result (λ r. in_setting T.meaning setting.now due given (desk_of desk.old) ≡ Done (r, desk_of desk.new)) }
-    ensures fails { IfErr result (λ e. Fails e (in_setting T.meaning setting.now due given (desk_of desk.old))) }
+    ensures done { Gives result (in_setting T.meaning setting.now due given (desk_of desk.old)) (λ r. (r, desk_of desk.new)) }
     ensures ready { OnOk result (IsReady T.meaning desk.new) }
 {
     if let Some(register) = free_register(setting, desk, given) {
