@@ -269,8 +269,5 @@ pub fn due<T: Templates>(
         return Ok(register);
     }
     spill(setting, desk, given)?;
-    match free_register(setting, desk, given) {
-        Some(register) => Ok(register),
-        None => Err(DeskFault::NoRegister),
-    }
+    free_register(setting, desk, given).ok_or(DeskFault::NoRegister)
 }
