@@ -6,11 +6,11 @@ use Rattle.c_program.specs.Need.{need_of}
 use Rattle.c_program.specs.Programs.{ARoutine, AProgram}
 use Rattle.c_typed_check.specs.Typed.{need_in, need_at}
 use Rattle.c_sound_texts.proofs.Law.{typed_is_sound}
-use Rattle.c_lower_counts.specs.c_lower_spelled.proofs.Law.{lowered_is_spelled, labels_are_small}
-use Rattle.c_lower_counts.specs.c_lower_spelled.proofs.Names.{names_are_spelled}
-use Rattle.c_lower_counts.specs.c_lower_spelled.proofs.Sources.{typed_have_names}
-use Rattle.c_lower_counts.specs.c_lower_spelled.proofs.Locals.{locals_are_few}
-use Rattle.c_lower_counts.proofs.Law.{typed_have_few_labels}
+use Rattle.gg_compile_counts.specs.gg_compile_spelled.proofs.Law.{lowered_is_spelled, labels_are_small}
+use Rattle.gg_compile_counts.specs.gg_compile_spelled.proofs.Names.{names_are_spelled}
+use Rattle.gg_compile_counts.specs.gg_compile_spelled.proofs.Sources.{typed_have_names}
+use Rattle.gg_compile_counts.specs.gg_compile_spelled.proofs.Locals.{locals_are_few}
+use Rattle.gg_compile_counts.proofs.Law.{typed_have_few_labels}
 use Rattle.gg_compile_laws.proofs.Keeping.{selected_codes_keep_programs}
 use Rattle.gg_compile_laws.specs.Typed.{FitFrames, TypedProgramsAreWithinLimits, TypedCodesKeepPrograms}
 

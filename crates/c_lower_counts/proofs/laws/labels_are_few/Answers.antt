@@ -1,5 +1,0 @@
-use Rattle.c_lower_counts.proofs.laws.labels_are_few.Goals as goal
-use Rattle.c_lower_counts.proofs.Labels.{labels_are_few}
-
-pub returns : goal.returns
-returns c = labels_are_few

@@ -1,5 +1,0 @@
-use Rattle.c_lower_counts.proofs.laws.programs_are_small.Goals as goal
-use Rattle.c_lower_counts.proofs.Law.{programs_are_small}
-
-pub returns : goal.returns
-returns c = programs_are_small

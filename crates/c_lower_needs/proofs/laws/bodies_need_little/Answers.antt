@@ -1,5 +1,0 @@
-use Rattle.c_lower_needs.proofs.laws.bodies_need_little.Goals as goal
-use Rattle.c_lower_needs.proofs.Units.{bodies_need_little}
-
-pub returns : goal.returns
-returns c = bodies_need_little

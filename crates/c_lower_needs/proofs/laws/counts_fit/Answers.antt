@@ -1,5 +1,0 @@
-use Rattle.c_lower_needs.proofs.laws.counts_fit.Goals as goal
-use Rattle.c_lower_needs.proofs.Law.{counts_fit}
-
-pub returns : goal.returns
-returns c = counts_fit

@@ -1,5 +1,0 @@
-use Rattle.c_lower_needs.proofs.laws.elements_are_small.Goals as goal
-use Rattle.c_lower_needs.proofs.Values.{elements_are_small}
-
-pub returns : goal.returns
-returns c = elements_are_small

@@ -1,5 +1,0 @@
-use Rattle.c_lower_needs.proofs.laws.functions_are_few.Goals as goal
-use Rattle.c_lower_needs.proofs.Units.{functions_are_few}
-
-pub returns : goal.returns
-returns c = functions_are_few

@@ -1,5 +1,0 @@
-use Rattle.c_lower_needs.proofs.laws.statements_add_little.Goals as goal
-use Rattle.c_lower_needs.proofs.Adding.{statements_add_little}
-
-pub returns : goal.returns
-returns c = statements_add_little

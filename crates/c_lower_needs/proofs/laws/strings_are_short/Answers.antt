@@ -1,5 +1,0 @@
-use Rattle.c_lower_needs.proofs.laws.strings_are_short.Goals as goal
-use Rattle.c_lower_needs.proofs.Values.{strings_are_short}
-
-pub returns : goal.returns
-returns c = strings_are_short

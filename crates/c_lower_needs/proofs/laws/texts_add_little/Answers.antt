@@ -1,5 +1,0 @@
-use Rattle.c_lower_needs.proofs.laws.texts_add_little.Goals as goal
-use Rattle.c_lower_needs.proofs.Adding.{texts_add_little}
-
-pub returns : goal.returns
-returns c = texts_add_little

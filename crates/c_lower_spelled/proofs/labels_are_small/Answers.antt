@@ -1,5 +1,0 @@
-use Rattle.c_lower_spelled.proofs.labels_are_small.Goals as goal
-use Rattle.c_lower_spelled.proofs.Law.{labels_are_small}
-
-pub returns : goal.returns
-returns c = labels_are_small

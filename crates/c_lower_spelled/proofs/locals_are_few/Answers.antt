@@ -1,5 +1,0 @@
-use Rattle.c_lower_spelled.proofs.locals_are_few.Goals as goal
-use Rattle.c_lower_spelled.proofs.Locals.{locals_are_few}
-
-pub returns : goal.returns
-returns c = locals_are_few

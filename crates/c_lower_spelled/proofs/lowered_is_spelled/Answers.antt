@@ -1,5 +1,0 @@
-use Rattle.c_lower_spelled.proofs.lowered_is_spelled.Goals as goal
-use Rattle.c_lower_spelled.proofs.Law.{lowered_is_spelled}
-
-pub returns : goal.returns
-returns c = lowered_is_spelled

@@ -1,5 +1,0 @@
-use Rattle.c_lower_spelled.proofs.names_are_spelled.Goals as goal
-use Rattle.c_lower_spelled.proofs.Names.{names_are_spelled}
-
-pub returns : goal.returns
-returns c = names_are_spelled

@@ -1,5 +1,0 @@
-use Rattle.c_lower_spelled.proofs.typed_have_names.Goals as goal
-use Rattle.c_lower_spelled.proofs.Sources.{typed_have_names}
-
-pub returns : goal.returns
-returns c = typed_have_names
