@@ -5,14 +5,14 @@ ghost use Rattle.vax_templates.specs.Filled.{number_addr};
 ghost use Rattle.vax_templates.specs.Filled.{word_operand, slot_operand, argument_deferred, slot_deferred, leaf_operand, operand_in};
 ghost use Rattle.vax_templates.specs.Filled.{leaf_deferred, deferred_in, filled_base, with_index, filled, filled_operand};
 
-use crate::instruction::shape_of_pieces;
-use crate::refusal::Refusal;
 use gg_base::{Name, NoMemory, w32};
 use md_reader::Piece;
 use sel_target::Attr;
 use std::alloc::Global;
 use tree_core::{Att, Leaf, Tok, TreeProgram};
 use vax_core::{Addr, Base, Operand, Reg};
+use vax_target_forms::instruction::shape_of_pieces;
+use vax_target_forms::refusal::Refusal;
 use vax_templates::{Base as FormBase, Form, Number};
 
 /// What the holes of a template are filled with; the last is `%0`.

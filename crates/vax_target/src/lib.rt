@@ -2,19 +2,9 @@
 #![tactic(auto)]
 
 mod filling;
-mod form;
-pub mod found;
-mod giving;
-mod heap;
-mod instruction;
-mod judging;
 mod line;
-mod marks;
-mod refusal;
-mod setting;
-mod standing;
-mod taking;
 mod vax;
 mod word;
 
 pub use vax::{State, Vax};
+pub use vax_target_judging::found;

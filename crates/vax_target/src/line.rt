@@ -9,8 +9,6 @@ ghost use Rattle.vax_templates.specs.Filled.{filled};
 ghost use Rattle.vax_target.specs.Stages.{filled_view};
 
 use crate::filling::{Filling, addr_number, alone};
-use crate::instruction::{LineInstruction, instruction_of};
-use crate::refusal::Refusal;
 use gg_base::{Name, NoMemory, Rel};
 use md_reader::Piece;
 use sel_target::Attr;
@@ -18,6 +16,8 @@ use std::alloc::Global;
 use tree_core::Att;
 use tree_core::spelling::{function_label, label_name};
 use vax_core::{Base, Instr, Op, Operand, Operands};
+use vax_target_forms::instruction::{LineInstruction, instruction_of};
+use vax_target_forms::refusal::Refusal;
 use vax_templates::Form;
 
 fn op_of_relation(rel: Rel) -> Op

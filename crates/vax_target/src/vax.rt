@@ -2,7 +2,6 @@
 ghost use Rattle.std.specs.Prelude.{◌≡◌, ◌↔◌, IsTrue};
 
 use crate::filling::{Filling, filled_operand};
-use crate::found::{found, saved_found};
 use crate::word::word_of;
 use bitflags::Flags;
 use gg_base::NoMemory;
@@ -14,6 +13,7 @@ use std::marker::Model;
 use tree_core::TreeProgram;
 use vax_core::{Instr, Operand};
 use vax_machine::Frames;
+use vax_target_judging::found::{found, saved_found};
 
 /// A state of the machine, of which contracts speak and no value is made.
 #[derive(Drop)]

@@ -1,0 +1,4 @@
+-- Endings of names: _of what the definition has for a value of the code. See docs/READING.md.
+pub mod Answers
+pub mod Views
+pub mod Stages

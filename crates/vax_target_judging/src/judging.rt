@@ -1,0 +1,415 @@
+// What a line of a template does, and what is wrong with it.
+ghost use Rattle.std.specs.Prelude.{◌≡◌, IfOk, Ok, map, ◌∷◌, []};
+ghost use Rattle.std.specs.List.{list_any};
+ghost use Rattle.std.specs.Option.{option_map};
+ghost use Rattle.term_core.specs.Shape.{shape_of};
+ghost use Rattle.sel_terms.specs.Effects.{act_of};
+ghost use Rattle.sel_terms.specs.Effects as act;
+ghost use Rattle.vax_templates.specs.Deeds.{leaves, ends, is_relation, branches, is_movl};
+ghost use Rattle.vax_templates.specs.Deeds.{is_last_result, puts, put, computed, acted};
+ghost use Rattle.vax_templates.specs.Giving.{Divides, given};
+ghost use Rattle.vax_templates.specs.Judging.{is_operand, index_is_operand, base_spells, spells_symbol, is_disordered};
+ghost use Rattle.vax_templates.specs.Judging.{in_order, checked, operated, instruction_did, returned, did_behind};
+ghost use Rattle.vax_templates.specs.Judging.{line_did};
+ghost use Rattle.vax_target_taking.specs.Answers.{Judges};
+ghost use Rattle.vax_target_judging.specs.Stages.{did_after, line_after};
+ghost use Rattle.vax_target_forms.specs.Views.{instruction_view};
+ghost use Rattle.vax_target_taking.specs.Views.{term_of, target_of, arguments_of};
+ghost use Rattle.vax_target_judging.specs.Views.{given_of, last_of, deed_of};
+
+use crate::giving::{Outcome, given};
+use gg_base::NoMemory;
+use md_reader::Piece;
+use sel_target::TemplateKind;
+use sel_terms::Act;
+use std::alloc::Global;
+use term_core::{Term, copy};
+use vax_core::Op;
+use vax_machine::function::{Action, Function, action_of};
+use vax_target_forms::instruction::{LineInstruction, instruction_of};
+use vax_target_forms::refusal::{NOT_INSTR, Refusal};
+use vax_target_taking::heap::copied;
+use vax_target_taking::setting::hole_at;
+use vax_target_taking::standing::Template;
+use vax_target_taking::taking::{Destination, Operands};
+use vax_templates::{Base, Form, Hole};
+
+/// What a line leaves to the next: nothing, two numbers that were compared, one that was tested, a value in register 0, or the deed that
+/// ends the template.
+#[derive(Drop)]
+pub enum Before {
+    Plain,
+    Compared(Box<Term>, Box<Term>),
+    Tested(Box<Term>),
+    Returning(Box<Term>),
+    Ended(Box<Act>),
+}
+
+/// What a line puts into `%0`, what it leaves to the next, by what it divides, what it reads of memory, and whether an operand has another
+/// size.
+#[derive(Drop)]
+pub struct Step {
+    pub own: Option<Box<Term>>,
+    pub leaves: Before,
+    pub divisors: Vec<Term>,
+    pub reads: Vec<Term>,
+    pub is_missized: bool,
+}
+
+fn leaves(alloc: Global, before: Before) -> Step
+    ensures { deed_of result ≡ leaves (last_of before) }
+{
+    Step {
+        own: None,
+        leaves: before,
+        divisors: Vec::new(alloc),
+        reads: Vec::new(alloc),
+        is_missized: false,
+    }
+}
+
+fn ends(alloc: Global, deed: Act) -> Result<Step, NoMemory>
+    ensures { IfOk result (λ d. ends (act_of deed) ≡ Ok (deed_of d)) }
+{
+    let deed = Box::new(alloc, deed)?;
+    Ok(leaves(alloc, Before::Ended(deed)))
+}
+
+// The first operand is pushed.
+fn pushes(alloc: Global, arguments: Operands) -> Result<Step, NoMemory>
+    ensures { IfOk result (λ d. ends (act.Push (shape_of arguments.first.value)) ≡ Ok (deed_of d)) }
+{
+    ends(alloc, Act::Push(Box::into_inner(arguments.first)))
+}
+
+fn puts(alloc: Global, t: Box<Term>) -> Step
+    ensures { deed_of result ≡ puts (shape_of t.value) }
+{
+    Step {
+        own: Some(t),
+        leaves: Before::Plain,
+        divisors: Vec::new(alloc),
+        reads: Vec::new(alloc),
+        is_missized: false,
+    }
+}
+
+fn is_relation(hole: Hole) -> bool
+    ensures { result ≡ is_relation hole }
+{
+    matches!(hole, Hole::Relation)
+}
+
+fn is_movl(op: Op) -> bool
+    ensures { result ≡ is_movl op }
+{
+    matches!(op, Op::Movl)
+}
+
+fn is_last_result(t: &Term) -> bool
+    ensures { result ≡ is_last_result (shape_of t.now) }
+{
+    matches!(t, Term::Res)
+}
+
+// A result at its destination.
+fn put(alloc: Global, op: Op, to: Destination, t: Box<Term>) -> Result<Step, Refusal>
+    ensures { Judges deed_of result (put op (Some (target_of to)) (shape_of t.value)) }
+{
+    match to {
+        Destination::Own => Ok(puts(alloc, t)),
+        Destination::Slot(size) => {
+            let deed = Act::StoreHome(size, 0, Box::into_inner(t));
+            Ok(ends(alloc, deed)?)
+        }
+        Destination::Home(size, i) => {
+            let deed = Act::StoreHome(size, i, Box::into_inner(t));
+            Ok(ends(alloc, deed)?)
+        }
+        Destination::Memory(size, a) => {
+            let deed = Act::StoreAt(size, Box::into_inner(a), Box::into_inner(t));
+            Ok(ends(alloc, deed)?)
+        }
+        Destination::RegisterZero if is_movl(op) => Ok(leaves(alloc, Before::Returning(t))),
+        Destination::Saved(i) if is_movl(op) && is_last_result(&t) => {
+            Ok(ends(alloc, Act::Save(i))?)
+        }
+        Destination::RegisterZero | Destination::Saved(_) => Err(NOT_INSTR),
+    }
+}
+
+fn put_at(alloc: Global, op: Op, to: Option<Destination>, t: Box<Term>) -> Result<Step, Refusal>
+    ensures { Judges deed_of result (put op (option_map target_of to) (shape_of t.value)) }
+{
+    match to {
+        Some(to) => put(alloc, op, to, t),
+        None => Err(NOT_INSTR),
+    }
+}
+
+// The one term as a list.
+fn only(alloc: Global, t: Box<Term>) -> Result<Vec<Term>, NoMemory>
+    ensures { IfOk result (λ v. map shape_of v.items ≡ shape_of t.value ∷ []) }
+{
+    let mut terms = Vec::new(alloc);
+    terms.push(Box::into_inner(t))?;
+    Ok(terms)
+}
+
+// The step, which divides by these.
+fn with_divisors(step: Step, divisors: Vec<Term>) -> Step
+    ensures { deed_of result ≡ record (deed_of step) { divisors = map shape_of divisors.items } }
+{
+    Step { divisors, ..step }
+}
+
+// A quotient by this divisor, at its destination.
+fn put_divided(
+    alloc: Global,
+    op: Op,
+    to: Option<Destination>,
+    t: Box<Term>,
+    divisor: Box<Term>,
+) -> Result<Step, Refusal>
+    ensures { Judges deed_of result (computed op (option_map target_of to) (Divides (shape_of t.value) (shape_of divisor.value))) }
+{
+    let step = put_at(alloc, op, to, t)?;
+    let divisors = only(alloc, divisor)?;
+    Ok(with_divisors(step, divisors))
+}
+
+fn computed(
+    alloc: Global,
+    op: Op,
+    to: Option<Destination>,
+    outcome: Outcome,
+) -> Result<Step, Refusal>
+    ensures { Judges deed_of result (computed op (option_map target_of to) (given_of outcome)) }
+{
+    match outcome {
+        Outcome::Computes(t) => put_at(alloc, op, to, t),
+        Outcome::Divides(t, divisor) => put_divided(alloc, op, to, t, divisor),
+        Outcome::Compares(a, b) => Ok(leaves(alloc, Before::Compared(a, b))),
+        Outcome::Tests(t) => Ok(leaves(alloc, Before::Tested(t))),
+    }
+}
+
+// The step, if no operand has another size and it does not come in disorder.
+fn in_order(disordered: bool, step: Step) -> Result<Step, Refusal>
+    ensures { Judges deed_of result (in_order disordered (deed_of step)) }
+{
+    if step.is_missized {
+        Err(Refusal::Wrong(TemplateKind::WrongSize))
+    } else if disordered {
+        Err(Refusal::Wrong(TemplateKind::Order))
+    } else {
+        Ok(step)
+    }
+}
+
+fn is_operand(hole: Hole) -> bool
+    ensures { result ≡ is_operand hole }
+{
+    match hole {
+        Hole::Register => true,
+        Hole::Value(_) => true,
+        Hole::Place(_) => true,
+        Hole::Local => true,
+        Hole::SavedPlace(_) => true,
+        Hole::Address => true,
+        _ => false,
+    }
+}
+
+fn returned(alloc: Global, t: &Term, instruction: &LineInstruction) -> Result<Step, Refusal>
+    ensures { Judges deed_of result (returned (shape_of t.now) (instruction_view instruction.now)) }
+{
+    match instruction {
+        LineInstruction::Return => {
+            let t = copy(alloc, t)?;
+            Ok(ends(alloc, Act::Return(t))?)
+        }
+        _ => Err(NOT_INSTR),
+    }
+}
+
+// A branch by the relation of the symbol with this number.
+fn branches(template: Template<'_>, i: u8, before: &Before) -> Result<Step, Refusal>
+    ensures { Judges deed_of result (branches template.entry.setting i (last_of before.now)) }
+{
+    if !template.setting.is_statement {
+        return Err(NOT_INSTR);
+    }
+    match before {
+        Before::Compared(a, b) => {
+            let a = copied(template.alloc, a)?;
+            let b = copied(template.alloc, b)?;
+            let deed = Act::Branch(i, Box::into_inner(a), Box::into_inner(b));
+            Ok(ends(template.alloc, deed)?)
+        }
+        Before::Tested(t) if template.setting.is_signed => {
+            let t = copy(template.alloc, t)?;
+            Ok(ends(template.alloc, Act::Branch(i, t, Term::K(0)))?)
+        }
+        _ => Err(NOT_INSTR),
+    }
+}
+
+fn index_is_operand(template: Template<'_>, index: Option<u8>) -> bool
+    ensures { result ≡ index_is_operand template.entry.holes.now index }
+{
+    match index {
+        Some(i) => is_operand(hole_at(template.holes, i)),
+        None => false,
+    }
+}
+
+fn base_spells(template: Template<'_>, base: Base) -> bool
+    ensures { result ≡ base_spells template.entry.holes.now base }
+{
+    match base {
+        Base::Hole(i) => is_operand(hole_at(template.holes, i)),
+        Base::RegisterDeferred(i) => is_operand(hole_at(template.holes, i)),
+        Base::Displacement(_, i) => is_operand(hole_at(template.holes, i)),
+        Base::DisplacementDeferred(_, i) => is_operand(hole_at(template.holes, i)),
+        Base::Deferred(i) => is_operand(hole_at(template.holes, i)),
+        _ => false,
+    }
+}
+
+// Whether an operand is read of a symbol.
+fn spells_symbol(template: Template<'_>, form: &Form) -> bool
+    ensures { result ≡ spells_symbol template.entry.holes.now form.now }
+{
+    base_spells(template, form.base) || index_is_operand(template, form.index)
+}
+
+// Whether one of the operands is read of a symbol.
+fn spell_symbols(template: Template<'_>, forms: &[Form]) -> bool
+    ensures { result ≡ list_any (spells_symbol template.entry.holes.now) forms.now }
+{
+    forms.iter().any(|form| spells_symbol(template, form))
+}
+
+// What an instruction computes, at its destination.
+fn applied(
+    template: Template<'_>,
+    function: Function,
+    op: Op,
+    arguments: Operands,
+) -> Result<Step, Refusal>
+    ensures { Judges deed_of result (computed op (option_map target_of arguments.destination)
+        (given function (shape_of arguments.first.value) (shape_of arguments.second.value))) }
+{
+    let Operands {
+        first,
+        second,
+        destination,
+        ..
+    } = arguments;
+    match given(template.alloc, function, &first, &second) {
+        Ok(outcome) => computed(template.alloc, op, destination, outcome),
+        Err(NoMemory) => Err(Refusal::NoMemory),
+    }
+}
+
+fn acted(
+    template: Template<'_>,
+    action: Action,
+    op: Op,
+    arguments: Operands,
+) -> Result<Step, Refusal>
+    ensures { Judges deed_of result (acted template.entry.setting action op (arguments_of arguments)) }
+{
+    match action {
+        Action::Compute(function) => applied(template, function, op, arguments),
+        Action::Push if template.setting.is_statement => Ok(pushes(template.alloc, arguments)?),
+        Action::Push | Action::Branch(_) | Action::Call | Action::Return => Err(NOT_INSTR),
+    }
+}
+
+fn is_disordered(
+    template: Template<'_>,
+    is_first: bool,
+    zero: &Option<Box<Term>>,
+    forms: &[Form],
+    step: &Step,
+) -> bool
+    ensures { result ≡ is_disordered template.entry.setting template.entry.holes.now is_first (term_of zero.now) forms.now
+        (deed_of step.now) }
+{
+    (!is_first && !step.divisors.is_empty())
+        || (template.setting.is_reused && zero.is_some() && spell_symbols(template, forms))
+}
+
+#[tactic(auto, unfolding(vax_templates::specs::Judging::operated))]
+fn operated(
+    template: Template<'_>,
+    is_first: bool,
+    zero: &Option<Box<Term>>,
+    op: Op,
+    forms: &[Form],
+) -> Result<Step, Refusal>
+    ensures { Judges deed_of result (operated template.entry.setting template.entry.holes.now is_first (term_of zero.now) op forms.now) }
+{
+    let mut arguments = template.all_evaluated(zero, op.shape().operands, forms)?;
+    let is_missized = arguments.is_missized;
+    let reads = std::mem::replace(&mut arguments.reads, Vec::new(template.alloc));
+    match acted(template, action_of(op), op, arguments) {
+        Ok(mut step) => {
+            step.reads = reads;
+            step.is_missized = is_missized;
+            in_order(is_disordered(template, is_first, zero, forms, &step), step)
+        }
+        Err(refusal) => Err(refusal),
+    }
+}
+
+fn instruction_did(
+    template: Template<'_>,
+    is_first: bool,
+    zero: &Option<Box<Term>>,
+    before: &Before,
+    instruction: &LineInstruction,
+) -> Result<Step, Refusal>
+    ensures { Judges deed_of result (did_after template.entry.setting template.entry.holes.now is_first zero.now before.now
+        instruction.now) }
+{
+    match instruction {
+        LineInstruction::Relation(i) if is_relation(hole_at(template.holes, *i)) => {
+            branches(template, *i, before)
+        }
+        LineInstruction::Jump if template.setting.is_statement => Ok(ends(
+            template.alloc,
+            Act::Jump,
+        )?),
+        LineInstruction::Call if template.setting.is_statement => Ok(ends(
+            template.alloc,
+            Act::Call,
+        )?),
+        LineInstruction::Operates(op, forms) => operated(template, is_first, zero, *op, forms),
+        LineInstruction::Relation(_)
+        | LineInstruction::Jump
+        | LineInstruction::Call
+        | LineInstruction::Return => Err(NOT_INSTR),
+    }
+}
+
+/// What a line does, where `%0` holds this and the line before left that.
+#[tactic(auto, unfolding(vax_templates::specs::Judging::line_did))]
+pub fn line_did(
+    template: Template<'_>,
+    is_first: bool,
+    zero: &Option<Box<Term>>,
+    before: &Before,
+    pieces: &[Piece],
+) -> Result<Step, Refusal>
+    ensures { Judges deed_of result (line_after template.entry.setting template.entry.holes.now is_first zero.now before.now pieces.now) }
+{
+    let instruction = instruction_of(template.alloc, pieces)?;
+    match before {
+        Before::Ended(_) => Err(NOT_INSTR),
+        Before::Returning(t) => returned(template.alloc, t, &instruction),
+        _ => instruction_did(template, is_first, zero, before, &instruction),
+    }
+}

@@ -1,0 +1,6 @@
+//! What the lines of a template do to symbols, and the first fault in it.
+#![tactic(auto)]
+
+pub mod found;
+mod giving;
+mod judging;
