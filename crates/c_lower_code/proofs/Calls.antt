@@ -39,7 +39,8 @@ call_effect locals count e t f to xs list tos u l n p r is same at number args m
     cc
 
 pub call_deliver : (locals count : ℕ) (e : Expression) (t : CType) (f : Callee) (to : List CType) (xs : Vec Expression) (list : List Expression) (tos : List CType) (u l n : ℕ) (at : Destination)
-    (p : Passing) (r : Emitted) → e ≡ expression.Call t f to xs → list ≡ xs.items → tos ≡ to → n ≡ callee_number count f → p ≡ pass locals count (expressions_of list) tos u l → r ≡ called_deliver at n p → r
+    (p : Passing) (r : Emitted) → e ≡ expression.Call t f to xs → list ≡ xs.items → tos ≡ to → n ≡ callee_number count f
+    → p ≡ pass locals count (expressions_of list) tos u l → r ≡ called_deliver at n p → r
     ≡ (way locals count (expression_of e)).deliver at u l
 call_deliver locals count e t f to xs list tos u l n at p r is same types number args made =
     let one : (way locals count (expression_of e)).deliver at u l ≡ called_deliver at (callee_number count f) (pass locals count (expressions_of list) to u l) =

@@ -108,7 +108,8 @@ fn for_of(
     e: &Option<Expression>,
     body: &Action,
 ) -> Result<Emitted, NoMemory>
-    ensures { IfOk result (λ r. done r ≡ statements.for_of frame.locals frame.functions l (optional_expression c.now) (optional_expression e.now)
+    ensures { IfOk result (λ r. done r ≡ statements.for_of frame.locals frame.functions l
+        (optional_expression c.now) (optional_expression e.now)
         (statements.lower frame.locals frame.functions (act body.now) NoActions (suc (suc l)) (suc l))) }
 {
     let onward = after(l)?;
@@ -162,7 +163,8 @@ fn while_of(frame: Frame, body: &Action, c: &Expression, l: u32) -> Result<Emitt
 // A `do`.
 #[cycle(statement)]
 fn do_of(frame: Frame, body: &Action, c: &Expression, l: u32) -> Result<Emitted, NoMemory>
-    ensures { IfOk result (λ r. done r ≡ statements.lower frame.locals frame.functions (DoOf (act body.now) (expression_of c.now)) NoActions 0 0 l) }
+    ensures { IfOk result (λ r. done r ≡
+        statements.lower frame.locals frame.functions (DoOf (act body.now) (expression_of c.now)) NoActions 0 0 l) }
 {
     let onward = after(l)?;
     let end = after(onward)?;

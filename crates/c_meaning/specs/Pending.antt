@@ -54,9 +54,12 @@ module _ (p : AProgram) where
   used uses.Address t s κ = address_of s κ
   used (uses.Step m by) t s κ = step_at m by t s κ
   used (uses.Assign e) t s κ = expr p (means p) (expression_of e.now.value) (λ v. store_at t s v κ)
-  used (uses.Change op e) t s κ = read_at t s (λ x. expr p (means p) (expression_of e.now.value) (λ y. changed t s (operators.Arithmetic op) x y κ))
-  used (uses.Advance e) t s κ = read_at t s (λ x. expr p (means p) (expression_of e.now.value) (λ y. changed t s (operators.Advance t) x y κ))
-  used (uses.Retreat e) t s κ = read_at t s (λ x. expr p (means p) (expression_of e.now.value) (λ y. changed t s (operators.Retreat t) x y κ))
+  used (uses.Change op e) t s κ =
+      read_at t s (λ x. expr p (means p) (expression_of e.now.value) (λ y. changed t s (operators.Arithmetic op) x y κ))
+  used (uses.Advance e) t s κ =
+      read_at t s (λ x. expr p (means p) (expression_of e.now.value) (λ y. changed t s (operators.Advance t) x y κ))
+  used (uses.Retreat e) t s κ =
+      read_at t s (λ x. expr p (means p) (expression_of e.now.value) (λ y. changed t s (operators.Retreat t) x y κ))
 
   -- a value comes to work that waits
   abbrev pub resume : ValueFrame → Then → Rest
@@ -64,8 +67,10 @@ module _ (p : AProgram) where
   resume (waiting.Convert t) κ v = κ (Valued (converted t v))
   resume (waiting.Right op e) κ x = expr p (means p) (expression_of e.now.value) (λ y. or_trap (combined op x y) (with_value κ))
   resume (waiting.Last op x) κ y = or_trap (combined op x y) (with_value κ)
-  resume (waiting.AndRight e) κ x = λ st. chosen x (expr p (means p) (expression_of e.now.value) (λ y. κ (Valued (logical y))) st) (κ (Valued 0) st)
-  resume (waiting.OrRight e) κ x = λ st. chosen x (κ (Valued 1) st) (expr p (means p) (expression_of e.now.value) (λ y. κ (Valued (logical y))) st)
+  resume (waiting.AndRight e) κ x = λ st.
+      chosen x (expr p (means p) (expression_of e.now.value) (λ y. κ (Valued (logical y))) st) (κ (Valued 0) st)
+  resume (waiting.OrRight e) κ x = λ st.
+      chosen x (κ (Valued 1) st) (expr p (means p) (expression_of e.now.value) (λ y. κ (Valued (logical y))) st)
   resume waiting.Truth κ y = κ (Valued (logical y))
   resume (waiting.Choose a b) κ x = λ st. chosen x (expr p (means p) (expression_of a.now.value) (with_value κ) st)
       (expr p (means p) (expression_of b.now.value) (with_value κ) st)

@@ -92,7 +92,8 @@ module _ (names : List (List ℕ × Entry)) (signatures : List Signature) (scope
   call_fails e n at opened es f list a (At place kind) is same found h = rw (call_is e n at opened es list is same, found, h) refl
 
   called_beside : (f : Option ℕ) (opened : ℕ) (l : List Expr) (xs : List Expression) (b : Area) (result : Result Expression TypeFault)
-      → Gives (λ t. expression_of t) result (called signatures f opened (exp_list l) (expressions_of xs)) → Turns (λ t. expression_of t) result b (called signatures f opened (exp_list l) (expressions_of xs) >>= λ t. Ok (t, b))
+      → Gives (λ t. expression_of t) result (called signatures f opened (exp_list l) (expressions_of xs))
+      → Turns (λ t. expression_of t) result b (called signatures f opened (exp_list l) (expressions_of xs) >>= λ t. Ok (t, b))
   called_beside f opened l xs b (Ok x) given = rw given refl
   called_beside f opened l xs b (Err NoMemory) given = tt
   called_beside f opened l xs b (Err (At place kind)) given = rw given refl
@@ -100,7 +101,8 @@ module _ (names : List (List ℕ × Entry)) (signatures : List Signature) (scope
   -- the arguments have their types
   pub call_goes : (e : Expr) (n : List ℕ) (at opened : ℕ) (es : Vec Expr) (f : Option ℕ) (list other : List Expr) (xs : List Expression) (a b : Area) (result : Result Expression TypeFault)
       → e ≡ exprs.Call n at opened es → list ≡ es.items → other ≡ es.items → callee names signatures scope at n ≡ Ok f → type_exps names signatures scope (exp_list list) a
-      ≡ Ok (expressions_of xs, b) → Gives (λ t. expression_of t) result (called signatures f opened (exp_list other) (expressions_of xs)) → Turns (λ t. expression_of t) result b (type_exp names signatures scope (exp e) a)
+      ≡ Ok (expressions_of xs, b) → Gives (λ t. expression_of t) result (called signatures f opened (exp_list other) (expressions_of xs))
+      → Turns (λ t. expression_of t) result b (type_exp names signatures scope (exp e) a)
   call_goes e n at opened es f list other xs a b result is same again found h given =
       let both : other ≡ list = again ∙ sym same in
       rw (call_is e n at opened es list is same, found, h) (called_beside f opened list xs b result

@@ -201,7 +201,8 @@ fn called(
     xs: Vec<Expression>,
 ) -> Result<Expression, TypeFault>
     requires { length xs.items ≡ length arguments.now }
-    ensures { Gives (λ t. expression_of t) result (called functions.now.signatures.items number bracket (exp_list arguments.now) (expressions_of xs.items)) }
+    ensures { Gives (λ t. expression_of t) result
+        (called functions.now.signatures.items number bracket (exp_list arguments.now) (expressions_of xs.items)) }
 {
     let Some(number) = number else {
         return bad_call(bracket);

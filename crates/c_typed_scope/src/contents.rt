@@ -132,7 +132,8 @@ impl Contents {
         x: &Expression,
         objects: &[Object],
     ) -> Result<(), TypeFault>
-        ensures { OnlyTurns result (filled_so_far self.new) (pointer_element to place (expression_of x.now) objects.now (filled_so_far self.old)) }
+        ensures { OnlyTurns result (filled_so_far self.new)
+            (pointer_element to place (expression_of x.now) objects.now (filled_so_far self.old)) }
     {
         if x.is_null() {
             self.put_number(4, 0)?;
@@ -160,7 +161,8 @@ impl Contents {
         x: &Expression,
         objects: &[Object],
     ) -> Result<(), TypeFault>
-        ensures { OnlyTurns result (filled_so_far self.new) (element_of to place (expression_of x.now) objects.now (filled_so_far self.old)) }
+        ensures { OnlyTurns result (filled_so_far self.new)
+            (element_of to place (expression_of x.now) objects.now (filled_so_far self.old)) }
     {
         match to {
             CType::Void => bad_type(place),

@@ -21,7 +21,8 @@ use Rattle.c_types.specs.declared.typed.ArithmeticOperator.TheVariants as ariths
 use Rattle.c_types.specs.declared.typed.Moment.{Moment}
 use Rattle.c_types.specs.Answers.{Fault, ◌>>=◌}
 use Rattle.c_types.specs.Types.{is_integer, is_scalar, pointer_to, size_of}
-use Rattle.c_types.specs.Typed.{APlace, VariableAt, PointedBy, ElementBy, AnExpression, ReadOf, SizeOfExpression, SizeOf, UnaryOf, CastTo, ArithmeticAssignTo, AssignTo, place_type, type_of, operand_size}
+use Rattle.c_types.specs.Typed.{APlace, VariableAt, PointedBy, ElementBy, AnExpression, ReadOf, SizeOfExpression, SizeOf, UnaryOf, CastTo}
+use Rattle.c_types.specs.Typed.{ArithmeticAssignTo, AssignTo, place_type, type_of, operand_size}
 use Rattle.c_types.specs.Typed.{SomeExpressions}
 use Rattle.c_program.specs.Need.{place_nodes, nodes, all_nodes}
 use Rattle.c_typed_scope.specs.declared.entry.Signature.{Signature}
