@@ -4,6 +4,9 @@ pub mod Turns
 pub mod Kids_found
 pub mod Gaining
 pub mod Both
+pub mod Following
 pub mod Framing
+pub mod Marking
 pub mod Reducing
+pub mod Showing
 pub mod Complete_sets

@@ -3,3 +3,4 @@ pub mod Looks
 pub mod Kids
 pub mod Firsts
 pub mod Seconds
+pub mod Sheets

@@ -6,7 +6,7 @@ ghost use Rattle.md_reader.specs.declared.types.Sym.TheVariants as grammar_symbo
 ghost use Rattle.lr_check_found.specs.declared.places.Place.{Place};
 ghost use Rattle.lr_check_found.specs.Found.{place_of, IsPlaceAt, Settles};
 ghost use Rattle.lr_check_found.specs.Items.{HasOne};
-ghost use Rattle.lr_check_complete.specs.Looks.{automaton, WasFound, Looks};
+ghost use Rattle.lr_check_complete.specs.Looks.{automaton, WasFound, IsShownRight, Looks};
 ghost use Rattle.lr_check_complete.specs.Kids.{OnlyIn, KidsIn, IsFrame, AtPlaces, FrameIn};
 
 use crate::look::Look;
@@ -77,7 +77,8 @@ impl<'a> Look<'a> {
         over: State,
         into: &mut Vec<Item>,
     ) -> Result<(), NoMemory>
-        requires { WasFound self.now }
+        requires found { WasFound self.now }
+        requires sheet { IsShownRight self.now }
         ensures { (q : ℕ) → IsFrame (automaton self.now) self.now.found.now q token over numbers.now →
             OnOk result (Looks self.now into.old.items into.new.items
             (AtPlaces self.now.found.now numbers.now (λ n x. KidsIn (automaton self.now) self.now.found.now n x over (kids token)))) }
@@ -138,7 +139,8 @@ impl<'a> Look<'a> {
         token: Tok,
         into: &mut Vec<Item>,
     ) -> Result<(), NoMemory>
-        requires { WasFound self.now }
+        requires found { WasFound self.now }
+        requires sheet { IsShownRight self.now }
         ensures { OnOk result (Looks self.now into.old.items into.new.items
             (FrameIn (automaton self.now) self.now.found.now state token)) }
     {

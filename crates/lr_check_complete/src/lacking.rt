@@ -1,5 +1,5 @@
 // All that follows from what was found and isn't there.
-ghost use Rattle.std.specs.Prelude.{◌≡◌, ℕ, ◌<◌, OnOk, IfOk, Contains, length};
+ghost use Rattle.std.specs.Prelude.{◌≡◌, ℕ, ◌<◌, OnOk, IfOk, IfSome, Contains, length};
 ghost use Rattle.tree_core.specs.declared.token.Tok.{Tok};
 ghost use Rattle.tree_core.specs.declared.token.Tok.TheVariants as tok;
 ghost use Rattle.tree_core.specs.declared.token.Sort.TheVariants as sort;
@@ -9,11 +9,13 @@ ghost use Rattle.lr_check_sets.specs.Closed.{IsClosed};
 ghost use Rattle.lr_check_found.specs.declared.settlings.Item.{Item};
 ghost use Rattle.lr_check_found.specs.Sound.{IsFound};
 ghost use Rattle.lr_check_found.specs.Items.{IsItem};
-ghost use Rattle.lr_check_complete.specs.Looks.{automaton, WasFound, Looks};
+ghost use Rattle.lr_check_complete.specs.Looks.{automaton, WasFound, IsShownRight, Looks};
 ghost use Rattle.lr_check_complete.specs.Sets.{HasPlace, HasSettling, HasSum, IsComplete};
 ghost use Rattle.lr_check_complete.specs.Kids.{FrameIn, ReducesIn};
+ghost use Rattle.lr_check_complete.specs.Sheets.{IsSheet};
 
 use crate::look::Look;
+use crate::sheet::{Sheet, sheet_of};
 use crate::window::Window;
 use gg_base::NoMemory;
 use lr_check_found::{Found, Item, Origin, Place, may};
@@ -56,7 +58,8 @@ impl<'a> Look<'a> {
 
     // What follows from the places of the state.
     fn frames_of(&self, alloc: Global, state: State, into: &mut Vec<Item>) -> Result<(), NoMemory>
-        requires { WasFound self.now }
+        requires found { WasFound self.now }
+        requires sheet { IsShownRight self.now }
         ensures { OnOk result (Looks self.now into.old.items into.new.items
             ((k : Tok) → FrameIn (automaton self.now) self.now.found.now state k)) }
     {
@@ -67,7 +70,8 @@ impl<'a> Look<'a> {
     }
 
     fn frames(&self, alloc: Global, into: &mut Vec<Item>) -> Result<(), NoMemory>
-        requires { WasFound self.now }
+        requires found { WasFound self.now }
+        requires sheet { IsShownRight self.now }
         ensures { OnOk result (Looks self.now into.old.items into.new.items
             ((q : ℕ) → q < length self.now.tables.now.rows → (k : Tok) → FrameIn (automaton self.now) self.now.found.now q k)) }
     {
@@ -102,7 +106,8 @@ impl<'a> Look<'a> {
     }
 
     fn push_lacking(&self, alloc: Global, into: &mut Vec<Item>) -> Result<(), NoMemory>
-        requires { WasFound self.now }
+        requires found { WasFound self.now }
+        requires sheet { IsShownRight self.now }
         ensures { OnOk result (Looks self.now into.old.items into.new.items
             (IsClosed (automaton self.now) (HasPlace self.now.found.now) (HasSettling self.now.found.now) (HasSum self.now.found.now))) }
     {
@@ -110,6 +115,30 @@ impl<'a> Look<'a> {
         self.frames(alloc, into)?;
         self.all_reductions(into)
     }
+}
+
+// The same, by the sheet that there may be.
+fn lacking_by<'x>(
+    alloc: Global,
+    tables: &'x Tables,
+    found: &'x Found,
+    window: Window,
+    sheet: Option<&'x Sheet>,
+) -> Result<Vec<Item>, NoMemory>
+    requires found { IsFound (automaton_of tables.now) found.now }
+    requires sheet { IfSome sheet (λ s. IsSheet s.now found.now) }
+    ensures items { IfOk result (λ v. (i : Item) → Contains v.items i → IsItem (automaton_of tables.now) found.now i) }
+    ensures complete { IfOk result (λ v. length v.items ≡ 0 → window.settlings ≡ 0 → IsComplete (automaton_of tables.now) found.now) }
+{
+    let mut items = Vec::new(alloc);
+    let look = Look {
+        tables,
+        found,
+        window,
+        sheet,
+    };
+    look.push_lacking(alloc, &mut items)?;
+    Ok(items)
 }
 
 /// What follows from what was found and isn't there, as far as it was not looked at before.
@@ -124,12 +153,8 @@ pub fn lacking(
     // Where all is looked at and nothing is lacking, all is found.
     ensures complete { IfOk result (λ v. length v.items ≡ 0 → window.settlings ≡ 0 → IsComplete (automaton_of tables.now) found.now) }
 {
-    let mut items = Vec::new(alloc);
-    let look = Look {
-        tables,
-        found,
-        window,
-    };
-    look.push_lacking(alloc, &mut items)?;
-    Ok(items)
+    match sheet_of(alloc, tables, found)? {
+        Some(sheet) => lacking_by(alloc, tables, found, window, Some(&sheet)),
+        None => lacking_by(alloc, tables, found, window, None),
+    }
 }

@@ -3,13 +3,17 @@
 #![tactic(auto)]
 
 mod firsts;
+mod fitting;
 mod frames;
 mod kids;
 mod lacking;
 mod look;
 mod looking;
+mod masks;
 mod reductions;
 mod rounds;
+mod sheet;
+mod shown;
 mod two;
 mod window;
 

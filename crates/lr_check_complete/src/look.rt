@@ -1,4 +1,5 @@
 // A look at what was found.
+use crate::sheet::Sheet;
 use crate::window::Window;
 use lr_check_found::Found;
 use lr_tables::Tables;
@@ -9,4 +10,5 @@ pub struct Look<'a> {
     pub tables: &'a Tables,
     pub found: &'a Found,
     pub window: Window,
+    pub sheet: Option<&'a Sheet>,
 }

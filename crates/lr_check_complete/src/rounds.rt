@@ -1,13 +1,17 @@
 // Rounds add what follows, until nothing does.
-ghost use Rattle.std.specs.Prelude.{◌≡◌, ◌≤◌, IfOk, IfErr, IsTrue};
+ghost use Rattle.std.specs.Prelude.{◌≡◌, ◌≤◌, IfOk, OnOk, IfErr, IsTrue};
 ghost use Rattle.lr_check_sets.specs.Table.{automaton_of};
 ghost use Rattle.lr_check_found.specs.declared.adding.Stop.TheVariants.{Full};
 ghost use Rattle.lr_check_found.specs.Count.{HasMore};
+ghost use Rattle.lr_check_found.specs.Items.{IsItem};
+ghost use Rattle.lr_check_found.specs.Sound.{IsFound};
 ghost use Rattle.lr_check_complete.specs.Sets.{IsComplete};
 
 use crate::lacking::lacking;
+use crate::look::Look;
 use crate::window::Window;
-use lr_check_found::{Found, Stop};
+use lr_check_found::{Found, Item, Stop};
+use lr_check_plan::planned;
 use lr_tables::Tables;
 use std::alloc::Global;
 
@@ -34,6 +38,51 @@ fn is_done(items: usize, window: Window) -> bool
     items == 0 && window.settlings == 0
 }
 
+// Whether the item follows from what was found of the tables.
+fn follows<'x>(tables: &'x Tables, found: &'x Found, item: &Item) -> bool
+    requires { IsFound (automaton_of tables.now) found.now }
+    ensures { IsTrue result → IsItem (automaton_of tables.now) found.now item.now }
+{
+    let look = Look {
+        tables,
+        found,
+        window: Window {
+            places: 0,
+            settlings: 0,
+        },
+        sheet: None,
+    };
+    look.follows(item)
+}
+
+// Adds the item, if it follows.
+fn add_if(alloc: Global, tables: &Tables, item: Item, found: &mut Found) -> Result<(), Stop>
+    requires found { IsFound (automaton_of tables.now) found.old }
+    requires room { found.old.tuples ≤ 4000000 }
+    ensures found { OnOk result (IsFound (automaton_of tables.now) found.new) }
+    ensures room { OnOk result (found.new.tuples ≤ 4000000) }
+    ensures full { IfErr result (λ e. e ≡ Full → HasMore (automaton_of tables.now) 4000000) }
+{
+    if !follows(tables, found, &item) {
+        return Ok(());
+    }
+    found.add_all(alloc, tables, &[item])
+}
+
+// What is found as planned.
+fn by_plan(alloc: Global, tables: &Tables) -> Result<Found, Stop>
+    ensures found { IfOk result (λ f. IsFound (automaton_of tables.now) f) }
+    ensures room { IfOk result (λ f. f.tuples ≤ 4000000) }
+    ensures full { IfErr result (λ e. e ≡ Full → HasMore (automaton_of tables.now) 4000000) }
+{
+    let mut found = Found::new(alloc)?;
+    let items = planned(alloc, tables)?;
+    for item in items.iter() {
+        add_if(alloc, tables, *item, &mut found)?;
+    }
+    Ok(found)
+}
+
 /// All places and sums of the tables; or that there are more than 4,000,000 sums, or no memory.
 pub fn complete(alloc: Global, tables: &Tables) -> Result<Found, Stop>
     // All of the sets is found, and nothing else.
@@ -44,7 +93,7 @@ pub fn complete(alloc: Global, tables: &Tables) -> Result<Found, Stop>
     // More than 4,000,000 tuples are in the set of sums.
     ensures full { IfErr result (λ e. e ≡ Full → HasMore (automaton_of tables.now) 4000000) }
 {
-    let mut found = Found::new(alloc)?;
+    let mut found = by_plan(alloc, tables)?;
     let mut window = Window {
         places: 0,
         settlings: 0,

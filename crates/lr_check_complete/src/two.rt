@@ -8,7 +8,7 @@ ghost use Rattle.lr_check_found.specs.declared.settlings.How.TheVariants as how;
 ghost use Rattle.lr_check_found.specs.declared.settlings.Settling.{Settling};
 ghost use Rattle.lr_check_found.specs.Found.{IsPlaceAt, IsSettlingAt};
 ghost use Rattle.lr_check_found.specs.Items.{HasMade};
-ghost use Rattle.lr_check_complete.specs.Looks.{automaton, WasFound, Looks};
+ghost use Rattle.lr_check_complete.specs.Looks.{automaton, WasFound, IsShownRight, Looks};
 ghost use Rattle.lr_check_complete.specs.Kids.{TwoKids, TwoIn, SecondAt, FirstIn, BothIn, IsFrame, AtPlaces};
 ghost use Rattle.lr_check_complete.specs.Seconds.{SecondKid, SecondFound};
 
@@ -152,15 +152,20 @@ impl<'a> Look<'a> {
         token: Tok,
         into: &mut Vec<Item>,
     ) -> Result<(), NoMemory>
-        requires { WasFound self.now }
+        requires found { WasFound self.now }
+        requires sheet { IsShownRight self.now }
         ensures { AtPlaces self.now.found.now numbers.now (λ n x. TwoKids (automaton self.now) self.now.found.now n x token first) →
             OnOk result (Looks self.now into.old.items into.new.items
             (AtPlaces self.now.found.now numbers.now (λ n x. SecondAt self.now.found.now n x token first))) }
     {
-        match behind(self.found, first) {
-            Some(state) => self.seconds_at(numbers, first, state, token, into),
-            None => Ok(()),
+        let state = match behind(self.found, first) {
+            Some(state) => state,
+            None => return Ok(()),
+        };
+        if self.are_shown(numbers, first, state, token) {
+            return Ok(());
         }
+        self.seconds_at(numbers, first, state, token, into)
     }
 
     // Behind each sum of the first kid.
@@ -171,7 +176,8 @@ impl<'a> Look<'a> {
         token: Tok,
         into: &mut Vec<Item>,
     ) -> Result<(), NoMemory>
-        requires { WasFound self.now }
+        requires found { WasFound self.now }
+        requires sheet { IsShownRight self.now }
         ensures { ((i : ℕ) → Contains sums.now i →
             AtPlaces self.now.found.now numbers.now (λ n x. TwoKids (automaton self.now) self.now.found.now n x token i)) →
             OnOk result (Looks self.now into.old.items into.new.items
@@ -194,7 +200,8 @@ impl<'a> Look<'a> {
         token: Tok,
         into: &mut Vec<Item>,
     ) -> Result<(), NoMemory>
-        requires { WasFound self.now }
+        requires found { WasFound self.now }
+        requires sheet { IsShownRight self.now }
         ensures { (q : ℕ) (k : Tok) (second : Sort) → IsFrame (automaton self.now) self.now.found.now q k over numbers.now →
             kids k ≡ wanted ∷ second ∷ [] → May token second →
             OnOk result (Looks self.now into.old.items into.new.items
@@ -218,7 +225,8 @@ impl<'a> Look<'a> {
         token: Tok,
         into: &mut Vec<Item>,
     ) -> Result<(), NoMemory>
-        requires { WasFound self.now }
+        requires found { WasFound self.now }
+        requires sheet { IsShownRight self.now }
         ensures { (q : ℕ) (k : Tok) → IsFrame (automaton self.now) self.now.found.now q k over numbers.now → kids k
             ≡ wanted ∷ second ∷ [] →
             OnOk result (Looks self.now into.old.items into.new.items
@@ -241,7 +249,8 @@ impl<'a> Look<'a> {
         second: Sort,
         into: &mut Vec<Item>,
     ) -> Result<(), NoMemory>
-        requires { WasFound self.now }
+        requires found { WasFound self.now }
+        requires sheet { IsShownRight self.now }
         ensures { (q : ℕ) (k : Tok) → IsFrame (automaton self.now) self.now.found.now q k over numbers.now → kids k
             ≡ wanted ∷ second ∷ [] →
             OnOk result (Looks self.now into.old.items into.new.items

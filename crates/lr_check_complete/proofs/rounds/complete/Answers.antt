@@ -12,4 +12,4 @@ returns-then-is_done c =
     record { complete = done; few = no_more_sums (automaton_of c.args.tables.now) c.loop-round.found done; within = c.loop-round.invariant.room; full = tt }
 
 pub loop-round-init : goal.loop-round-init
-loop-round-init c = record { found = c.in_ok-found.ensures.found (automaton_of c.args.tables.now); room = let z = c.in_ok-found.ensures.none in omega (arith, z) }
+loop-round-init c = record { found = c.in_ok-found.ensures.found; room = c.in_ok-found.ensures.room }

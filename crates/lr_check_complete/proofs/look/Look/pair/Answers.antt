@@ -16,7 +16,7 @@ returns c = λ q k v frame kid may.
     let p = frame.places _ m in
     on_ok _ _ _
     (looks_both c.args.self.now _ _ _ _ _ _
-    (λ firsts each n d x at. first_in (automaton c.args.self.now) c.args.self.now.found.now n c.args.over x c.args.token c.args.wanted c.in_ok-sums.sums.items c.requires firsts
+    (λ firsts each n d x at. first_in (automaton c.args.self.now) c.args.self.now.found.now n c.args.over x c.args.token c.args.wanted c.in_ok-sums.sums.items c.requires.found firsts
     (λ i e. each i (subst (λ (l : List ℕ). Contains l i) (sym c.deref.ensures.value) e) n d x at))
     (c.in_ok-sums.ensures.looks _ v p.1 (frame_two (automaton c.args.self.now) c.args.self.now.found.now q c.args.over _ k c.args.wanted v c.args.numbers.now _ frame kid m p.1) may))
     (c.all_seconds.ensures (λ i e n d x at. two_kids (automaton c.args.self.now) c.args.self.now.found.now n i c.args.over x c.args.token c.args.wanted v at

@@ -16,5 +16,5 @@ returns c =
     let Closed : Type 0 = IsClosed A (HasPlace f) (HasSettling f) (HasSum f) in
     on_ok _ _ _
     (looks_both c.args.self.now _ _ _ (Reduces → Closed) Reduces Closed (λ g h. g h)
-    (looks_both c.args.self.now _ _ _ _ _ (Reduces → Closed) (λ a b d. closed c.args.self.now.tables.now f c.requires a b d) c.in_ok-starts.ensures c.in_ok-frames.ensures))
+    (looks_both c.args.self.now _ _ _ _ _ (Reduces → Closed) (λ a b d. closed c.args.self.now.tables.now f c.requires.found a b d) c.in_ok-starts.ensures c.in_ok-frames.ensures))
     c.all_reductions.ensures

@@ -1,0 +1,99 @@
+// The plan, and its events.
+use crate::lists::Lists;
+use crate::masks::{beginnings, bit, has};
+use crate::places::From;
+use crate::rows::{Part, Readers, Row, row_of};
+use gg_base::NoMemory;
+use lr_check_found::Item;
+use lr_tables::{State, Tables};
+use std::alloc::Global;
+use tree_core::{Sort, Tok, tokens};
+
+/// What is new: places of a state and a token; a list that settles there, by its number in the row; or
+/// tokens with which the second kid of a part may begin.
+#[derive(Clone, Copy, Debug)]
+pub enum Event {
+    Places(State, Tok, u64),
+    Settled(State, Tok, usize, u64),
+    Seconds(usize, u64),
+}
+
+/// The items up to now, and what they follow from.
+#[derive(Drop)]
+pub struct Plan<'a> {
+    pub tables: &'a Tables,
+    pub items: Vec<Item>,
+    pub places: usize,
+    pub settlings: usize,
+    pub lists: Lists,
+    pub rows: Vec<Row>,
+    pub readers: Vec<Readers>,
+    pub parts: Vec<Part>,
+    pub events: Vec<Event>,
+}
+
+impl<'a> Plan<'a> {
+    fn new(alloc: Global, tables: &'a Tables) -> Result<Self, NoMemory> {
+        let mut rows = Vec::new(alloc);
+        let mut readers = Vec::new(alloc);
+        for _state in 0..tables.states() {
+            readers.push(Readers::new(alloc))?;
+            for _token in 0..40_usize {
+                rows.push(Row::new(alloc)?)?;
+            }
+        }
+        Ok(Plan {
+            tables,
+            items: Vec::new(alloc),
+            places: 0,
+            settlings: 0,
+            lists: Lists::new(alloc),
+            rows,
+            readers,
+            parts: Vec::new(alloc),
+            events: Vec::new(alloc),
+        })
+    }
+
+    /// The row's places, by the tokens behind.
+    pub fn places_at(&self, state: State, token: Tok) -> u64 {
+        match self.rows.get(row_of(state, token)) {
+            Some(row) => row.places,
+            None => 0,
+        }
+    }
+
+    fn start(&mut self, alloc: Global) -> Result<(), NoMemory> {
+        let first = beginnings(Sort::Stmt);
+        for token in tokens() {
+            if has(first, *token) {
+                self.add_places(State::START, *token, bit(Tok::End), From::Root)?;
+            }
+        }
+        for at in 0..usize::MAX {
+            let event = match self.events.get(at) {
+                Some(event) => *event,
+                None => return Ok(()),
+            };
+            self.follow(alloc, event)?;
+        }
+        Ok(())
+    }
+
+    fn follow(&mut self, alloc: Global, event: Event) -> Result<(), NoMemory> {
+        match event {
+            Event::Places(state, token, more) => self.after_places(alloc, state, token, more),
+            Event::Settled(state, token, entry, more) => {
+                self.after_settled(alloc, state, token, entry, more)
+            }
+            Event::Seconds(part, more) => self.after_seconds(alloc, part, more),
+        }
+    }
+}
+
+/// Places and settlings, each behind those from which it follows, numbered as they stand.
+pub fn planned(alloc: Global, tables: &Tables) -> Result<Vec<Item>, NoMemory> {
+    let mut plan = Plan::new(alloc, tables)?;
+    plan.start(alloc)?;
+    Ok(plan.items)
+}

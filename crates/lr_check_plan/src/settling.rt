@@ -1,0 +1,215 @@
+// Lists that settle, and what follows from their reductions.
+use crate::masks::{bit, has};
+use crate::plan::{Event, Plan};
+use crate::rows::{Entry, Numbers, row_of};
+use gg_base::NoMemory;
+use lr_check_found::{How, Item, Leads, candidate, free_choices};
+use lr_tables::State;
+use md_reader::Sym;
+use std::alloc::Global;
+use tree_core::{Tok, tokens};
+
+/// A list of a row, by its number there.
+#[derive(Clone, Copy, Debug)]
+pub struct Source {
+    pub row: usize,
+    pub entry: usize,
+}
+
+/// How a list settles, for each token behind.
+#[derive(Clone, Copy, Debug)]
+pub enum By {
+    Leaf,
+    One(Source),
+    Two(usize, Source),
+    Reduced(Source, u16),
+}
+
+/// What is known of a list of a row.
+#[derive(Clone, Copy, Debug)]
+pub struct Known {
+    pub list: usize,
+    pub behind: Option<State>,
+    pub settled: u64,
+    pub sums: u64,
+}
+
+// Classes, each with the tokens behind at which a list is reduced to it.
+fn add_class(classes: &mut Vec<(u16, u64)>, class: u16, behind: u64) -> Result<(), NoMemory> {
+    for at in 0..classes.len() {
+        if let Some(held) = classes.get_mut(at) {
+            if held.0 == class {
+                held.1 |= behind;
+                return Ok(());
+            }
+        }
+    }
+    classes.push((class, behind))?;
+    Ok(())
+}
+
+impl<'a> Plan<'a> {
+    pub fn known(&self, source: Source) -> Option<Known> {
+        let entry = self.rows.get(source.row)?.entries.get(source.entry)?;
+        Some(Known {
+            list: entry.list,
+            behind: entry.behind,
+            settled: entry.settled,
+            sums: entry.sums,
+        })
+    }
+
+    pub fn settling_number(&self, source: Source, behind: Tok) -> usize {
+        match self.rows.get(source.row) {
+            Some(row) => match row.entries.get(source.entry) {
+                Some(entry) => entry.numbers.get(behind),
+                None => 0,
+            },
+            None => 0,
+        }
+    }
+
+    fn how(&self, by: By, behind: Tok) -> How {
+        match by {
+            By::Leaf => How::Leaf,
+            By::One(kid) => How::One(self.settling_number(kid, behind)),
+            By::Two(first, second) => How::Two(first, self.settling_number(second, behind)),
+            By::Reduced(whole, class) => How::Reduced(self.settling_number(whole, behind), class),
+        }
+    }
+
+    // The number of the list in the row.
+    fn entry_of(
+        &mut self,
+        alloc: Global,
+        row: usize,
+        list: usize,
+        behind: Option<State>,
+    ) -> Result<Option<usize>, NoMemory> {
+        match self.rows.get_mut(row) {
+            Some(row) => {
+                if let Some(at) = row.entries.iter().position(|entry| entry.list == list) {
+                    return Ok(Some(at));
+                }
+                let at = row.entries.len();
+                row.entries.push(Entry {
+                    list,
+                    behind,
+                    settled: 0,
+                    sums: 0,
+                    numbers: Numbers::new(alloc)?,
+                })?;
+                Ok(Some(at))
+            }
+            None => Ok(None),
+        }
+    }
+
+    fn add_settling(&mut self, source: Source, behind: Tok, by: By) -> Result<(), NoMemory> {
+        let how = self.how(by, behind);
+        let place = self.place_number(source.row, behind);
+        self.items.push(Item::Settling(place, how))?;
+        if let Some(row) = self.rows.get_mut(source.row) {
+            if let Some(entry) = row.entries.get_mut(source.entry) {
+                entry.settled |= bit(behind);
+                entry.numbers.put(behind, self.settlings);
+            }
+        }
+        self.settlings = self.settlings.wrapping_add(1);
+        Ok(())
+    }
+
+    pub fn settle(
+        &mut self,
+        alloc: Global,
+        state: State,
+        token: Tok,
+        wanted: u64,
+        list: usize,
+        behind: Option<State>,
+        by: By,
+    ) -> Result<(), NoMemory> {
+        let row = row_of(state, token);
+        let entry = match self.entry_of(alloc, row, list, behind)? {
+            Some(entry) => entry,
+            None => return Ok(()),
+        };
+        let source = Source { row, entry };
+        let settled = match self.known(source) {
+            Some(known) => known.settled,
+            None => return Ok(()),
+        };
+        let more = wanted & !settled;
+        if more == 0 {
+            return Ok(());
+        }
+        for token in tokens() {
+            if has(more, *token) {
+                self.add_settling(source, *token, by)?;
+            }
+        }
+        self.events.push(Event::Settled(state, token, entry, more))?;
+        Ok(())
+    }
+
+    pub fn after_settled(
+        &mut self,
+        alloc: Global,
+        state: State,
+        token: Tok,
+        entry: usize,
+        more: u64,
+    ) -> Result<(), NoMemory> {
+        let source = Source {
+            row: row_of(state, token),
+            entry,
+        };
+        let known = match self.known(source) {
+            Some(known) => known,
+            None => return Ok(()),
+        };
+        let behind = match known.behind {
+            Some(behind) => behind,
+            None => return Ok(()),
+        };
+        let tables = self.tables;
+        let rules = tables.description().rules();
+        let size = self.lists.size(known.list);
+        let mut sums = 0;
+        let mut classes = Vec::new(alloc);
+        for next in tokens() {
+            if has(more, *next) {
+                for choice in free_choices(rules, tables.action(behind, *next)) {
+                    match candidate(rules, *choice, size).leads {
+                        Leads::Out(_) => sums |= bit(*next),
+                        Leads::Whole(class) => add_class(&mut classes, class, bit(*next))?,
+                        Leads::Inside => {}
+                    }
+                }
+            }
+        }
+        for at in 0..classes.len() {
+            let (class, set) = classes[at];
+            let list = self.lists.push(Sym::Class(class), 0)?;
+            let over = tables.over(state, Sym::Class(class));
+            self.settle(
+                alloc,
+                state,
+                token,
+                set,
+                list,
+                over,
+                By::Reduced(source, class),
+            )?;
+        }
+        if sums == 0 {
+            return Ok(());
+        }
+        if let Some(row) = self.rows.get_mut(source.row) {
+            if let Some(entry) = row.entries.get_mut(source.entry) {
+                entry.sums |= sums;
+            }
+        }
+        self.read(alloc, state, token, source, known.list, behind, sums)
+    }
+}
