@@ -118,16 +118,10 @@ module _ (size count : ℕ) where
     plain_due (ReadOf x) p h t l = ap read_low (place_due x p (read_calm (place_type x) (place_at x) h) t l)
     plain_due (SizeOfExpression n e) p h t l = refl
     plain_due (SizeOf n) p h t l = refl
-    plain_due (AddressOf ty x) p h t l = absurd p
-    plain_due (CallOf ty f to es) p h t l = absurd p
-    plain_due (StepOf m by x) p h t l = absurd p
     plain_due (UnaryOf op e) p h t l = unary_due op (way size count e) (plain_tree e) p.0 (plain_due e p.1 (unary_calm op (plain_tree e) p.0 h)) t l
     plain_due (CastTo ty e) p h t l = ap (over (fitted ty)) (plain_due e p (fitted_calm ty (plain_tree e) h) t l)
     plain_due (ConvertTo ty e) p h t l = ap (over (fitted ty)) (plain_due e p (fitted_calm ty (plain_tree e) h) t l)
     plain_due (ArithmeticOf op a b) p h t l = joined_due (Bin op) (way size count a) (way size count b) (plain_tree a) (plain_tree b) (plain_due a p.0 h.0) (plain_due b p.1 h.1) h.2 t l
-    plain_due (CompareOf r a b) p h t l = absurd p
-    plain_due (BothOf a b) p h t l = absurd p
-    plain_due (EitherOf a b) p h t l = absurd p
     plain_due (AdvanceOf ty a b) p h t l =
         let c = scaled_part (scale ty) (plain_tree a) (plain_tree b) h in
         joined_due (advance ty) (way size count a) (way size count b) (plain_tree a) (plain_tree b) (plain_due a p.0 c.0) (plain_due b p.1 c.1) c.2 t l
@@ -140,12 +134,7 @@ module _ (size count : ℕ) where
     plain_due (DistanceOf ty a b) p h t l =
         let c = shared_parts (scale ty) (plain_tree a) (plain_tree b) h in
         joined_due (apart ty) (way size count a) (way size count b) (plain_tree a) (plain_tree b) (plain_due a p.0 c.0) (plain_due b p.1 c.1) c.2 t l
-    plain_due (ChoiceOf ty c a b) p h t l = absurd p
-    plain_due (AssignTo x e) p h t l = absurd p
-    plain_due (ArithmeticAssignTo op x e) p h t l = absurd p
-    plain_due (AdvanceAssignTo x e) p h t l = absurd p
-    plain_due (RetreatAssignTo x e) p h t l = absurd p
-    plain_due (CommaOf ty a b) p h t l = absurd p
+    plain_due _ p h t l = absurd p
 
   -- and so it is at a destination
   as_deliver : (i : Integer) (e : Lowering) (w : Tree) → IsDue e w → ((to : Destination) (t l : ℕ) → e.deliver to t l ≡ delivered to (due w t l))
@@ -170,9 +159,6 @@ module _ (size count : ℕ) where
   plain_deliver (ReadOf x) p h to t l = ap (delivered to) (plain_due (ReadOf x) p h t l)
   plain_deliver (SizeOfExpression n e) p h to t l = refl
   plain_deliver (SizeOf n) p h to t l = refl
-  plain_deliver (AddressOf ty x) p h to t l = absurd p
-  plain_deliver (CallOf ty f ts es) p h to t l = absurd p
-  plain_deliver (StepOf m by x) p h to t l = absurd p
   plain_deliver (UnaryOf op e) p h to t l = unary_deliver op (way size count e) (plain_tree e) p.0 (plain_due e p.1 (unary_calm op (plain_tree e) p.0 h)) to t l
   plain_deliver (CastTo ty e) p h to t l =
       let c = fitted_calm ty (plain_tree e) h in
@@ -181,19 +167,11 @@ module _ (size count : ℕ) where
       let c = fitted_calm ty (plain_tree e) h in
       as_deliver (integer_of ty) (way size count e) (plain_tree e) (plain_due e p c) (plain_deliver e p c) to t l
   plain_deliver (ArithmeticOf op a b) p h to t l = ap (delivered to) (plain_due (ArithmeticOf op a b) p h t l)
-  plain_deliver (CompareOf r a b) p h to t l = absurd p
-  plain_deliver (BothOf a b) p h to t l = absurd p
-  plain_deliver (EitherOf a b) p h to t l = absurd p
   plain_deliver (AdvanceOf ty a b) p h to t l = ap (delivered to) (plain_due (AdvanceOf ty a b) p h t l)
   plain_deliver (AdvanceByOf ty a b) p h to t l = ap (delivered to) (plain_due (AdvanceByOf ty a b) p h t l)
   plain_deliver (RetreatOf ty a b) p h to t l = ap (delivered to) (plain_due (RetreatOf ty a b) p h t l)
   plain_deliver (DistanceOf ty a b) p h to t l = ap (delivered to) (plain_due (DistanceOf ty a b) p h t l)
-  plain_deliver (ChoiceOf ty c a b) p h to t l = absurd p
-  plain_deliver (AssignTo x e) p h to t l = absurd p
-  plain_deliver (ArithmeticAssignTo op x e) p h to t l = absurd p
-  plain_deliver (AdvanceAssignTo x e) p h to t l = absurd p
-  plain_deliver (RetreatAssignTo x e) p h to t l = absurd p
-  plain_deliver (CommaOf ty a b) p h to t l = absurd p
+  plain_deliver _ p h to t l = absurd p
 
   -- the assignment's parts, from its item
   parts_of : (ty : CType) (s : Where) (w : Tree) → IsCalmItem (assign_to ty s w) → Parts (address_tree s) w

@@ -92,15 +92,8 @@ module _ (size count : ℕ) where
     away_stands BreakOf lb lc to items acts e behind h = in_front (spelled_all items) (BreakOf ∷ acts) behind (Next BreakOf acts [] [] behind (never_one BreakOf tt []) h)
     away_stands ContinueOf lb lc to items acts e behind h =
         in_front (spelled_all items) (ContinueOf ∷ acts) behind (Next ContinueOf acts [] [] behind (never_one ContinueOf tt []) h)
-    away_stands (DeclareOf ds) lb lc to items acts e behind h = absurd (cc)
     away_stands (BlockOf row) lb lc to items acts e behind h = alone_away row lb lc to items acts e behind h
-    away_stands (EvaluateOf x) lb lc to items acts e behind h = absurd (cc)
-    away_stands (ReturnOf x) lb lc to items acts e behind h = absurd (cc)
-    away_stands (IfOf c a) lb lc to items acts e behind h = absurd (cc)
-    away_stands (IfElseOf c a b) lb lc to items acts e behind h = absurd (cc)
-    away_stands (WhileOf c a) lb lc to items acts e behind h = absurd (cc)
-    away_stands (DoOf a c) lb lc to items acts e behind h = absurd (cc)
-    away_stands (ForOf i c x a) lb lc to items acts e behind h = absurd (cc)
+    away_stands _ lb lc to items acts e behind h = absurd (cc)
 
     alone_away : (row : SomeActions) (lb lc to : ℕ) (items : List Item) (acts : List AnAction) → going_alone row lb lc ≡ Some to → Onto items (simple_of row) acts
     alone_away NoActions lb lc to items acts e behind h = absurd (cc)

@@ -21,11 +21,7 @@ leaf_inert (Num n) h = refl
 leaf_inert (Gaddr n) h = refl
 leaf_inert (Loc n) h = refl
 leaf_inert (Arg n) h = refl
-leaf_inert (Indir i a) h = absurd (cc)
-leaf_inert (Conv i w) h = absurd (cc)
-leaf_inert (Neg w) h = absurd (cc)
-leaf_inert (Com w) h = absurd (cc)
-leaf_inert (Bin op a b) h = absurd (cc)
+leaf_inert _ h = absurd (cc)
 
 pub stable_inert : (size : ℕ) (w : Tree) → stable size w ≡ true → divides w ≡ false
 stable_inert size (Num n) h = refl

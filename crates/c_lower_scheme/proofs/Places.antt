@@ -8,10 +8,5 @@ use Rattle.c_lower_scheme.specs.Places.{local_in}
 
 -- it is a local, and its type is as wide as a longword
 pub local_is : (i : Integer) (s : Where) (n : ℕ) → local_in i s ≡ Some n → (s ≡ InLoc n) × (i ≡ ints.Int)
-local_is ints.Char s n e = absurd (cc)
-local_is ints.UnsignedChar s n e = absurd (cc)
-local_is ints.Short s n e = absurd (cc)
-local_is ints.UnsignedShort s n e = absurd (cc)
 local_is ints.Int (InLoc m) n e = let same : m ≡ n = cc in (ap InLoc same, refl)
-local_is ints.Int (InArg m) n e = absurd (cc)
-local_is ints.Int (InMem a) n e = absurd (cc)
+local_is _ _ n e = absurd (cc)

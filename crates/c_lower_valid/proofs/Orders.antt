@@ -55,10 +55,8 @@ quiet_role (AssignArg n w) q = refl
 quiet_role (AssignMem i a w) q = memory_role i a w
 quiet_role (Cbr rel l a b) q = refl
 quiet_role (Jump l) q = refl
-quiet_role (Push w) q = absurd q
-quiet_role (Call f count) q = absurd q
-quiet_role (Save n) q = absurd q
 quiet_role (Ret w) q = refl
+quiet_role _ q = absurd q
 
 pub orderly_more : (i : Item) (is : List Item) → IsQuiet i → Orderly is → Orderly (i ∷ is)
 orderly_more i is q h = other (spelled i) (spelled_all is) (quiet_role i q) h

@@ -194,22 +194,14 @@ module _ (T : Token → Type 0) (known : Variable → Type 0) (calls : Callee �
   store_has at p y u e h q = passed (fits (place_type p) y) (AssignTo p y) u _ e (c.assign p y h q)
 
   plus_store_by : (s t : CType) (at : ℕ) (p : APlace) (y u : AnExpression) → plus_store_at s t at p y ≡ Ok u → P (ReadOf p) → P y → P u
-  plus_store_by Void t at p y u e h q = absurd (cc)
-  plus_store_by (Integer b) Void at p y u e h q = absurd (cc)
   plus_store_by (Integer b) (Integer d) at p y u e h q = same _ u e (c.arithmetic_assign ariths.Add p y h q)
-  plus_store_by (Integer b) (Pointer d n) at p y u e h q = absurd (cc)
-  plus_store_by (Pointer b m) Void at p y u e h q = absurd (cc)
   plus_store_by (Pointer b m) (Integer d) at p y u e h q = same _ u e (c.advance_assign p y h q)
-  plus_store_by (Pointer b m) (Pointer d n) at p y u e h q = absurd (cc)
+  plus_store_by _ _ at p y u e h q = absurd (cc)
 
   minus_store_by : (s t : CType) (at : ℕ) (p : APlace) (y u : AnExpression) → minus_store_at s t at p y ≡ Ok u → P (ReadOf p) → P y → P u
-  minus_store_by Void t at p y u e h q = absurd (cc)
-  minus_store_by (Integer b) Void at p y u e h q = absurd (cc)
   minus_store_by (Integer b) (Integer d) at p y u e h q = same _ u e (c.arithmetic_assign ariths.Subtract p y h q)
-  minus_store_by (Integer b) (Pointer d n) at p y u e h q = absurd (cc)
-  minus_store_by (Pointer b m) Void at p y u e h q = absurd (cc)
   minus_store_by (Pointer b m) (Integer d) at p y u e h q = same _ u e (c.retreat_assign p y h q)
-  minus_store_by (Pointer b m) (Pointer d n) at p y u e h q = absurd (cc)
+  minus_store_by _ _ at p y u e h q = absurd (cc)
 
   plus_store_has : (at : ℕ) (p : APlace) (y u : AnExpression) → plus_store at p y ≡ Ok u → P (ReadOf p) → P y → P u
   unfolding plus_store

@@ -85,19 +85,12 @@ exp_names names signatures scope e a t o free h j =
 
 place_below : (objects n : ℕ) (p : APlace) → StandsAt (IsLaid objects) any_call objects p → linked_place p ≡ Some n → n < objects
 place_below objects n (VariableAt t (variables.Global m)) h e = let same : n ≡ m = cc in omega arith
-place_below objects n (VariableAt t (variables.Automatic m)) h e = absurd (cc)
-place_below objects n (VariableAt t (variables.Parameter m)) h e = absurd (cc)
-place_below objects n (VariableAt t (variables.Static m)) h e = absurd (cc)
-place_below objects n (PointedBy t x) h e = absurd (cc)
-place_below objects n (ElementBy t x) h e = absurd (cc)
+place_below objects n _ h e = absurd (cc)
 
 -- the object whose address it is
 pub linked_below : (objects n : ℕ) (x : AnExpression) → NamesObjects objects x → linked x ≡ Some n → n < objects
 unfolding linked
 linked_below objects n (LiteralAt m size) h e = let same : n ≡ m = cc in omega arith
 linked_below objects n (ArrayAt t (variables.Global m) size) h e = let same : n ≡ m = cc in omega arith
-linked_below objects n (ArrayAt t (variables.Automatic m) size) h e = absurd (cc)
-linked_below objects n (ArrayAt t (variables.Parameter m) size) h e = absurd (cc)
-linked_below objects n (ArrayAt t (variables.Static m) size) h e = absurd (cc)
 linked_below objects n (AddressOf t p) h e = place_below objects n p h e
 linked_below objects n _ h e = absurd (cc)

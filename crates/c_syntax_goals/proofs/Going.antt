@@ -83,12 +83,8 @@ starts (assign p op at v) w = starts p _
 starts (comma l r) w = starts l _
 
 no_type_class : (k : Class) → StartClass k → NoTypeClass k
-no_type_class c.Int h = absurd h
-no_type_class c.Char h = absurd h
-no_type_class c.Short h = absurd h
-no_type_class c.Unsigned h = absurd h
-no_type_class c.Void h = absurd h
 no_type_class k h = tt
+no_type_class _ h = absurd h
 
 pub no_type : (ts : List Placed) → Starts ts → NoTypeWord ts
 no_type [] h = absurd h
@@ -139,11 +135,8 @@ no_cast (step_before op at e) w h = no_mark_cast (token.Mark (step_mark op)) at 
 no_cast (prefix op at e) w h = no_mark_cast (token.Mark (prefix_mark op)) at (onto_exp e w) (prefix_not_open op)
 no_cast (sizeof_exp at e) w h = no_mark_cast (token.Key keys.Sizeof) at (onto_exp e w) sizeof_not_open
 no_cast (sizeof_type at o t) w h = no_mark_cast (token.Key keys.Sizeof) at (sign marks.OpenParenthesis o ∷ onto_type t (sign marks.CloseParenthesis 0 ∷ w)) sizeof_not_open
-no_cast (cast o t e) w h = absurd (omega (arith, h.0))
 no_cast (binary l op at r) w h = absurd (omega (arith, h.0, level_top op))
-no_cast (choice d at e f) w h = absurd (omega (arith, h.0))
-no_cast (assign p op at v) w h = absurd (omega (arith, h.0))
-no_cast (comma l r) w h = absurd (omega (arith, h.0))
+no_cast _ w h = absurd (omega (arith, h.0))
 
 -- rows of binary operators
 pub insert_at : (l : AnExp) (op : BinaryOperator) (at : ℕ) (e : AnExp) → IsAt (level_of op) l → insert l op at e ≡ binary l op at e

@@ -87,11 +87,9 @@ low_end (Want g κ) t n r e = turn_low_end (turn g (class_of t.kind) t n κ) n r
 
 turn_deep_opened : {V : Type 0} (x : Turn V) (n : ℕ) (f : ℕ → V → Next) (g : ℕ → V → ℕ) → pick limit x n f ≡ Deep → ((i : ℕ) (v : V) → f i v ≡ Deep → limit (g i v) ≡ false)
     → limit (opened_turn x n g) ≡ false
-turn_deep_opened (Steps (Takes s)) n f g e h = absurd (cc)
 turn_deep_opened (Steps (Opens k s)) n f g e h = deep_opened (limit (n + k)) s (n + k) e
-turn_deep_opened (Steps (Finishes s)) n f g e h = absurd (cc)
-turn_deep_opened (Steps Refuses) n f g e h = absurd (cc)
 turn_deep_opened (Passes i v) n f g e h = h i v e
+turn_deep_opened _ n f g e h = absurd (cc)
 
 deep_here : (s : Stack) (t : Placed) (n : ℕ) → next limit s t n ≡ Deep → limit (opened s (class_of t.kind) t n) ≡ false
 deep_here (Done v) t n e = absurd (cc)
@@ -105,9 +103,7 @@ low_on (Goes r m) s t n pre post w d e ih = (
   subst (λ (x : Next). FirstAreLow (length pre) (marks_on x (λ r m. marks_of r m (pre ++ w)))) (sym (goes_freely s t n r m d)) (ih r m e),
 )
 low_on (Ends r) s t n [] post w d e ih = (low_end s t n r d, tt)
-low_on (Ends r) s t n (p ∷ pre) post w d e ih = absurd (omega (arith, e, longer pre post))
-low_on Deep s t n pre post w d e ih = absurd (omega (arith, e, longer pre post))
-low_on Stuck s t n pre post w d e ih = absurd (omega (arith, e, longer pre post))
+low_on _ s t n _ post w d e ih = absurd (omega (arith, e, longer pre post))
 
 pub low_before : (pre post w : List Placed) (s : Stack) (n : ℕ) → left_of (run limit s n (pre ++ post)) ≡ length post → FirstAreLow (length pre) (marks_of s n (pre ++ w))
 low_before [] post w s n e = tt

@@ -81,9 +81,7 @@ pub single : (k t : Token) → token_of (class_of k) ≡ Some t → k ≡ t
 single (token.Key k) t e = key_single k t e
 single (token.Mark m) t e = mark_single m t e
 single token.End t e = same_Some _ t e
-single (token.Name n) t e = absurd (none-some t e)
-single (token.Number v) t e = absurd (none-some t e)
-single (token.Str s) t e = absurd (none-some t e)
+single _ t e = absurd (none-some t e)
 
 pub not_class : (k w : Token) → token_of (class_of w) ≡ Some w → k ≢ w → class_of k ≢ class_of w
 not_class k w e h f = h (single k w (ap token_of f ∙ e))

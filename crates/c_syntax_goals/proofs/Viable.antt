@@ -108,9 +108,7 @@ module _ (L : ℕ → Bool) where
       → ((r : Stack) (m : ℕ) → left_of (run L r m (pre ++ post)) ≡ length post → Viable r m pre) → Viable s n (t ∷ pre)
   viable_on (Goes r m) s t n pre post d e ih = one_more s t n r m pre d (ih r m e)
   viable_on (Ends r) s t n [] post d e ih = last_one s t n r d
-  viable_on (Ends r) s t n (p ∷ pre) post d e ih = absurd (omega (arith, e, longer pre post))
-  viable_on Deep s t n pre post d e ih = absurd (omega (arith, e, longer pre post))
-  viable_on Stuck s t n pre post d e ih = absurd (omega (arith, e, longer pre post))
+  viable_on _ s t n _ post d e ih = absurd (omega (arith, e, longer pre post))
 
   -- the tokens before a fault
   pub viable : (pre post : List Placed) (s : Stack) (n : ℕ) → left_of (run L s n (pre ++ post)) ≡ length post → Viable s n pre
@@ -130,11 +128,9 @@ record TurnFreely {V : Type 0} (x : Turn V) (n : ℕ) (f : ℕ → V → Next) :
 
 turn_deep : {V : Type 0} (x : Turn V) (κ : V → Stack) (t : Placed) (n : ℕ) → pick limit x n (λ i v. next limit (κ v) t i) ≡ Deep
     → ((v : V) (i : ℕ) → next limit (κ v) t i ≡ Deep → Freely (κ v) t i) → TurnFreely x n (λ i v. next free (κ v) t i)
-turn_deep (Steps (Takes s)) κ t n e f = absurd (cc)
 turn_deep (Steps (Opens k s)) κ t n e f = record { behind = s; level = n + k; goes = refl }
-turn_deep (Steps (Finishes s)) κ t n e f = absurd (cc)
-turn_deep (Steps Refuses) κ t n e f = absurd (cc)
 turn_deep (Passes i v) κ t n e f = let a = f v i e in record { behind = a.behind; level = a.level; goes = a.goes }
+turn_deep _ _ t n e f = absurd (cc)
 
 pub deep_goes : (s : Stack) (t : Placed) (n : ℕ) → next limit s t n ≡ Deep → Freely s t n
 deep_goes (Done v) t n e = absurd (cc)
@@ -160,9 +156,7 @@ goes_freely (Done v) t n r m e = absurd (cc)
 goes_freely (Want g κ) t n r m e = turn_goes (turn g (class_of t.kind) t n κ) n r m _ _ e (λ i v q. goes_freely (κ v) t i r m q)
 
 pub no_deep : (s : Stack) (ts : List Placed) (k : ℕ) → at_end s ts ≡ Err (TooDeep k) → ⊥
-no_deep (Done u) [] k e = absurd (cc)
-no_deep (Want g κ) [] k e = absurd (cc)
-no_deep s (t ∷ ts) k e = absurd (cc)
+no_deep _ _ k e = absurd (cc)
 
 pub stuck_deep : (j k : ℕ) → ◌≡◌ {A = Result AUnit Fault} (Err (NotHere j)) (Err (TooDeep k)) → ⊥
 stuck_deep j k e = absurd (cc)

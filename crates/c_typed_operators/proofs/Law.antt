@@ -68,13 +68,10 @@ arithmetic_means op at x y = means_row _ _ at BadType
     (λ f e. by_test_one (is_integer (type_of x) && is_integer (type_of y)) (ArithmeticOf op x y) f at BadType e)
 
 sum_found : (at : ℕ) (x y t : AnExpression) (s u : CType) → type_of x ≡ s → type_of y ≡ u → plus_at s u at x y ≡ Ok t → IsSum x y t
-sum_found at x y t Void u p q e = absurd (cc)
-sum_found at x y t (Integer b) Void p q e = absurd (cc)
 sum_found at x y t (Integer b) (Integer c) p q e = SumOfIntegers (record { left = record { of = b; is = p }; right = record { of = c; is = q }; is = cc })
 sum_found at x y t (Integer b) (Pointer c n) p q e = PlusPointer (record { of = b; is = p }) (record { to = c; stars = n; is = q }) (rw q (cc))
-sum_found at x y t (Pointer b m) Void p q e = absurd (cc)
 sum_found at x y t (Pointer b m) (Integer c) p q e = PointerPlus (record { to = b; stars = m; is = p }) (record { of = c; is = q }) (rw p (cc))
-sum_found at x y t (Pointer b m) (Pointer c n) p q e = absurd (cc)
+sum_found at x y t _ _ p q e = absurd (cc)
 
 sum_only : (at : ℕ) (x y t : AnExpression) → IsSum x y t → plus_at (type_of x) (type_of y) at x y ≡ Ok t
 sum_only at x y t (SumOfIntegers r) = rw (r.left.is, r.right.is, r.is) refl
@@ -84,11 +81,9 @@ sum_only at x y t (PlusPointer l r e) = rw (e, l.is, r.is) refl
 sum_one : (at : ℕ) (x y : AnExpression) (f : Fault) (s u : CType) → plus_at s u at x y ≡ Err f → f ≡ record { place = at; kind = BadType }
 sum_one at x y f Void u e = cc
 sum_one at x y f (Integer b) Void e = cc
-sum_one at x y f (Integer b) (Integer c) e = absurd (cc)
-sum_one at x y f (Integer b) (Pointer c n) e = absurd (cc)
 sum_one at x y f (Pointer b m) Void e = cc
-sum_one at x y f (Pointer b m) (Integer c) e = absurd (cc)
 sum_one at x y f (Pointer b m) (Pointer c n) e = cc
+sum_one at x y f _ _ e = absurd (cc)
 
 sum_means : (at : ℕ) (x y : AnExpression) → Means (plus at x y) (IsSum x y) (NoRow (IsSum x y) at BadType)
 unfolding plus
@@ -98,14 +93,11 @@ pointers_of : (x y : AnExpression) (b c : integers.Integer) (m n : ℕ) → type
 pointers_of x y b c m n p q e = record { left = record { to = b; stars = m; is = p }; right = record { to = c; stars = n; is = q }; same = rw (p, q) e }
 
 difference_found : (at : ℕ) (x y t : AnExpression) (s u : CType) → type_of x ≡ s → type_of y ≡ u → minus_at s u at x y ≡ Ok t → IsDifference x y t
-difference_found at x y t Void u p q e = absurd (cc)
-difference_found at x y t (Integer b) Void p q e = absurd (cc)
 difference_found at x y t (Integer b) (Integer c) p q e = DifferenceOfIntegers (record { left = record { of = b; is = p }; right = record { of = c; is = q }; is = cc })
-difference_found at x y t (Integer b) (Pointer c n) p q e = absurd (cc)
-difference_found at x y t (Pointer b m) Void p q e = absurd (cc)
 difference_found at x y t (Pointer b m) (Integer c) p q e = PointerMinus (record { to = b; stars = m; is = p }) (record { of = c; is = q }) (rw p (cc))
 difference_found at x y t (Pointer b m) (Pointer c n) p q e = let r = by_test (same_type (Pointer b m) (Pointer c n)) _ t at BadType e in
     DifferenceOfPointers (pointers_of x y b c m n p q (r.0)) (rw p (r.1))
+difference_found at x y t _ _ p q e = absurd (cc)
 
 same_of : (x y : AnExpression) (p : ArePointers x y) → same_type (Pointer p.left.to p.left.stars) (Pointer p.right.to p.right.stars) ≡ true
 same_of x y p = rw (← p.left.is, ← p.right.is) p.same
@@ -130,13 +122,9 @@ difference_means at x y = means_row _ _ at BadType (λ t e. difference_found at 
     (λ f e. difference_one at x y f (type_of x) (type_of y) e)
 
 order_found : (a b : Rel) (at : ℕ) (x y t : AnExpression) (s u : CType) → type_of x ≡ s → type_of y ≡ u → order_at s u a b at x y ≡ Ok t → IsOrdered a b x y t
-order_found a b at x y t Void u p q e = absurd (cc)
-order_found a b at x y t (Integer i) Void p q e = absurd (cc)
 order_found a b at x y t (Integer i) (Integer c) p q e = OrderOfIntegers (record { of = i; is = p }) (record { of = c; is = q }) (cc)
-order_found a b at x y t (Integer i) (Pointer c n) p q e = absurd (cc)
-order_found a b at x y t (Pointer i m) Void p q e = absurd (cc)
-order_found a b at x y t (Pointer i m) (Integer c) p q e = absurd (cc)
 order_found a b at x y t (Pointer i m) (Pointer c n) p q e = let r = by_test (same_type (Pointer i m) (Pointer c n)) _ t at BadType e in OrderOfPointers (pointers_of x y i c m n p q (r.0)) (r.1)
+order_found a b at x y t _ _ p q e = absurd (cc)
 
 order_only : (a b : Rel) (at : ℕ) (x y t : AnExpression) → IsOrdered a b x y t → order_at (type_of x) (type_of y) a b at x y ≡ Ok t
 order_only a b at x y t (OrderOfIntegers l r e) = rw (l.is, r.is, e) refl

@@ -97,19 +97,13 @@ module _ (result : Status) (file : File) where
   long h (Memory is) = inr is
   long h (Refused (Long is longer)) = inl is
   long h (Refused (Wrong is line wrong)) = absurd (long_not_wrong description_form file line h wrong)
-  long h (Refused (Full is d holds many)) = absurd (long_no_item description_form file d h holds)
-  long h (Refused (Stops d fault is holds few real sums)) = absurd (long_no_item description_form file d h holds)
-  long h (Refused (Unshown d r is holds few sums never first)) = absurd (long_no_item description_form file d h holds)
-  long h (Accepted d holds accepted) = absurd (long_no_item description_form file d h holds)
+  long h _ = absurd (long_no_item description_form file d h holds)
 
   wrong_file : IsNoItem description_form file → Comes result file → IsAnswer statuses.DescRefused result
   wrong_file h (Memory is) = inr is
   wrong_file h (Refused (Long is longer)) = absurd (none_not_long description_form file h longer)
   wrong_file h (Refused (Wrong is line wrong)) = inl is
-  wrong_file h (Refused (Full is d holds many)) = absurd (none_no_item description_form file d h holds)
-  wrong_file h (Refused (Stops d fault is holds few real sums)) = absurd (none_no_item description_form file d h holds)
-  wrong_file h (Refused (Unshown d r is holds few sums never first)) = absurd (none_no_item description_form file d h holds)
-  wrong_file h (Accepted d holds accepted) = absurd (none_no_item description_form file d h holds)
+  wrong_file h _ = absurd (none_no_item description_form file d h holds)
 
   full : (d : Content) → IsItem description_form file d → HasTooManySets d → Comes result file → IsAnswer statuses.Full result
   full d h many (Memory is) = inr is
@@ -202,13 +196,10 @@ data Kind (result : Status) (name : List ℕ) (at : Outside) : Type 0 where
 
 kinds : (result : Status) (name : List ℕ) (at : Outside) → Leaves result name at → HasNoFault name at → Kind result name at
 kinds statuses.Done name at l n = Built refl l.tables l.builds
-kinds statuses.Usage name at l n = absurd l
 kinds statuses.NoMemory name at l n = Starved refl
 kinds statuses.FileFault name at l n = absurd (n.of_folder l.noted)
-kinds statuses.InputFault name at l n = absurd l
 kinds statuses.WriteFault name at l n = absurd (n.of_out l.cut.rises)
 kinds statuses.TooLong name at l n = Before (Long refl l.longer)
-kinds statuses.SourceRefused name at l n = absurd l
 kinds statuses.DescRefused name at l n = Before (Wrong refl l.line l.wrong)
 kinds statuses.Full name at (inl l) n = Before (Full refl l.description l.finds.holds l.many)
 kinds statuses.Full name at (inr l) n = Before (Stops l.description check_fault.CheckFull refl l.finds.holds l.few l.real l.sums)
@@ -218,13 +209,7 @@ kinds statuses.Loops name at l n =
     Before (Stops l.stops.description (check_fault.Loops l.sample) refl l.stops.finds.holds l.stops.few l.stops.real l.stops.sums)
 kinds statuses.PoolSmall name at l n = Before (Unshown l.description l.refusal (sym l.status_is) l.finds.holds l.few l.sums l.never l.first)
 kinds statuses.Unshown name at l n = Before (Unshown l.description l.refusal (sym l.status_is) l.finds.holds l.few l.sums l.never l.first)
-kinds statuses.FrameFull name at l n = absurd l
-kinds statuses.AsmRefused name at l n = absurd l
-kinds statuses.Spent name at l n = absurd l
-kinds statuses.Trapped name at l n = absurd l
-kinds statuses.Wild name at l n = absurd l
-kinds statuses.Deep name at l n = absurd l
-kinds statuses.Broken name at l n = absurd l
+kinds _ name at l n = absurd l
 
 comes : (result : Status) (name : List ℕ) (at : Outside) → Kind result name at → Comes result (at.folder.holds name)
 comes result name at (Starved is) = Memory is

@@ -40,7 +40,6 @@ refused form runner status call r = elim r.why [
 kinds : {A : Type 0} (form : Form A) (runner : Runner A) (result : Status) (call : Call) → Leaves form runner result call → HasNoFault call.name call.at →
     (InputFails call.input → ⊥) → Kind form runner result call
 kinds form runner statuses.Done call l n f = ran form runner statuses.Done call _ l.ran refl
-kinds form runner statuses.Usage call l n f = absurd l
 kinds form runner statuses.NoMemory call l n f = Memory refl
 kinds form runner statuses.FileFault call l n f = absurd (n.of_folder l.1.noted)
 kinds form runner statuses.InputFault call l n f = absurd (f l.fails)
@@ -50,18 +49,13 @@ kinds form runner statuses.TooLong call (inl h) n f = FileLong refl h.1.longer
 kinds form runner statuses.TooLong call (inr h) n f = InputLong refl h.item h.finds.holds h.longer
 kinds form runner statuses.SourceRefused call l n f = refused form runner statuses.SourceRefused call l
 kinds form runner statuses.DescRefused call l n f = refused form runner statuses.DescRefused call l
-kinds form runner statuses.Full call l n f = absurd l
-kinds form runner statuses.Blocks call l n f = absurd l
-kinds form runner statuses.Loops call l n f = absurd l
-kinds form runner statuses.PoolSmall call l n f = absurd l
-kinds form runner statuses.Unshown call l n f = absurd l
-kinds form runner statuses.FrameFull call l n f = absurd l
 kinds form runner statuses.AsmRefused call l n f = refused form runner statuses.AsmRefused call l
 kinds form runner statuses.Spent call l n f = ran form runner statuses.Spent call _ l.ran refl
 kinds form runner statuses.Trapped call l n f = ran form runner statuses.Trapped call _ l.ran refl
 kinds form runner statuses.Wild call l n f = ran form runner statuses.Wild call _ l.ran refl
 kinds form runner statuses.Deep call l n f = ran form runner statuses.Deep call _ l.ran refl
 kinds form runner statuses.Broken call l n f = ran form runner statuses.Broken call _ l.halted.ran refl
+kinds form runner _ call l n f = absurd l
 
 -- told bytes are the only ones
 that_is : (file : Content) (b c : List ℕ) → file ≡ Stored b → IsThat file c → c ≡ b

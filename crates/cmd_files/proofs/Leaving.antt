@@ -18,27 +18,10 @@ use Rattle.cmd_files.specs.Outcome.{RanTo, IsUnable, Leaves}
 -- a file was refused for what it holds
 as_refused : {A : Type 0} (form : Form A) (runner : Runner A) (status : Status) (call : Call) → IsOfFiles status → form.status ≡ status →
     (IsUntaken call.input × FileIsWrong form call.at call.name) ⊎ IsUnable form runner call → Leaves form runner status call
-as_refused form runner statuses.Done call of is why = absurd of
-as_refused form runner statuses.Usage call of is why = absurd of
-as_refused form runner statuses.NoMemory call of is why = absurd of
-as_refused form runner statuses.FileFault call of is why = absurd of
-as_refused form runner statuses.InputFault call of is why = absurd of
-as_refused form runner statuses.WriteFault call of is why = absurd of
-as_refused form runner statuses.TooLong call of is why = absurd of
 as_refused form runner statuses.SourceRefused call of is why = record { status_is = is; why = why }
 as_refused form runner statuses.DescRefused call of is why = record { status_is = is; why = why }
-as_refused form runner statuses.Full call of is why = absurd of
-as_refused form runner statuses.Blocks call of is why = absurd of
-as_refused form runner statuses.Loops call of is why = absurd of
-as_refused form runner statuses.PoolSmall call of is why = absurd of
-as_refused form runner statuses.Unshown call of is why = absurd of
-as_refused form runner statuses.FrameFull call of is why = absurd of
 as_refused form runner statuses.AsmRefused call of is why = record { status_is = is; why = why }
-as_refused form runner statuses.Spent call of is why = absurd of
-as_refused form runner statuses.Trapped call of is why = absurd of
-as_refused form runner statuses.Wild call of is why = absurd of
-as_refused form runner statuses.Deep call of is why = absurd of
-as_refused form runner statuses.Broken call of is why = absurd of
+as_refused form runner _ call of is why = absurd of
 
 -- a statement of a status carries over to an equal one
 at_status : {A : Type 0} (form : Form A) (runner : Runner A) (result status : Status) (call : Call) → result ≡ status → Leaves form runner status call → Leaves form runner result call

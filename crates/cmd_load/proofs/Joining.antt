@@ -39,11 +39,8 @@ few_enough number k few low = omega (arith, few, low)
 
 only_spent : (e : End) (v : ℕ) → ((e ≡ Spent → ⊥) → e ≡ Ended v) → ((w : ℕ) → e ≡ Ended w → ⊥) → e ≡ Spent
 only_spent (Ended s) v ends never = absurd (never s refl)
-only_spent Trapped v ends never = absurd (never v (ends (λ e. cc)))
-only_spent Wild v ends never = absurd (never v (ends (λ e. cc)))
-only_spent Deep v ends never = absurd (never v (ends (λ e. cc)))
 only_spent Spent v ends never = refl
-only_spent (Broken k) v ends never = absurd (never v (ends (λ e. cc)))
+only_spent _ v ends never = absurd (never v (ends (λ e. cc)))
 
 module _ (d : Content) (k : ℕ) (p : AProgram) (text : List ℕ) (reads : Reads (source_text k) p) (is_text : IsTextOf d p text)
     (comes : ComesTo (source p []) (source_outcome k)) (few : (source_outcome k).number ≤ greatest_number) (one : OneEnd (run is_text.code []))

@@ -56,10 +56,8 @@ module _ (a : Runs) (o : Outcome) (value : ℕ) (comes : ComesTo a o) (end_is : 
     ap (λ (x : ℕ). Ended x) (∥∥₁_elim t (Coded-set coded_ℕ _ _) (λ h. (says_or_lost output s h).1)),
   )
   told Trapped output t unspent = absurd (∥∥₁_elim t no_prop (trapped_or_lost output))
-  told Wild output t unspent = absurd (∥∥₁_elim t no_prop never_lost)
-  told Deep output t unspent = absurd (∥∥₁_elim t no_prop never_lost)
   told Spent output t unspent = absurd (unspent refl)
-  told (Broken k) output t unspent = absurd (∥∥₁_elim t no_prop never_lost)
+  told _ output t unspent = absurd (∥∥₁_elim t no_prop never_lost)
 
   pub ends_like : (b : Runs) → ∥ Follows a b ∥₁ → OneEnd b → EndsLike b o value
   ends_like b follows one n unspent =

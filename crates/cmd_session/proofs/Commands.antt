@@ -11,17 +11,12 @@ use Rattle.std.proofs.lemmas.Slice.Eq.{bytes_eq-Decides}
 use Rattle.cmd_session.specs.Words.{spelled, SaysNamed, SaysPaired, SaysCounted, OnlyNamed, NoPaired, OnlyPaired, NoCounted, OnlyCounted}
 
 two : {A : Type 0} (xs : List A) (a b : A) → 2 ≤ length xs → length xs < 3 → a ≡ get_or xs 0 a → b ≡ get_or xs 1 b → xs ≡ a ∷ (b ∷ [])
-two [] a b low high first second = absurd (omega arith)
-two (x ∷ []) a b low high first second = absurd (omega arith)
 two (x ∷ (y ∷ [])) a b low high first second = cc
-two (x ∷ (y ∷ (z ∷ zs))) a b low high first second = absurd (omega arith)
+two _ a b low high first second = absurd (omega arith)
 
 three : {A : Type 0} (xs : List A) (a b c : A) → 3 ≤ length xs → length xs < 4 → a ≡ get_or xs 0 a → b ≡ get_or xs 1 b → c ≡ get_or xs 2 c → xs ≡ a ∷ (b ∷ (c ∷ []))
-three [] a b c low high first second third = absurd (omega arith)
-three (x ∷ []) a b c low high first second third = absurd (omega arith)
-three (x ∷ (y ∷ [])) a b c low high first second third = absurd (omega arith)
 three (x ∷ (y ∷ (z ∷ []))) a b c low high first second third = cc
-three (x ∷ (y ∷ (z ∷ (w ∷ ws)))) a b c low high first second third = absurd (omega arith)
+three _ a b c low high first second third = absurd (omega arith)
 
 same : (a b : List ℕ) → true ≡ bytes_eq a b → a ≡ b
 same a b e = (bytes_eq-Decides a b).0 (sym e)

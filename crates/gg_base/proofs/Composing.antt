@@ -17,12 +17,9 @@ shown (Broken k) o c ok h = absurd (ok tt)
 
 -- a lost answer tells of a lost one
 lost_told : (e : End) (o : List ℕ) (a : Runs) → IsLost e → Tells e o a → GetsLost a
-lost_told (Ended s) o a l h = absurd l
-lost_told Trapped o a l h = absurd l
-lost_told Spent o a l h = absurd l
 lost_told Wild o a l h = h
 lost_told Deep o a l h = h
-lost_told (Broken k) o a l h = absurd l
+lost_told _ o a l h = absurd l
 
 -- an answer tells of an output that begins with its own
 reached : (e : End) (o : List ℕ) (a : Runs) → Tells e o a → Reaches a o ⊎ GetsLost a

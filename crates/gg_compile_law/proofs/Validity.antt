@@ -127,102 +127,22 @@ in_order_is (tree_item.Root (l ∷ w) ∷ is) p b few h =
 -- ---- what a root's first leaf says
 
 call_att : (a : Att) (f c : ℕ) → calls_by a ≡ Calls f c → a ≡ att.Callee f c
-call_att att.Nothing f c e = absurd cc
-call_att (att.Number n) f c e = absurd cc
-call_att (att.Object object offset) f c e = absurd cc
-call_att (att.Slot n) f c e = absurd cc
-call_att (att.Branch rel label) f c e = absurd cc
-call_att (att.Label label) f c e = absurd cc
 call_att (att.Callee function count) f c e = same function count f c e
   where
     same : (a b f c : ℕ) → Calls a b ≡ Calls f c → att.Callee a b ≡ att.Callee f c
     same a b f c e = cc
+call_att _ f c e = absurd cc
 
 -- a root that calls is a Call
 call_tok : (k : Tok) (a : Att) (f c : ℕ) → role_by k a ≡ Calls f c → (k ≡ tok.Call) × (a ≡ att.Callee f c)
-call_tok tok.Zero a f c e = absurd cc
-call_tok tok.One a f c e = absurd cc
-call_tok tok.Two a f c e = absurd cc
-call_tok tok.Four a f c e = absurd cc
-call_tok tok.Eight a f c e = absurd cc
-call_tok tok.Const a f c e = absurd cc
-call_tok tok.Gaddr a f c e = absurd cc
-call_tok tok.Loc a f c e = absurd cc
-call_tok tok.Arg a f c e = absurd cc
-call_tok tok.IndirB a f c e = absurd cc
-call_tok tok.IndirW a f c e = absurd cc
-call_tok tok.IndirL a f c e = absurd cc
-call_tok tok.Plus a f c e = absurd cc
-call_tok tok.Minus a f c e = absurd cc
-call_tok tok.Mul a f c e = absurd cc
-call_tok tok.Div a f c e = absurd cc
-call_tok tok.Mod a f c e = absurd cc
-call_tok tok.And a f c e = absurd cc
-call_tok tok.Or a f c e = absurd cc
-call_tok tok.Xor a f c e = absurd cc
-call_tok tok.Lsh a f c e = absurd cc
-call_tok tok.Rsh a f c e = absurd cc
-call_tok tok.Neg a f c e = absurd cc
-call_tok tok.Com a f c e = absurd cc
-call_tok tok.Sxb a f c e = absurd cc
-call_tok tok.Zxb a f c e = absurd cc
-call_tok tok.Sxw a f c e = absurd cc
-call_tok tok.Zxw a f c e = absurd cc
-call_tok tok.Ncb a f c e = absurd cc
-call_tok tok.Ncw a f c e = absurd cc
-call_tok tok.AssignB a f c e = absurd cc
-call_tok tok.AssignW a f c e = absurd cc
-call_tok tok.AssignL a f c e = absurd cc
-call_tok tok.Cbr a f c e = absurd cc
-call_tok tok.Push a f c e = absurd cc
-call_tok tok.Ret a f c e = absurd cc
 call_tok tok.Call a f c e = (refl, call_att a f c e)
-call_tok tok.Save a f c e = absurd cc
-call_tok tok.Jump a f c e = absurd cc
-call_tok tok.End a f c e = absurd cc
+call_tok _ a f c e = absurd cc
 
 -- a root's target is its first leaf's
 target_tok : (k : Tok) (a : Att) (l : ℕ) → target_by k a ≡ Some l → target_in a ≡ Some l
-target_tok tok.Zero a l e = absurd cc
-target_tok tok.One a l e = absurd cc
-target_tok tok.Two a l e = absurd cc
-target_tok tok.Four a l e = absurd cc
-target_tok tok.Eight a l e = absurd cc
-target_tok tok.Const a l e = absurd cc
-target_tok tok.Gaddr a l e = absurd cc
-target_tok tok.Loc a l e = absurd cc
-target_tok tok.Arg a l e = absurd cc
-target_tok tok.IndirB a l e = absurd cc
-target_tok tok.IndirW a l e = absurd cc
-target_tok tok.IndirL a l e = absurd cc
-target_tok tok.Plus a l e = absurd cc
-target_tok tok.Minus a l e = absurd cc
-target_tok tok.Mul a l e = absurd cc
-target_tok tok.Div a l e = absurd cc
-target_tok tok.Mod a l e = absurd cc
-target_tok tok.And a l e = absurd cc
-target_tok tok.Or a l e = absurd cc
-target_tok tok.Xor a l e = absurd cc
-target_tok tok.Lsh a l e = absurd cc
-target_tok tok.Rsh a l e = absurd cc
-target_tok tok.Neg a l e = absurd cc
-target_tok tok.Com a l e = absurd cc
-target_tok tok.Sxb a l e = absurd cc
-target_tok tok.Zxb a l e = absurd cc
-target_tok tok.Sxw a l e = absurd cc
-target_tok tok.Zxw a l e = absurd cc
-target_tok tok.Ncb a l e = absurd cc
-target_tok tok.Ncw a l e = absurd cc
-target_tok tok.AssignB a l e = absurd cc
-target_tok tok.AssignW a l e = absurd cc
-target_tok tok.AssignL a l e = absurd cc
 target_tok tok.Cbr a l e = e
-target_tok tok.Push a l e = absurd cc
-target_tok tok.Ret a l e = absurd cc
-target_tok tok.Call a l e = absurd cc
-target_tok tok.Save a l e = absurd cc
 target_tok tok.Jump a l e = e
-target_tok tok.End a l e = absurd cc
+target_tok _ a l e = absurd cc
 
 target_leaves : (w : List Leaf) (l : ℕ) → target_of w ≡ Some l → target_of_leaves w ≡ Some l
 target_leaves [] l e = absurd cc

@@ -43,14 +43,8 @@ module _ (q : TreeProgram) (area : List AreaItem) (code : List CodeItem) (there 
   label_stands (Some k) h n e = subst (λ (m : ℕ). has_label code (label_name m) ≡ true) (same_Some k n e) h
 
   in_hole : (a : Attr Operand) → Good q area code a → (n : ℕ) → label_in a ≡ Some n → has_label code (label_name n) ≡ true
-  in_hole (attr.Reg r) h n e = absurd (cc)
-  in_hole (attr.InSlot w) h n e = absurd (cc)
-  in_hole (attr.Value o) h n e = absurd (cc)
-  in_hole (attr.Place o) h n e = absurd (cc)
-  in_hole (attr.Con k) h n e = absurd (cc)
-  in_hole (attr.Ea o) h n e = absurd (cc)
   in_hole (attr.Token l) h n e = label_stands (label_of_att l.att) h n e
-  in_hole attr.Nothing h n e = absurd (cc)
+  in_hole _ h n e = absurd (cc)
 
   among : (holes : List (Attr Operand)) → All (Good q area code) holes → (n : ℕ) → label_among holes ≡ Some n → has_label code (label_name n) ≡ true
   among [] h n e = absurd (cc)

@@ -178,15 +178,8 @@ module _ (objects most params size count : ℕ) (takes : Callee → ℕ → Type
     goes_low : (scope : ℕ → Type 0) (inside : Bool) (a : AnAction) (lb lc to : ℕ) → FitsAct size scope inside a → going a lb lc ≡ Some to → Loops inside lb lc → to < most
     goes_low scope inside BreakOf lb lc to f e k = let same : lb ≡ to = cc in let lt = (k f).0 in omega (arith, same, lt)
     goes_low scope inside ContinueOf lb lc to f e k = let same : lc ≡ to = cc in let lt = (k f).1 in omega (arith, same, lt)
-    goes_low scope inside (DeclareOf ds) lb lc to f e k = absurd (cc)
     goes_low scope inside (BlockOf row) lb lc to f e k = alone_low scope inside row lb lc to f e k
-    goes_low scope inside (EvaluateOf x) lb lc to f e k = absurd (cc)
-    goes_low scope inside (ReturnOf x) lb lc to f e k = absurd (cc)
-    goes_low scope inside (IfOf c a) lb lc to f e k = absurd (cc)
-    goes_low scope inside (IfElseOf c a b) lb lc to f e k = absurd (cc)
-    goes_low scope inside (WhileOf c a) lb lc to f e k = absurd (cc)
-    goes_low scope inside (DoOf a c) lb lc to f e k = absurd (cc)
-    goes_low scope inside (ForOf i c x a) lb lc to f e k = absurd (cc)
+    goes_low scope inside _ lb lc to f e k = absurd (cc)
 
     alone_low : (scope : ℕ → Type 0) (inside : Bool) (row : SomeActions) (lb lc to : ℕ) → FitsActs size scope inside row → going_alone row lb lc ≡ Some to → Loops inside lb lc → to < most
     alone_low scope inside NoActions lb lc to f e k = absurd (cc)

@@ -11,10 +11,8 @@ use Rattle.lr_check_decided.specs.Alone.{is_class, is_alone}
 use Rattle.lr_check_decided.proofs.Settled.{list_at}
 
 class_is : (s : List Sym) (c : ℕ) → true ≡ is_class s c → s ≡ grammar_symbol.Class c ∷ []
-class_is [] c e = absurd (true≢false e)
-class_is (grammar_symbol.Tok t ∷ xs) c e = absurd (true≢false e)
 class_is (grammar_symbol.Class d ∷ []) c e = ap (λ k. grammar_symbol.Class k ∷ []) (eqb-true d c (sym e))
-class_is (grammar_symbol.Class d ∷ x ∷ xs) c e = absurd (true≢false e)
+class_is _ c e = absurd (true≢false e)
 
 first_of : (a b : Bool) → true ≡ (a && b) → a ≡ true
 first_of true b e = refl

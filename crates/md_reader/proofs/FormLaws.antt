@@ -36,9 +36,7 @@ pub both_words : (ws : List (List ℕ)) (v w : List ℕ) → are_both ws v w ≡
 both_words (a ∷ b ∷ []) v w e =
     let p = and_parts (same a v) (same b w) e in
     rw (same_true a v p.0, same_true b w p.1) refl
-both_words [] v w e = absurd cc
-both_words (a ∷ []) v w e = absurd cc
-both_words (a ∷ b ∷ c ∷ ws) v w e = absurd cc
+both_words _ v w e = absurd cc
 
 size_spelled : (w : List ℕ) (z : Size) → size_of w ≡ Some z → w ≡ size_word z
 size_spelled w z e =
@@ -103,14 +101,11 @@ spill_line_is (a ∷ ws) x e =
     rw (same_true a (codes "spill") p.0) (spill_words_are ws x p.1))
 
 pub rule_line_is : (ws : List (List ℕ)) (x : List ℕ × List (List ℕ)) → rule_form ws ≡ Some x → ws ≡ codes "rule" ∷ x.0 ∷ codes ":" ∷ x.1
-rule_line_is [] x e = absurd (none-some x e)
-rule_line_is (a ∷ []) x e = absurd (none-some x e)
-rule_line_is (a ∷ c ∷ []) x e = absurd (none-some x e)
-rule_line_is (a ∷ c ∷ d ∷ []) x e = absurd (none-some x e)
 rule_line_is (a ∷ c ∷ d ∷ s ∷ ss) x e =
     let p = guarded (same a (codes "rule") && same d (codes ":")) _ x e in
     let q = and_parts (same a (codes "rule")) (same d (codes ":")) p.0 in
     rw (same_true a (codes "rule") q.0, same_true d (codes ":") q.1) (ap (λ (y : List ℕ × List (List ℕ)). codes "rule" ∷ y.0 ∷ codes ":" ∷ y.1) (same_Some (c, s ∷ ss) x p.1))
+rule_line_is _ x e = absurd (none-some x e)
 
 pub if_line_is : (ws : List (List ℕ)) (r : Restriction) → if_form ws ≡ Some r → IsRestriction ws r
 if_line_is [] r e = absurd (none-some r e)
@@ -125,12 +120,10 @@ do_line_is (a ∷ ws) rest e =
     rw (same_true a (codes "do") p.0, same_Some ws rest p.1) refl
 
 pub give_line_is : (ws : List (List ℕ)) (w : List ℕ) → give_form ws ≡ Some w → ws ≡ codes "give" ∷ w ∷ []
-give_line_is [] w e = absurd (none-some w e)
-give_line_is (a ∷ []) w e = absurd (none-some w e)
 give_line_is (a ∷ v ∷ []) w e =
     let p = guarded (same a (codes "give")) (Some v) w e in
     rw (same_true a (codes "give") p.0, same_Some v w p.1) refl
-give_line_is (a ∷ v ∷ u ∷ us) w e = absurd (none-some w e)
+give_line_is _ w e = absurd (none-some w e)
 
 -- a register more
 grown : (m n : ℕ) → m < 2 ^ 12 → n ≤ 11 → bit_or m (2 ^ n) < 2 ^ 12

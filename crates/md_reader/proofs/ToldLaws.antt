@@ -352,9 +352,6 @@ neither true x y d e = err_ok x d e
 neither false x y d e = err_ok y d e
 
 end_told : (g : Stage) (n : ℕ) (s : State) (d : Content) → s.stage ≡ g → IsFine s [] → ended_at g n s ≡ Ok d → TheRest (told_at g s) [] d
-end_told stage.Version n s d g h e = absurd (err_ok _ _ e)
-end_told stage.Target n s d g h e = absurd (err_ok _ _ e)
-end_told stage.Pool n s d g h e = absurd (err_ok _ _ e)
 end_told stage.Classes n s d g h e = absurd (neither (has_stmt s.classes) _ _ d e)
 end_told stage.Spills n s d g h e = absurd (neither (nat_le (length s.spills) 6) _ _ d e)
 end_told stage.Rules n s d g h e = at (nat_le 1 (length s.rules)) refl e
@@ -362,7 +359,7 @@ end_told stage.Rules n s d g h e = at (nat_le 1 (length s.rules)) refl e
     at : (b : Bool) → nat_le 1 (length s.rules) ≡ b → cond {A = Result Content (ℕ × DescKind)} b (Ok (content_of s)) (Err (n, kinds.MissingRule)) ≡ Ok d → TheRest (told_at stage.Rules s) [] d
     at true f e = rw (← ok_same _ _ _ _ refl refl e) (record { forms = []; tell = tt; whole = append-nil (telling (content_of s)); valid = is_valid s g (leb-true 1 (length s.rules) f) h })
     at false f e = absurd (err_ok _ _ e)
-end_told stage.Template n s d g h e = absurd (err_ok _ _ e)
+end_told _ n s d g h e = absurd (err_ok _ _ e)
 
 from_told : (n : ℕ) (s : State) (ls : List (List ℕ)) (d : Content) → IsFine s ls → read_from n s ls ≡ Ok d → TheRest (told_at s.stage s) (numbered n ls) d
 from_told n s [] d h e = end_told s.stage n s d refl h e

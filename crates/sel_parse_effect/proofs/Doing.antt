@@ -84,53 +84,16 @@ class_no_save (Some kind.Nothing) i e = cc
 
 -- a pattern that saves begins with Save
 save_head : (classes : List Class) (st : List SubtreeShape) (s : Sym) (i : ℕ) → (first_part (step 1 (role_of classes s) st)).part ≡ Acts (Save i) → s ≡ grammar_symbol.Tok tok.Save
-save_head classes st (grammar_symbol.Tok tok.Zero) i e = absurd (cc)
-save_head classes st (grammar_symbol.Tok tok.One) i e = absurd (cc)
-save_head classes st (grammar_symbol.Tok tok.Two) i e = absurd (cc)
-save_head classes st (grammar_symbol.Tok tok.Four) i e = absurd (cc)
-save_head classes st (grammar_symbol.Tok tok.Eight) i e = absurd (cc)
-save_head classes st (grammar_symbol.Tok tok.Const) i e = absurd (cc)
-save_head classes st (grammar_symbol.Tok tok.Gaddr) i e = absurd (cc)
-save_head classes st (grammar_symbol.Tok tok.Loc) i e = absurd (cc)
-save_head classes st (grammar_symbol.Tok tok.Arg) i e = absurd (cc)
-save_head classes st (grammar_symbol.Tok tok.IndirB) i e = absurd (cc)
-save_head classes st (grammar_symbol.Tok tok.IndirW) i e = absurd (cc)
-save_head classes st (grammar_symbol.Tok tok.IndirL) i e = absurd (cc)
-save_head classes st (grammar_symbol.Tok tok.Plus) i e = absurd (cc)
-save_head classes st (grammar_symbol.Tok tok.Minus) i e = absurd (cc)
-save_head classes st (grammar_symbol.Tok tok.Mul) i e = absurd (cc)
-save_head classes st (grammar_symbol.Tok tok.Div) i e = absurd (cc)
-save_head classes st (grammar_symbol.Tok tok.Mod) i e = absurd (cc)
-save_head classes st (grammar_symbol.Tok tok.And) i e = absurd (cc)
-save_head classes st (grammar_symbol.Tok tok.Or) i e = absurd (cc)
-save_head classes st (grammar_symbol.Tok tok.Xor) i e = absurd (cc)
-save_head classes st (grammar_symbol.Tok tok.Lsh) i e = absurd (cc)
-save_head classes st (grammar_symbol.Tok tok.Rsh) i e = absurd (cc)
-save_head classes st (grammar_symbol.Tok tok.Neg) i e = absurd (cc)
-save_head classes st (grammar_symbol.Tok tok.Com) i e = absurd (cc)
-save_head classes st (grammar_symbol.Tok tok.Sxb) i e = absurd (cc)
-save_head classes st (grammar_symbol.Tok tok.Zxb) i e = absurd (cc)
-save_head classes st (grammar_symbol.Tok tok.Sxw) i e = absurd (cc)
-save_head classes st (grammar_symbol.Tok tok.Zxw) i e = absurd (cc)
-save_head classes st (grammar_symbol.Tok tok.Ncb) i e = absurd (cc)
-save_head classes st (grammar_symbol.Tok tok.Ncw) i e = absurd (cc)
 save_head classes st (grammar_symbol.Tok tok.AssignB) i e = absurd (store_no_save (first_part st).part (value_of (first_part (below st)).part) i e)
 save_head classes st (grammar_symbol.Tok tok.AssignW) i e = absurd (store_no_save (first_part st).part (value_of (first_part (below st)).part) i e)
 save_head classes st (grammar_symbol.Tok tok.AssignL) i e = absurd (store_no_save (first_part st).part (value_of (first_part (below st)).part) i e)
-save_head classes st (grammar_symbol.Tok tok.Cbr) i e = absurd (cc)
-save_head classes st (grammar_symbol.Tok tok.Push) i e = absurd (cc)
-save_head classes st (grammar_symbol.Tok tok.Ret) i e = absurd (cc)
-save_head classes st (grammar_symbol.Tok tok.Call) i e = absurd (cc)
 save_head classes st (grammar_symbol.Tok tok.Save) i e = refl
-save_head classes st (grammar_symbol.Tok tok.Jump) i e = absurd (cc)
-save_head classes st (grammar_symbol.Tok tok.End) i e = absurd (cc)
 save_head classes st (grammar_symbol.Class c) i e = absurd (class_no_save (kind_at classes c) i e)
+save_head classes st _ i e = absurd (cc)
 
 whole_save : (p : PartShape) (i : ℕ) → whole (Some kind.Nothing) p ≡ Save i → p ≡ Acts (Save i)
-whole_save (Worth t) i e = absurd (cc)
-whole_save (Home z j) i e = absurd (cc)
-whole_save (At z a) i e = absurd (cc)
 whole_save (Acts a) i e = ap Acts e
+whole_save _ i e = absurd (cc)
 
 begins_so : (classes : List Class) (right : List Sym) (i : ℕ) → (first_part (stack_from classes 1 right)).part ≡ Acts (Save i) → slice_get right 0 ≡ Some (grammar_symbol.Tok tok.Save)
 begins_so classes [] i e = absurd (cc)
@@ -138,46 +101,8 @@ begins_so classes (s ∷ w) i e = ap Some (save_head classes (stack_from classes
 
 -- a call's attribute is a call's
 callee_tok : (x : Tok) (function count : ℕ) → is_of_kind (attribute_of x) (att.Callee function count) ≡ true → x ≡ tok.Call
-callee_tok tok.Zero function count e = absurd (cc)
-callee_tok tok.One function count e = absurd (cc)
-callee_tok tok.Two function count e = absurd (cc)
-callee_tok tok.Four function count e = absurd (cc)
-callee_tok tok.Eight function count e = absurd (cc)
-callee_tok tok.Const function count e = absurd (cc)
-callee_tok tok.Gaddr function count e = absurd (cc)
-callee_tok tok.Loc function count e = absurd (cc)
-callee_tok tok.Arg function count e = absurd (cc)
-callee_tok tok.IndirB function count e = absurd (cc)
-callee_tok tok.IndirW function count e = absurd (cc)
-callee_tok tok.IndirL function count e = absurd (cc)
-callee_tok tok.Plus function count e = absurd (cc)
-callee_tok tok.Minus function count e = absurd (cc)
-callee_tok tok.Mul function count e = absurd (cc)
-callee_tok tok.Div function count e = absurd (cc)
-callee_tok tok.Mod function count e = absurd (cc)
-callee_tok tok.And function count e = absurd (cc)
-callee_tok tok.Or function count e = absurd (cc)
-callee_tok tok.Xor function count e = absurd (cc)
-callee_tok tok.Lsh function count e = absurd (cc)
-callee_tok tok.Rsh function count e = absurd (cc)
-callee_tok tok.Neg function count e = absurd (cc)
-callee_tok tok.Com function count e = absurd (cc)
-callee_tok tok.Sxb function count e = absurd (cc)
-callee_tok tok.Zxb function count e = absurd (cc)
-callee_tok tok.Sxw function count e = absurd (cc)
-callee_tok tok.Zxw function count e = absurd (cc)
-callee_tok tok.Ncb function count e = absurd (cc)
-callee_tok tok.Ncw function count e = absurd (cc)
-callee_tok tok.AssignB function count e = absurd (cc)
-callee_tok tok.AssignW function count e = absurd (cc)
-callee_tok tok.AssignL function count e = absurd (cc)
-callee_tok tok.Cbr function count e = absurd (cc)
-callee_tok tok.Push function count e = absurd (cc)
-callee_tok tok.Ret function count e = absurd (cc)
 callee_tok tok.Call function count e = refl
-callee_tok tok.Save function count e = absurd (cc)
-callee_tok tok.Jump function count e = absurd (cc)
-callee_tok tok.End function count e = absurd (cc)
+callee_tok _ function count e = absurd (cc)
 
 -- a sense with an attribute is a leaf's
 sense_leaf : (v : Sense) (a : Att) → att_in v ≡ a → (att.Nothing ≡ a → ⊥) → (l : Leaf) × (v ≡ OfLeaf l) × (l.att ≡ a)
@@ -227,13 +152,9 @@ module _ {O I S F : Type 0} (of : Meaning O I S F) (law : IsLawful of) (stores :
   leaf_in : (bs : List (Entry O)) (right : List Sym) (ws : List Sense) (j : ℕ) (l : Leaf) → Holds of q d first f fs t s m0 m bs right ws → slice_index_or ws j unknown ≡ OfLeaf l
       → (e : Entry O) × (slice_get bs j ≡ Some e) × (e.attr ≡ attr.Token l) × (leaf_fits l ≡ true) × Names of q d first f fs t s m0 l × (slice_get right j ≡ Some (grammar_symbol.Tok l.tok))
   leaf_in [] [] [] j l h e = absurd (cc)
-  leaf_in [] [] (w ∷ ws) j l h e = absurd h
-  leaf_in [] (x ∷ xs) ws j l h e = absurd h
-  leaf_in (b ∷ bs) [] [] j l h e = absurd h
-  leaf_in (b ∷ bs) [] (w ∷ ws) j l h e = absurd h
-  leaf_in (b ∷ bs) (x ∷ xs) [] j l h e = absurd h
   leaf_in (b ∷ bs) (x ∷ xs) (w ∷ ws) zero l h e = (let r = symbol_leaf x b.kind b.attr w l h.0 e in (b, refl, r.0, r.1, r.2, ap Some r.3))
   leaf_in (b ∷ bs) (x ∷ xs) (w ∷ ws) (suc j) l h e = leaf_in bs xs ws j l h.1 e
+  leaf_in _ _ _ j l h e = absurd h
 
   leaf_at : (j : ℕ) (l : Leaf) → slice_index_or vs j unknown ≡ OfLeaf l → LeafAt j l
   leaf_at j l e = (let r = leaf_in es rule.right vs j l standing e in record { entry = r.0; at = r.1; attr_is = r.2; fits = r.3; named = r.4; there = r.5 })

@@ -67,16 +67,7 @@ pub sizes_same : (x y : Option Size) (z : Size) → same_size x y ≡ true → x
 sizes_same (Some Byte) (Some Byte) z e f = f
 sizes_same (Some Word) (Some Word) z e f = f
 sizes_same (Some Long) (Some Long) z e f = f
-sizes_same (Some Byte) (Some Word) z e f = absurd (cc)
-sizes_same (Some Byte) (Some Long) z e f = absurd (cc)
-sizes_same (Some Word) (Some Byte) z e f = absurd (cc)
-sizes_same (Some Word) (Some Long) z e f = absurd (cc)
-sizes_same (Some Long) (Some Byte) z e f = absurd (cc)
-sizes_same (Some Long) (Some Word) z e f = absurd (cc)
-sizes_same (Some Byte) None z e f = absurd (cc)
-sizes_same (Some Word) None z e f = absurd (cc)
-sizes_same (Some Long) None z e f = absurd (cc)
-sizes_same None y z e f = absurd (cc)
+sizes_same _ _ z e f = absurd (cc)
 
 module _ (every : Bool) (v : View) (known : ℕ → Bool) (is_known : (i : ℕ) → known i ≡ is_some (v.symbol i)) (facts : List Rattle.term_core.specs.declared.facts.Fact.Fact) (area : List ℕ)
     (same_area : area ≡ v.state.area) where
@@ -89,174 +80,19 @@ module _ (every : Bool) (v : View) (known : ℕ → Bool) (is_known : (i : ℕ) 
 
   act_reads : (a b : ActShape) → ActsAlike facts known area m a b → SafeAct every (λ i. known i ≡ true) area m b → All (IsReadWhere every v) (terms_of_act a)
   act_reads (Value x) (Value y) h safe = (term_reads x y h safe, tt)
-  act_reads (Value x) (Number y) h safe = absurd h
-  act_reads (Value x) (Address y) h safe = absurd h
-  act_reads (Value x) (PlaceHome yz yi) h safe = absurd h
-  act_reads (Value x) (PlaceAt yz y) h safe = absurd h
-  act_reads (Value x) (StoreHome yz yi y) h safe = absurd h
-  act_reads (Value x) (StoreAt yz ya y) h safe = absurd h
-  act_reads (Value x) (Branch yi ya y) h safe = absurd h
-  act_reads (Value x) (Push y) h safe = absurd h
-  act_reads (Value x) Call h safe = absurd h
-  act_reads (Value x) (Save yi) h safe = absurd h
-  act_reads (Value x) (Return y) h safe = absurd h
-  act_reads (Value x) Jump h safe = absurd h
-  act_reads (Number x) (Value y) h safe = absurd h
   act_reads (Number x) (Number y) h safe = (term_reads x y h safe, tt)
-  act_reads (Number x) (Address y) h safe = absurd h
-  act_reads (Number x) (PlaceHome yz yi) h safe = absurd h
-  act_reads (Number x) (PlaceAt yz y) h safe = absurd h
-  act_reads (Number x) (StoreHome yz yi y) h safe = absurd h
-  act_reads (Number x) (StoreAt yz ya y) h safe = absurd h
-  act_reads (Number x) (Branch yi ya y) h safe = absurd h
-  act_reads (Number x) (Push y) h safe = absurd h
-  act_reads (Number x) Call h safe = absurd h
-  act_reads (Number x) (Save yi) h safe = absurd h
-  act_reads (Number x) (Return y) h safe = absurd h
-  act_reads (Number x) Jump h safe = absurd h
-  act_reads (Address x) (Value y) h safe = absurd h
-  act_reads (Address x) (Number y) h safe = absurd h
   act_reads (Address x) (Address y) h safe = (term_reads x y h safe, tt)
-  act_reads (Address x) (PlaceHome yz yi) h safe = absurd h
-  act_reads (Address x) (PlaceAt yz y) h safe = absurd h
-  act_reads (Address x) (StoreHome yz yi y) h safe = absurd h
-  act_reads (Address x) (StoreAt yz ya y) h safe = absurd h
-  act_reads (Address x) (Branch yi ya y) h safe = absurd h
-  act_reads (Address x) (Push y) h safe = absurd h
-  act_reads (Address x) Call h safe = absurd h
-  act_reads (Address x) (Save yi) h safe = absurd h
-  act_reads (Address x) (Return y) h safe = absurd h
-  act_reads (Address x) Jump h safe = absurd h
-  act_reads (PlaceHome xz xi) (Value y) h safe = absurd h
-  act_reads (PlaceHome xz xi) (Number y) h safe = absurd h
-  act_reads (PlaceHome xz xi) (Address y) h safe = absurd h
   act_reads (PlaceHome xz xi) (PlaceHome yz yi) h safe = tt
-  act_reads (PlaceHome xz xi) (PlaceAt yz y) h safe = absurd h
-  act_reads (PlaceHome xz xi) (StoreHome yz yi y) h safe = absurd h
-  act_reads (PlaceHome xz xi) (StoreAt yz ya y) h safe = absurd h
-  act_reads (PlaceHome xz xi) (Branch yi ya y) h safe = absurd h
-  act_reads (PlaceHome xz xi) (Push y) h safe = absurd h
-  act_reads (PlaceHome xz xi) Call h safe = absurd h
-  act_reads (PlaceHome xz xi) (Save yi) h safe = absurd h
-  act_reads (PlaceHome xz xi) (Return y) h safe = absurd h
-  act_reads (PlaceHome xz xi) Jump h safe = absurd h
-  act_reads (PlaceAt xz x) (Value y) h safe = absurd h
-  act_reads (PlaceAt xz x) (Number y) h safe = absurd h
-  act_reads (PlaceAt xz x) (Address y) h safe = absurd h
-  act_reads (PlaceAt xz x) (PlaceHome yz yi) h safe = absurd h
   act_reads (PlaceAt xz x) (PlaceAt yz y) h safe = (term_reads x y h.1 safe, tt)
-  act_reads (PlaceAt xz x) (StoreHome yz yi y) h safe = absurd h
-  act_reads (PlaceAt xz x) (StoreAt yz ya y) h safe = absurd h
-  act_reads (PlaceAt xz x) (Branch yi ya y) h safe = absurd h
-  act_reads (PlaceAt xz x) (Push y) h safe = absurd h
-  act_reads (PlaceAt xz x) Call h safe = absurd h
-  act_reads (PlaceAt xz x) (Save yi) h safe = absurd h
-  act_reads (PlaceAt xz x) (Return y) h safe = absurd h
-  act_reads (PlaceAt xz x) Jump h safe = absurd h
-  act_reads (StoreHome xz xi x) (Value y) h safe = absurd h
-  act_reads (StoreHome xz xi x) (Number y) h safe = absurd h
-  act_reads (StoreHome xz xi x) (Address y) h safe = absurd h
-  act_reads (StoreHome xz xi x) (PlaceHome yz yi) h safe = absurd h
-  act_reads (StoreHome xz xi x) (PlaceAt yz y) h safe = absurd h
   act_reads (StoreHome xz xi x) (StoreHome yz yi y) h safe = (term_reads x y h.2 safe, tt)
-  act_reads (StoreHome xz xi x) (StoreAt yz ya y) h safe = absurd h
-  act_reads (StoreHome xz xi x) (Branch yi ya y) h safe = absurd h
-  act_reads (StoreHome xz xi x) (Push y) h safe = absurd h
-  act_reads (StoreHome xz xi x) Call h safe = absurd h
-  act_reads (StoreHome xz xi x) (Save yi) h safe = absurd h
-  act_reads (StoreHome xz xi x) (Return y) h safe = absurd h
-  act_reads (StoreHome xz xi x) Jump h safe = absurd h
-  act_reads (StoreAt xz xa x) (Value y) h safe = absurd h
-  act_reads (StoreAt xz xa x) (Number y) h safe = absurd h
-  act_reads (StoreAt xz xa x) (Address y) h safe = absurd h
-  act_reads (StoreAt xz xa x) (PlaceHome yz yi) h safe = absurd h
-  act_reads (StoreAt xz xa x) (PlaceAt yz y) h safe = absurd h
-  act_reads (StoreAt xz xa x) (StoreHome yz yi y) h safe = absurd h
   act_reads (StoreAt xz xa x) (StoreAt yz ya y) h safe = (term_reads xa ya h.1 safe.0, (term_reads x y h.2 safe.1, tt))
-  act_reads (StoreAt xz xa x) (Branch yi ya y) h safe = absurd h
-  act_reads (StoreAt xz xa x) (Push y) h safe = absurd h
-  act_reads (StoreAt xz xa x) Call h safe = absurd h
-  act_reads (StoreAt xz xa x) (Save yi) h safe = absurd h
-  act_reads (StoreAt xz xa x) (Return y) h safe = absurd h
-  act_reads (StoreAt xz xa x) Jump h safe = absurd h
-  act_reads (Branch xi xa x) (Value y) h safe = absurd h
-  act_reads (Branch xi xa x) (Number y) h safe = absurd h
-  act_reads (Branch xi xa x) (Address y) h safe = absurd h
-  act_reads (Branch xi xa x) (PlaceHome yz yi) h safe = absurd h
-  act_reads (Branch xi xa x) (PlaceAt yz y) h safe = absurd h
-  act_reads (Branch xi xa x) (StoreHome yz yi y) h safe = absurd h
-  act_reads (Branch xi xa x) (StoreAt yz ya y) h safe = absurd h
   act_reads (Branch xi xa x) (Branch yi ya y) h safe = (term_reads xa ya h.1 safe.0, (term_reads x y h.2 safe.1, tt))
-  act_reads (Branch xi xa x) (Push y) h safe = absurd h
-  act_reads (Branch xi xa x) Call h safe = absurd h
-  act_reads (Branch xi xa x) (Save yi) h safe = absurd h
-  act_reads (Branch xi xa x) (Return y) h safe = absurd h
-  act_reads (Branch xi xa x) Jump h safe = absurd h
-  act_reads (Push x) (Value y) h safe = absurd h
-  act_reads (Push x) (Number y) h safe = absurd h
-  act_reads (Push x) (Address y) h safe = absurd h
-  act_reads (Push x) (PlaceHome yz yi) h safe = absurd h
-  act_reads (Push x) (PlaceAt yz y) h safe = absurd h
-  act_reads (Push x) (StoreHome yz yi y) h safe = absurd h
-  act_reads (Push x) (StoreAt yz ya y) h safe = absurd h
-  act_reads (Push x) (Branch yi ya y) h safe = absurd h
   act_reads (Push x) (Push y) h safe = (term_reads x y h safe, tt)
-  act_reads (Push x) Call h safe = absurd h
-  act_reads (Push x) (Save yi) h safe = absurd h
-  act_reads (Push x) (Return y) h safe = absurd h
-  act_reads (Push x) Jump h safe = absurd h
-  act_reads Call (Value y) h safe = absurd h
-  act_reads Call (Number y) h safe = absurd h
-  act_reads Call (Address y) h safe = absurd h
-  act_reads Call (PlaceHome yz yi) h safe = absurd h
-  act_reads Call (PlaceAt yz y) h safe = absurd h
-  act_reads Call (StoreHome yz yi y) h safe = absurd h
-  act_reads Call (StoreAt yz ya y) h safe = absurd h
-  act_reads Call (Branch yi ya y) h safe = absurd h
-  act_reads Call (Push y) h safe = absurd h
   act_reads Call Call h safe = tt
-  act_reads Call (Save yi) h safe = absurd h
-  act_reads Call (Return y) h safe = absurd h
-  act_reads Call Jump h safe = absurd h
-  act_reads (Save xi) (Value y) h safe = absurd h
-  act_reads (Save xi) (Number y) h safe = absurd h
-  act_reads (Save xi) (Address y) h safe = absurd h
-  act_reads (Save xi) (PlaceHome yz yi) h safe = absurd h
-  act_reads (Save xi) (PlaceAt yz y) h safe = absurd h
-  act_reads (Save xi) (StoreHome yz yi y) h safe = absurd h
-  act_reads (Save xi) (StoreAt yz ya y) h safe = absurd h
-  act_reads (Save xi) (Branch yi ya y) h safe = absurd h
-  act_reads (Save xi) (Push y) h safe = absurd h
-  act_reads (Save xi) Call h safe = absurd h
   act_reads (Save xi) (Save yi) h safe = tt
-  act_reads (Save xi) (Return y) h safe = absurd h
-  act_reads (Save xi) Jump h safe = absurd h
-  act_reads (Return x) (Value y) h safe = absurd h
-  act_reads (Return x) (Number y) h safe = absurd h
-  act_reads (Return x) (Address y) h safe = absurd h
-  act_reads (Return x) (PlaceHome yz yi) h safe = absurd h
-  act_reads (Return x) (PlaceAt yz y) h safe = absurd h
-  act_reads (Return x) (StoreHome yz yi y) h safe = absurd h
-  act_reads (Return x) (StoreAt yz ya y) h safe = absurd h
-  act_reads (Return x) (Branch yi ya y) h safe = absurd h
-  act_reads (Return x) (Push y) h safe = absurd h
-  act_reads (Return x) Call h safe = absurd h
-  act_reads (Return x) (Save yi) h safe = absurd h
   act_reads (Return x) (Return y) h safe = (term_reads x y h safe, tt)
-  act_reads (Return x) Jump h safe = absurd h
-  act_reads Jump (Value y) h safe = absurd h
-  act_reads Jump (Number y) h safe = absurd h
-  act_reads Jump (Address y) h safe = absurd h
-  act_reads Jump (PlaceHome yz yi) h safe = absurd h
-  act_reads Jump (PlaceAt yz y) h safe = absurd h
-  act_reads Jump (StoreHome yz yi y) h safe = absurd h
-  act_reads Jump (StoreAt yz ya y) h safe = absurd h
-  act_reads Jump (Branch yi ya y) h safe = absurd h
-  act_reads Jump (Push y) h safe = absurd h
-  act_reads Jump Call h safe = absurd h
-  act_reads Jump (Save yi) h safe = absurd h
-  act_reads Jump (Return y) h safe = absurd h
   act_reads Jump Jump h safe = tt
+  act_reads _ _ h safe = absurd h
 
   all_read : (xs ys : List Shape) → AllAlike facts known area m xs ys → AllSafe every (λ i. known i ≡ true) area m ys → All (IsReadWhere every v) xs
   all_read [] [] h safe = tt
@@ -276,18 +112,7 @@ module _ (every : Bool) (v : View) (known : ℕ → Bool) (is_known : (i : ℕ) 
 
   pub value_alike : (a : ActShape) (u : Shape) → ActsAlike facts known area m a (Value u) → IsValue a u
   value_alike (Value x) u h = record { term = x; is = refl; alike = h }
-  value_alike (Number x) u h = absurd h
-  value_alike (Address x) u h = absurd h
-  value_alike (PlaceHome xz xi) u h = absurd h
-  value_alike (PlaceAt xz x) u h = absurd h
-  value_alike (StoreHome xz xi x) u h = absurd h
-  value_alike (StoreAt xz xa x) u h = absurd h
-  value_alike (Branch xi xa x) u h = absurd h
-  value_alike (Push x) u h = absurd h
-  value_alike Call u h = absurd h
-  value_alike (Save xi) u h = absurd h
-  value_alike (Return x) u h = absurd h
-  value_alike Jump u h = absurd h
+  value_alike _ u h = absurd h
 
   pub record IsAddress (a : ActShape) (u : Shape) : Type 0 where
     pub term : Shape
@@ -295,19 +120,8 @@ module _ (every : Bool) (v : View) (known : ℕ → Bool) (is_known : (i : ℕ) 
     pub alike : TermsAlike facts known area m term u
 
   pub address_alike : (a : ActShape) (u : Shape) → ActsAlike facts known area m a (Address u) → IsAddress a u
-  address_alike (Value x) u h = absurd h
-  address_alike (Number x) u h = absurd h
   address_alike (Address x) u h = record { term = x; is = refl; alike = h }
-  address_alike (PlaceHome xz xi) u h = absurd h
-  address_alike (PlaceAt xz x) u h = absurd h
-  address_alike (StoreHome xz xi x) u h = absurd h
-  address_alike (StoreAt xz xa x) u h = absurd h
-  address_alike (Branch xi xa x) u h = absurd h
-  address_alike (Push x) u h = absurd h
-  address_alike Call u h = absurd h
-  address_alike (Save xi) u h = absurd h
-  address_alike (Return x) u h = absurd h
-  address_alike Jump u h = absurd h
+  address_alike _ u h = absurd h
 
   pub record IsPlaceAt (a : ActShape) (z : Size) (u : Shape) : Type 0 where
     pub term : Shape
@@ -315,19 +129,8 @@ module _ (every : Bool) (v : View) (known : ℕ → Bool) (is_known : (i : ℕ) 
     pub alike : TermsAlike facts known area m term u
 
   pub place_alike : (a : ActShape) (z : Size) (u : Shape) → ActsAlike facts known area m a (PlaceAt z u) → IsPlaceAt a z u
-  place_alike (Value x) z u h = absurd h
-  place_alike (Number x) z u h = absurd h
-  place_alike (Address x) z u h = absurd h
-  place_alike (PlaceHome xz xi) z u h = absurd h
   place_alike (PlaceAt xz x) z u h = record { term = x; is = ap (λ y. PlaceAt y x) h.0; alike = h.1 }
-  place_alike (StoreHome xz xi x) z u h = absurd h
-  place_alike (StoreAt xz xa x) z u h = absurd h
-  place_alike (Branch xi xa x) z u h = absurd h
-  place_alike (Push x) z u h = absurd h
-  place_alike Call z u h = absurd h
-  place_alike (Save xi) z u h = absurd h
-  place_alike (Return x) z u h = absurd h
-  place_alike Jump z u h = absurd h
+  place_alike _ z u h = absurd h
 
   pub record IsHome (a : ActShape) (z : Size) (j : ℕ) : Type 0 where
     pub symbol : ℕ
@@ -335,19 +138,8 @@ module _ (every : Bool) (v : View) (known : ℕ → Bool) (is_known : (i : ℕ) 
     pub alike : same_as facts symbol ≡ same_as facts j
 
   pub home_alike : (a : ActShape) (z : Size) (j : ℕ) → ActsAlike facts known area m a (PlaceHome z j) → IsHome a z j
-  home_alike (Value x) z j h = absurd h
-  home_alike (Number x) z j h = absurd h
-  home_alike (Address x) z j h = absurd h
   home_alike (PlaceHome xz xi) z j h = record { symbol = xi; is = ap (λ y. PlaceHome y xi) h.0; alike = h.1 }
-  home_alike (PlaceAt xz x) z j h = absurd h
-  home_alike (StoreHome xz xi x) z j h = absurd h
-  home_alike (StoreAt xz xa x) z j h = absurd h
-  home_alike (Branch xi xa x) z j h = absurd h
-  home_alike (Push x) z j h = absurd h
-  home_alike Call z j h = absurd h
-  home_alike (Save xi) z j h = absurd h
-  home_alike (Return x) z j h = absurd h
-  home_alike Jump z j h = absurd h
+  home_alike _ z j h = absurd h
 
   pub record IsNumberOf (a : ActShape) (u : Shape) : Type 0 where
     pub term : Shape
@@ -355,19 +147,8 @@ module _ (every : Bool) (v : View) (known : ℕ → Bool) (is_known : (i : ℕ) 
     pub alike : TermsAlike facts known area m term u
 
   pub number_alike : (a : ActShape) (u : Shape) → ActsAlike facts known area m a (Number u) → IsNumberOf a u
-  number_alike (Value x) u h = absurd h
   number_alike (Number x) u h = record { term = x; is = refl; alike = h }
-  number_alike (Address x) u h = absurd h
-  number_alike (PlaceHome xz xi) u h = absurd h
-  number_alike (PlaceAt xz x) u h = absurd h
-  number_alike (StoreHome xz xi x) u h = absurd h
-  number_alike (StoreAt xz xa x) u h = absurd h
-  number_alike (Branch xi xa x) u h = absurd h
-  number_alike (Push x) u h = absurd h
-  number_alike Call u h = absurd h
-  number_alike (Save xi) u h = absurd h
-  number_alike (Return x) u h = absurd h
-  number_alike Jump u h = absurd h
+  number_alike _ u h = absurd h
 
   pub record IsStoreHome (a : ActShape) (z : Size) (j : ℕ) (u : Shape) : Type 0 where
     pub symbol : ℕ
@@ -377,19 +158,8 @@ module _ (every : Bool) (v : View) (known : ℕ → Bool) (is_known : (i : ℕ) 
     pub alike : TermsAlike facts known area m term u
 
   pub store_home_alike : (a : ActShape) (z : Size) (j : ℕ) (u : Shape) → ActsAlike facts known area m a (StoreHome z j u) → IsStoreHome a z j u
-  store_home_alike (Value x) z j u h = absurd h
-  store_home_alike (Number x) z j u h = absurd h
-  store_home_alike (Address x) z j u h = absurd h
-  store_home_alike (PlaceHome xz xi) z j u h = absurd h
-  store_home_alike (PlaceAt xz x) z j u h = absurd h
   store_home_alike (StoreHome xz xi x) z j u h = record { symbol = xi; term = x; is = ap (λ y. StoreHome y xi x) h.0; same = h.1; alike = h.2 }
-  store_home_alike (StoreAt xz xa x) z j u h = absurd h
-  store_home_alike (Branch xi xa x) z j u h = absurd h
-  store_home_alike (Push x) z j u h = absurd h
-  store_home_alike Call z j u h = absurd h
-  store_home_alike (Save xi) z j u h = absurd h
-  store_home_alike (Return x) z j u h = absurd h
-  store_home_alike Jump z j u h = absurd h
+  store_home_alike _ z j u h = absurd h
 
   pub record IsStoreAt (a : ActShape) (z : Size) (b u : Shape) : Type 0 where
     pub address : Shape
@@ -399,19 +169,8 @@ module _ (every : Bool) (v : View) (known : ℕ → Bool) (is_known : (i : ℕ) 
     pub alike : TermsAlike facts known area m term u
 
   pub store_at_alike : (a : ActShape) (z : Size) (b u : Shape) → ActsAlike facts known area m a (StoreAt z b u) → IsStoreAt a z b u
-  store_at_alike (Value x) z b u h = absurd h
-  store_at_alike (Number x) z b u h = absurd h
-  store_at_alike (Address x) z b u h = absurd h
-  store_at_alike (PlaceHome xz xi) z b u h = absurd h
-  store_at_alike (PlaceAt xz x) z b u h = absurd h
-  store_at_alike (StoreHome xz xi x) z b u h = absurd h
   store_at_alike (StoreAt xz xa x) z b u h = record { address = xa; term = x; is = ap (λ y. StoreAt y xa x) h.0; at_alike = h.1; alike = h.2 }
-  store_at_alike (Branch xi xa x) z b u h = absurd h
-  store_at_alike (Push x) z b u h = absurd h
-  store_at_alike Call z b u h = absurd h
-  store_at_alike (Save xi) z b u h = absurd h
-  store_at_alike (Return x) z b u h = absurd h
-  store_at_alike Jump z b u h = absurd h
+  store_at_alike _ z b u h = absurd h
 
   pub record IsBranch (a : ActShape) (i : ℕ) (b u : Shape) : Type 0 where
     pub left : Shape
@@ -421,19 +180,8 @@ module _ (every : Bool) (v : View) (known : ℕ → Bool) (is_known : (i : ℕ) 
     pub right_alike : TermsAlike facts known area m right u
 
   pub branch_alike : (a : ActShape) (i : ℕ) (b u : Shape) → ActsAlike facts known area m a (Branch i b u) → IsBranch a i b u
-  branch_alike (Value x) i b u h = absurd h
-  branch_alike (Number x) i b u h = absurd h
-  branch_alike (Address x) i b u h = absurd h
-  branch_alike (PlaceHome xz xi) i b u h = absurd h
-  branch_alike (PlaceAt xz x) i b u h = absurd h
-  branch_alike (StoreHome xz xi x) i b u h = absurd h
-  branch_alike (StoreAt xz xa x) i b u h = absurd h
   branch_alike (Branch xi xa x) i b u h = record { left = xa; right = x; is = ap (λ y. Branch y xa x) h.0; left_alike = h.1; right_alike = h.2 }
-  branch_alike (Push x) i b u h = absurd h
-  branch_alike Call i b u h = absurd h
-  branch_alike (Save xi) i b u h = absurd h
-  branch_alike (Return x) i b u h = absurd h
-  branch_alike Jump i b u h = absurd h
+  branch_alike _ i b u h = absurd h
 
   pub record IsPush (a : ActShape) (u : Shape) : Type 0 where
     pub term : Shape
@@ -441,19 +189,8 @@ module _ (every : Bool) (v : View) (known : ℕ → Bool) (is_known : (i : ℕ) 
     pub alike : TermsAlike facts known area m term u
 
   pub push_alike : (a : ActShape) (u : Shape) → ActsAlike facts known area m a (Push u) → IsPush a u
-  push_alike (Value x) u h = absurd h
-  push_alike (Number x) u h = absurd h
-  push_alike (Address x) u h = absurd h
-  push_alike (PlaceHome xz xi) u h = absurd h
-  push_alike (PlaceAt xz x) u h = absurd h
-  push_alike (StoreHome xz xi x) u h = absurd h
-  push_alike (StoreAt xz xa x) u h = absurd h
-  push_alike (Branch xi xa x) u h = absurd h
   push_alike (Push x) u h = record { term = x; is = refl; alike = h }
-  push_alike Call u h = absurd h
-  push_alike (Save xi) u h = absurd h
-  push_alike (Return x) u h = absurd h
-  push_alike Jump u h = absurd h
+  push_alike _ u h = absurd h
 
   pub record IsReturn (a : ActShape) (u : Shape) : Type 0 where
     pub term : Shape
@@ -461,64 +198,20 @@ module _ (every : Bool) (v : View) (known : ℕ → Bool) (is_known : (i : ℕ) 
     pub alike : TermsAlike facts known area m term u
 
   pub return_alike : (a : ActShape) (u : Shape) → ActsAlike facts known area m a (Return u) → IsReturn a u
-  return_alike (Value x) u h = absurd h
-  return_alike (Number x) u h = absurd h
-  return_alike (Address x) u h = absurd h
-  return_alike (PlaceHome xz xi) u h = absurd h
-  return_alike (PlaceAt xz x) u h = absurd h
-  return_alike (StoreHome xz xi x) u h = absurd h
-  return_alike (StoreAt xz xa x) u h = absurd h
-  return_alike (Branch xi xa x) u h = absurd h
-  return_alike (Push x) u h = absurd h
-  return_alike Call u h = absurd h
-  return_alike (Save xi) u h = absurd h
   return_alike (Return x) u h = record { term = x; is = refl; alike = h }
-  return_alike Jump u h = absurd h
+  return_alike _ u h = absurd h
 
   pub call_alike : (a : ActShape) → ActsAlike facts known area m a Call → a ≡ Call
-  call_alike (Value x) h = absurd h
-  call_alike (Number x) h = absurd h
-  call_alike (Address x) h = absurd h
-  call_alike (PlaceHome xz xi) h = absurd h
-  call_alike (PlaceAt xz x) h = absurd h
-  call_alike (StoreHome xz xi x) h = absurd h
-  call_alike (StoreAt xz xa x) h = absurd h
-  call_alike (Branch xi xa x) h = absurd h
-  call_alike (Push x) h = absurd h
   call_alike Call h = refl
-  call_alike (Save xi) h = absurd h
-  call_alike (Return x) h = absurd h
-  call_alike Jump h = absurd h
+  call_alike _ h = absurd h
 
   pub jump_alike : (a : ActShape) → ActsAlike facts known area m a Jump → a ≡ Jump
-  jump_alike (Value x) h = absurd h
-  jump_alike (Number x) h = absurd h
-  jump_alike (Address x) h = absurd h
-  jump_alike (PlaceHome xz xi) h = absurd h
-  jump_alike (PlaceAt xz x) h = absurd h
-  jump_alike (StoreHome xz xi x) h = absurd h
-  jump_alike (StoreAt xz xa x) h = absurd h
-  jump_alike (Branch xi xa x) h = absurd h
-  jump_alike (Push x) h = absurd h
-  jump_alike Call h = absurd h
-  jump_alike (Save xi) h = absurd h
-  jump_alike (Return x) h = absurd h
   jump_alike Jump h = refl
+  jump_alike _ h = absurd h
 
   pub save_alike : (a : ActShape) (i : ℕ) → ActsAlike facts known area m a (Save i) → a ≡ Save i
-  save_alike (Value x) i h = absurd h
-  save_alike (Number x) i h = absurd h
-  save_alike (Address x) i h = absurd h
-  save_alike (PlaceHome xz xi) i h = absurd h
-  save_alike (PlaceAt xz x) i h = absurd h
-  save_alike (StoreHome xz xi x) i h = absurd h
-  save_alike (StoreAt xz xa x) i h = absurd h
-  save_alike (Branch xi xa x) i h = absurd h
-  save_alike (Push x) i h = absurd h
-  save_alike Call i h = absurd h
   save_alike (Save xi) i h = ap Save h
-  save_alike (Return x) i h = absurd h
-  save_alike Jump i h = absurd h
+  save_alike _ i h = absurd h
 
 -- no divisor is zero
 no_zero : (v : View) (ds : List Shape) → divides_by_zero (term_state v) ds ≡ false → All (λ (x : Shape). value v x ≡ 0 → ⊥) ds
@@ -532,23 +225,14 @@ pub divides_none : (v : View) (e : EffectShape) → divides_by_zero (term_state 
 divides_none v e h = no_zero v e.divisors h
 
 att_spelled : {O I S F : Type 0} (of : Meaning O I S F) (q : TreeProgram) (x : Tok) (a : Att) (o : O) (m : S) → token_operand of x a ≡ Some o → token_worth of q x a m ≡ of.reads o Long m
-att_spelled of q x att.Nothing o m e = absurd (none-some o e)
-att_spelled of q x (att.Number n) o m e = absurd (none-some o e)
-att_spelled of q x (att.Object object offset) o m e = absurd (none-some o e)
 att_spelled of q x (att.Slot k) o m e = ap (λ w. read_of of w Long m) e
-att_spelled of q x (att.Branch rel label) o m e = absurd (none-some o e)
-att_spelled of q x (att.Label label) o m e = absurd (none-some o e)
-att_spelled of q x (att.Callee function count) o m e = absurd (none-some o e)
+att_spelled of q x _ o m e = absurd (none-some o e)
 
 att_constant : {O I S F : Type 0} (of : Meaning O I S F) (q : TreeProgram) (d : Content) (first : ℕ) (x : Tok) (a : Att) (n : ℕ) (m : S) → token_number q a ≡ Some n
     → token_worth of q x a m ≡ Some n
-att_constant of q d first x att.Nothing n m e = absurd (none-some n e)
 att_constant of q d first x (att.Number k) n m e = e
 att_constant of q d first x (att.Object object offset) n m e = e
-att_constant of q d first x (att.Slot k) n m e = absurd (none-some n e)
-att_constant of q d first x (att.Branch rel label) n m e = absurd (none-some n e)
-att_constant of q d first x (att.Label label) n m e = absurd (none-some n e)
-att_constant of q d first x (att.Callee function count) n m e = absurd (none-some n e)
+att_constant of q d first x _ n m e = absurd (none-some n e)
 
 pub attribute_suc : {X : Type 0} (xs : List X) (j : ℕ) → attribute_at xs (suc j) ≡ slice_get xs j
 attribute_suc xs j = by (suc j == 0) refl where
@@ -561,12 +245,10 @@ module _ {O I S F : Type 0} (of : Meaning O I S F) (law : IsLawful of) (q : Tree
   -- what is spelled is what is read
   class_spelled : (k : Option Kind) (a : Attr O) (v : Sense) (o : O) (z : Size) → ClassIs of q d first f fs t s m0 m k a v → spelled of a ≡ Some o → size_of_entry k ≡ Some z
       → worth of q (size_of_kind k) a m ≡ of.reads o z m
-  class_spelled k a v o z (stands.register r x lt is) e g = absurd (none-some o e)
-  class_spelled k a v o z (stands.in_slot w x le lt is) e g = absurd (none-some o e)
   class_spelled k a v o z (stands.value z' o' x fits is) e g = ap (λ p. of.reads p z' m) (same_Some o' o e) ∙ ap (λ y. of.reads o y m) (same_Some z' z g)
   class_spelled k a v o z (stands.place z' o' g' fits is) e g = ap (λ p. of.reads p z' m) (same_Some o' o e) ∙ ap (λ y. of.reads o y m) (same_Some z' z g)
-  class_spelled k a v o z (stands.number x lt) e g = absurd (none-some o e)
   class_spelled k a v o z (stands.address o' x fits is) e g = absurd (none-some z g)
+  class_spelled k a v o z _ e g = absurd (none-some o e)
 
   symbol_spelled : (x : Sym) (k : Option Kind) (a : Attr O) (v : Sense) (o : O) (z : Size) → SymbolIs of q d first f fs t s m0 m x k a v → spelled of a ≡ Some o → size_of_entry k ≡ Some z
       → worth of q (size_of_symbol d.classes x) a m ≡ of.reads o z m
@@ -574,14 +256,9 @@ module _ {O I S F : Type 0} (of : Meaning O I S F) (law : IsLawful of) (q : Tree
   symbol_spelled x k a v o z (stands.class c a' v' is) e g = class_spelled (kind_at d.classes c) a v o z is e g
 
   constant_worth : (z : Size) (a : Attr O) (n : ℕ) → constant_of q a ≡ Some n → worth of q z a m ≡ Some n
-  constant_worth z (attr.Reg r) n e = absurd (none-some n e)
-  constant_worth z (attr.InSlot w) n e = absurd (none-some n e)
-  constant_worth z (attr.Value o) n e = absurd (none-some n e)
-  constant_worth z (attr.Place o) n e = absurd (none-some n e)
   constant_worth z (attr.Con x) n e = e
-  constant_worth z (attr.Ea o) n e = absurd (none-some n e)
   constant_worth z (attr.Token l) n e = att_constant of q d first l.tok l.att n m e
-  constant_worth z attr.Nothing n e = absurd (none-some n e)
+  constant_worth z _ n e = absurd (none-some n e)
 
   -- an entry at its place
   record Entered (es : List (Entry O)) (right : List Sym) (j : ℕ) (e : Entry O) : Type 0 where
@@ -593,11 +270,9 @@ module _ {O I S F : Type 0} (of : Meaning O I S F) (law : IsLawful of) (q : Tree
   entered : (es : List (Entry O)) (right : List Sym) (vs : List Sense) (j : ℕ) (e : Entry O) → Hold of law q d first f fs t s m0 frame m sees es right vs → slice_get es j ≡ Some e
       → Entered es right j e
   entered [] right vs j e holds at = absurd (none-some e at)
-  entered (e' ∷ es) [] [] j e holds at = absurd holds
-  entered (e' ∷ es) [] (v ∷ vs) j e holds at = absurd holds
-  entered (e' ∷ es) (x ∷ xs) [] j e holds at = absurd holds
   entered (e' ∷ es) (x ∷ xs) (v ∷ vs) zero e holds at = subst (λ w. Entered (e' ∷ es) (x ∷ xs) zero w) (same_Some e' e at) (record { symbol = x; sense = v; is = holds.0; worth_is = refl })
   entered (e' ∷ es) (x ∷ xs) (v ∷ vs) (suc j) e holds at = (let r = entered es xs vs j e holds.1 at in record { symbol = r.symbol; sense = r.sense; is = r.is; worth_is = r.worth_is })
+  entered _ _ _ j e holds at = absurd holds
 
   record SpelledSame (a b : Option O) : Type 0 where
     operand : O

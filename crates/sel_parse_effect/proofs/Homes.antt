@@ -93,65 +93,11 @@ module _ {O I S F : Type 0} (of : Meaning O I S F) (law : IsLawful of) (q : Tree
   token_place m tok.Two a z g named e is = absurd (no_place (values.Number 2) z g e is)
   token_place m tok.Four a z g named e is = absurd (no_place (values.Number 4) z g e is)
   token_place m tok.Eight a z g named e is = absurd (no_place (values.Number 8) z g e is)
-  token_place m tok.Const att.Nothing z g named e is = absurd (no_place values.Wild z g e is)
   token_place m tok.Const (att.Number n) z g named e is = absurd (no_place (values.Number n) z g e is)
-  token_place m tok.Const (att.Object object offset) z g named e is = absurd (no_place values.Wild z g e is)
-  token_place m tok.Const (att.Slot k) z g named e is = absurd (no_place values.Wild z g e is)
-  token_place m tok.Const (att.Branch rel label) z g named e is = absurd (no_place values.Wild z g e is)
-  token_place m tok.Const (att.Label label) z g named e is = absurd (no_place values.Wild z g e is)
-  token_place m tok.Const (att.Callee function count) z g named e is = absurd (no_place values.Wild z g e is)
-  token_place m tok.Gaddr att.Nothing z g named e is = absurd (no_place values.Wild z g e is)
-  token_place m tok.Gaddr (att.Number n) z g named e is = absurd (no_place values.Wild z g e is)
   token_place m tok.Gaddr (att.Object object offset) z g named e is = absurd (no_place (trees.address_of (slice_get q.objects object) offset) z g e is)
-  token_place m tok.Gaddr (att.Slot k) z g named e is = absurd (no_place values.Wild z g e is)
-  token_place m tok.Gaddr (att.Branch rel label) z g named e is = absurd (no_place values.Wild z g e is)
-  token_place m tok.Gaddr (att.Label label) z g named e is = absurd (no_place values.Wild z g e is)
-  token_place m tok.Gaddr (att.Callee function count) z g named e is = absurd (no_place values.Wild z g e is)
-  token_place m tok.Loc att.Nothing z g named e is = absurd (no_place values.Wild z g e is)
-  token_place m tok.Loc (att.Number n) z g named e is = absurd (no_place values.Wild z g e is)
-  token_place m tok.Loc (att.Object object offset) z g named e is = absurd (no_place values.Wild z g e is)
   token_place m tok.Loc (att.Slot k) z g named e is = local_place m k z g named e is
-  token_place m tok.Loc (att.Branch rel label) z g named e is = absurd (no_place values.Wild z g e is)
-  token_place m tok.Loc (att.Label label) z g named e is = absurd (no_place values.Wild z g e is)
-  token_place m tok.Loc (att.Callee function count) z g named e is = absurd (no_place values.Wild z g e is)
-  token_place m tok.Arg att.Nothing z g named e is = absurd (no_place values.Wild z g e is)
-  token_place m tok.Arg (att.Number n) z g named e is = absurd (no_place values.Wild z g e is)
-  token_place m tok.Arg (att.Object object offset) z g named e is = absurd (no_place values.Wild z g e is)
   token_place m tok.Arg (att.Slot k) z g named e is = argument_place m k z g named.0 named.1 e is
-  token_place m tok.Arg (att.Branch rel label) z g named e is = absurd (no_place values.Wild z g e is)
-  token_place m tok.Arg (att.Label label) z g named e is = absurd (no_place values.Wild z g e is)
-  token_place m tok.Arg (att.Callee function count) z g named e is = absurd (no_place values.Wild z g e is)
-  token_place m tok.IndirB a z g named e is = absurd (no_place values.Wild z g e is)
-  token_place m tok.IndirW a z g named e is = absurd (no_place values.Wild z g e is)
-  token_place m tok.IndirL a z g named e is = absurd (no_place values.Wild z g e is)
-  token_place m tok.Plus a z g named e is = absurd (no_place values.Wild z g e is)
-  token_place m tok.Minus a z g named e is = absurd (no_place values.Wild z g e is)
-  token_place m tok.Mul a z g named e is = absurd (no_place values.Wild z g e is)
-  token_place m tok.Div a z g named e is = absurd (no_place values.Wild z g e is)
-  token_place m tok.Mod a z g named e is = absurd (no_place values.Wild z g e is)
-  token_place m tok.And a z g named e is = absurd (no_place values.Wild z g e is)
-  token_place m tok.Or a z g named e is = absurd (no_place values.Wild z g e is)
-  token_place m tok.Xor a z g named e is = absurd (no_place values.Wild z g e is)
-  token_place m tok.Lsh a z g named e is = absurd (no_place values.Wild z g e is)
-  token_place m tok.Rsh a z g named e is = absurd (no_place values.Wild z g e is)
-  token_place m tok.Neg a z g named e is = absurd (no_place values.Wild z g e is)
-  token_place m tok.Com a z g named e is = absurd (no_place values.Wild z g e is)
-  token_place m tok.Sxb a z g named e is = absurd (no_place values.Wild z g e is)
-  token_place m tok.Zxb a z g named e is = absurd (no_place values.Wild z g e is)
-  token_place m tok.Sxw a z g named e is = absurd (no_place values.Wild z g e is)
-  token_place m tok.Zxw a z g named e is = absurd (no_place values.Wild z g e is)
-  token_place m tok.Ncb a z g named e is = absurd (no_place values.Wild z g e is)
-  token_place m tok.Ncw a z g named e is = absurd (no_place values.Wild z g e is)
-  token_place m tok.AssignB a z g named e is = absurd (no_place values.Wild z g e is)
-  token_place m tok.AssignW a z g named e is = absurd (no_place values.Wild z g e is)
-  token_place m tok.AssignL a z g named e is = absurd (no_place values.Wild z g e is)
-  token_place m tok.Cbr a z g named e is = absurd (no_place values.Wild z g e is)
-  token_place m tok.Push a z g named e is = absurd (no_place values.Wild z g e is)
-  token_place m tok.Ret a z g named e is = absurd (no_place values.Wild z g e is)
-  token_place m tok.Call a z g named e is = absurd (no_place values.Wild z g e is)
-  token_place m tok.Save a z g named e is = absurd (no_place values.Wild z g e is)
-  token_place m tok.Jump a z g named e is = absurd (no_place values.Wild z g e is)
-  token_place m tok.End a z g named e is = absurd (no_place values.Wild z g e is)
+  token_place m _ _ z g named e is = absurd (no_place values.Wild z g e is)
 
   size_of_place : (m : S) (z y : Size) (o : O) (g : Place) → PlaceIs of f t m y o g → IsPlace z g → z ≡ y
   size_of_place m z y o g (local k long is lt low) h = h ∙ sym long
@@ -160,15 +106,11 @@ module _ {O I S F : Type 0} (of : Meaning O I S F) (law : IsLawful of) (q : Tree
 
   class_place : (m : S) (k : Option Kind) (a : Attr O) (v : Sense) (z : Size) (g : Place) → ClassIs of q d first f fs t s m0 m k a v
       → means q.objects s v ≡ g → IsPlace z g → Stood m z (own_operand of a) g × (size_of_entry k ≡ Some z)
-  class_place m k a v z g (stands.register r n lt is) e h = absurd (no_place (values.Number n) z g e h)
-  class_place m k a v z g (stands.in_slot w n le lt is) e h = absurd (no_place (values.Number n) z g e h)
-  class_place m k a v z g (stands.value y o n fits is) e h = absurd (no_place (values.Number n) z g e h)
   class_place m k a v z g (stands.place y o p fits is) e h =
       let place = subst (PlaceIs of f t m y o) e is in
       let same = size_of_place m z y o g place h in
       (record { operand = o; is = refl; place = subst (λ w. PlaceIs of f t m w o g) (sym same) place }, ap Some (sym same))
-  class_place m k a v z g (stands.number n lt) e h = absurd (no_place (values.Number n) z g e h)
-  class_place m k a v z g (stands.address o n fits is) e h = absurd (no_place (values.Number n) z g e h)
+  class_place m k a v z g _ e h = absurd (no_place (values.Number n) z g e h)
 
   -- a symbol that stands for a place has an operand that does
   symbol_place : (m : S) (x : Sym) (k : Option Kind) (a : Attr O) (v : Sense) (z : Size) (g : Place) → IsSymbol m x k a v
@@ -178,36 +120,23 @@ module _ {O I S F : Type 0} (of : Meaning O I S F) (law : IsLawful of) (q : Tree
 
   class_sized : (m : S) (c : ℕ) (k : Option Kind) (a : Attr O) (v : Sense) (z : Size) → ClassIs of q d first f fs t s m0 m k a v → size_of_entry k ≡ Some z
       → Rattle.sel_terms.specs.RuleFacts.size_of_kind k ≡ z
-  class_sized m c k a v z (stands.register r n lt is) e = absurd (none-some z e)
-  class_sized m c k a v z (stands.in_slot w n le lt is) e = absurd (none-some z e)
   class_sized m c k a v z (stands.value y o n fits is) e = same_Some y z e
   class_sized m c k a v z (stands.place y o p fits is) e = same_Some y z e
-  class_sized m c k a v z (stands.number n lt) e = absurd (none-some z e)
-  class_sized m c k a v z (stands.address o n fits is) e = absurd (none-some z e)
+  class_sized m c k a v z _ e = absurd (none-some z e)
 
   symbol_sized : (m : S) (x : Sym) (k : Option Kind) (a : Attr O) (v : Sense) (z : Size) → IsSymbol m x k a v → size_of_entry k ≡ Some z → size_of_symbol d.classes x ≡ z
   symbol_sized m x k a v z (stands.token l fit named) e = same_Some Long z e
   symbol_sized m x k a v z (stands.class c a' v' is) e = class_sized m c (kind_at d.classes c) a v z is e
 
   spelled_own : (a : Attr O) (o p : O) → spelled of a ≡ Some o → own_operand of a ≡ Some p → o ≡ p
-  spelled_own (attr.Reg r) o p e g = absurd (none-some p g)
-  spelled_own (attr.InSlot w) o p e g = absurd (none-some p g)
-  spelled_own (attr.Value x) o p e g = absurd (none-some p g)
   spelled_own (attr.Place x) o p e g = same_Some o p (sym e ∙ g)
-  spelled_own (attr.Con n) o p e g = absurd (none-some p g)
-  spelled_own (attr.Ea x) o p e g = absurd (none-some p g)
   spelled_own (attr.Token l) o p e g = same_Some o p (sym e ∙ g)
-  spelled_own attr.Nothing o p e g = absurd (none-some p g)
+  spelled_own _ o p e g = absurd (none-some p g)
 
   own_spelled : (a : Attr O) (o : O) → own_operand of a ≡ Some o → spelled of a ≡ Some o
-  own_spelled (attr.Reg r) o e = absurd (none-some o e)
-  own_spelled (attr.InSlot w) o e = absurd (none-some o e)
-  own_spelled (attr.Value x) o e = absurd (none-some o e)
   own_spelled (attr.Place x) o e = e
-  own_spelled (attr.Con n) o e = absurd (none-some o e)
-  own_spelled (attr.Ea x) o e = absurd (none-some o e)
   own_spelled (attr.Token l) o e = e
-  own_spelled attr.Nothing o e = absurd (none-some o e)
+  own_spelled _ o e = absurd (none-some o e)
 
   abbrev spelling : Entry O → Spelling O
   spelling e = record { size = size_of_entry e.kind; operand = spelled of e.attr }
@@ -251,25 +180,19 @@ module _ {O I S F : Type 0} (of : Meaning O I S F) (law : IsLawful of) (q : Tree
   at_place : (m : S) (es : List (Entry O)) (right : List Sym) (vs : List Sense) (j : ℕ) (e : Entry O) → Holds of q d first f fs t s m0 m es right vs
       → slice_get es j ≡ Some e → AtPlace m right vs j e
   at_place m [] right vs j e holds at = absurd (none-some e at)
-  at_place m (b ∷ es) [] [] j e holds at = absurd holds
-  at_place m (b ∷ es) [] (v ∷ vs) j e holds at = absurd holds
-  at_place m (b ∷ es) (x ∷ xs) [] j e holds at = absurd holds
   at_place m (b ∷ es) (x ∷ xs) (v ∷ vs) zero e holds at =
       subst (AtPlace m (x ∷ xs) (v ∷ vs) zero) (same_Some b e at) (record { symbol = x; sense = v; there = refl; sensed = refl; is = holds.0 })
   at_place m (b ∷ es) (x ∷ xs) (v ∷ vs) (suc j) e holds at =
       let r = at_place m es xs vs j e holds.1 at in
       record { symbol = r.symbol; sense = r.sense; there = r.there; sensed = r.sensed; is = r.is }
+  at_place m _ _ _ j e holds at = absurd holds
 
   none_place : (m : S) (es : List (Entry O)) (right : List Sym) (vs : List Sense) (j : ℕ) → Holds of q d first f fs t s m0 m es right vs → slice_get es j ≡ None
       → slice_index_or vs j unknown ≡ unknown
   none_place m [] [] [] j holds at = refl
-  none_place m [] [] (v ∷ vs) j holds at = absurd holds
-  none_place m [] (x ∷ xs) vs j holds at = absurd holds
-  none_place m (b ∷ es) [] [] j holds at = absurd holds
-  none_place m (b ∷ es) [] (v ∷ vs) j holds at = absurd holds
-  none_place m (b ∷ es) (x ∷ xs) [] j holds at = absurd holds
   none_place m (b ∷ es) (x ∷ xs) (v ∷ vs) zero holds at = absurd (cc)
   none_place m (b ∷ es) (x ∷ xs) (v ∷ vs) (suc j) holds at = none_place m es xs vs j holds.1 at
+  none_place m _ _ _ j holds at = absurd holds
 
   -- at the choice, a symbol spells an operand that stands for the place
   pub record HomeFound (m : S) (es : List (Entry O)) (i : ℕ) (z : Size) (g : Place) : Type 0 where

@@ -83,13 +83,8 @@ module _ {O I S F : Type 0} (of : Meaning O I S F) (law : IsLawful of) (stores :
   -- ---- a rule that begins with Save looks at the last call's result: nothing has been run before it
 
   slot_att : (a : Att) → is_of_kind (attribute_of tok.Save) a ≡ true → NamedBy of q d first f fs t s m0 tok.Save a → of.answer m0 ≡ t.running.result
-  slot_att att.Nothing e h = absurd (cc)
-  slot_att (att.Number n) e h = absurd (cc)
-  slot_att (att.Object object offset) e h = absurd (cc)
   slot_att (att.Slot k) e h = h.1
-  slot_att (att.Branch rel label) e h = absurd (cc)
-  slot_att (att.Label label) e h = absurd (cc)
-  slot_att (att.Callee function count) e h = absurd (cc)
+  slot_att _ e h = absurd (cc)
 
   -- the one entry of such a rule
   record SaveEntry (a : Attr O) : Type 0 where
@@ -113,14 +108,12 @@ module _ {O I S F : Type 0} (of : Meaning O I S F) (law : IsLawful of) (stores :
     save : SaveEntry entry.attr
 
   one_entry : (m : S) (es : List (Entry O)) (right : List Sym) (vs : List Sense) → Holds of q d first f fs t s m0 m es right vs → right ≡ grammar_symbol.Tok tok.Save ∷ [] → OneEntry es
-  one_entry m [] [] vs h e = absurd (cc)
   one_entry m [] (x ∷ xs) vs h e = absurd h
-  one_entry m (b ∷ es) [] vs h e = absurd (cc)
   one_entry m (b ∷ es) (x ∷ xs) [] h e = absurd h
   one_entry m (b ∷ c ∷ es) (x ∷ []) (v ∷ []) h e = absurd h.1
   one_entry m (b ∷ c ∷ es) (x ∷ []) (v ∷ w ∷ vs) h e = absurd h.1
-  one_entry m (b ∷ es) (x ∷ y ∷ xs) (v ∷ vs) h e = absurd (cc)
   one_entry m (b ∷ []) (x ∷ []) (v ∷ vs) h e = record { entry = b; is = refl; save = save_symbol m x b.kind b.attr v h.0 (let g : x ≡ grammar_symbol.Tok tok.Save = cc in g) }
+  one_entry m _ _ _ h e = absurd (cc)
 
   none_below : (m : S) (es : List (Entry O)) → Holds of q d first f fs t s m0 m es [] [] → es ≡ []
   none_below m [] h = refl

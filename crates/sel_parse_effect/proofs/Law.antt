@@ -110,18 +110,7 @@ gives_value facts (Value t) e = record { term = t; is = refl; alike = sym (one (
   where
     one : (t u : Shape) → Value t ≡ Value u → t ≡ u
     one t u e = cc
-gives_value facts (Number t) e = absurd (cc)
-gives_value facts (Address t) e = absurd (cc)
-gives_value facts (PlaceHome z i) e = absurd (cc)
-gives_value facts (PlaceAt z a) e = absurd (cc)
-gives_value facts (StoreHome z i t) e = absurd (cc)
-gives_value facts (StoreAt z a t) e = absurd (cc)
-gives_value facts (Branch i a b) e = absurd (cc)
-gives_value facts (Push t) e = absurd (cc)
-gives_value facts Call e = absurd (cc)
-gives_value facts (Save i) e = absurd (cc)
-gives_value facts (Return t) e = absurd (cc)
-gives_value facts Jump e = absurd (cc)
+gives_value facts _ e = absurd (cc)
 
 -- the slot is the only symbol that is spelled as the slot
 slot_first : (k : Kind) (i : ℕ) → same_as (saved_facts k) i ≡ 0 → i ≡ 0
@@ -228,34 +217,10 @@ module _ {O I S F : Type 0} (of : Meaning O I S F) (law : IsLawful of) (q : Tree
   is_there tok.Two a fit named = tt
   is_there tok.Four a fit named = tt
   is_there tok.Eight a fit named = tt
-  is_there tok.Const att.Nothing fit named = absurd (cc)
   is_there tok.Const (att.Number n) fit named = λ e. cc
-  is_there tok.Const (att.Object object offset) fit named = absurd (cc)
-  is_there tok.Const (att.Slot k) fit named = absurd (cc)
-  is_there tok.Const (att.Branch rel label) fit named = absurd (cc)
-  is_there tok.Const (att.Label label) fit named = absurd (cc)
-  is_there tok.Const (att.Callee function count) fit named = absurd (cc)
-  is_there tok.Gaddr att.Nothing fit named = absurd (cc)
-  is_there tok.Gaddr (att.Number n) fit named = absurd (cc)
   is_there tok.Gaddr (att.Object object offset) fit named = λ e. address_there (slice_get q.objects object) offset named e
-  is_there tok.Gaddr (att.Slot k) fit named = absurd (cc)
-  is_there tok.Gaddr (att.Branch rel label) fit named = absurd (cc)
-  is_there tok.Gaddr (att.Label label) fit named = absurd (cc)
-  is_there tok.Gaddr (att.Callee function count) fit named = absurd (cc)
-  is_there tok.Loc att.Nothing fit named = absurd (cc)
-  is_there tok.Loc (att.Number n) fit named = absurd (cc)
-  is_there tok.Loc (att.Object object offset) fit named = absurd (cc)
   is_there tok.Loc (att.Slot k) fit named = λ e. some_there ((frame_sight of f t m).locals k) (local_seen k named) e
-  is_there tok.Loc (att.Branch rel label) fit named = absurd (cc)
-  is_there tok.Loc (att.Label label) fit named = absurd (cc)
-  is_there tok.Loc (att.Callee function count) fit named = absurd (cc)
-  is_there tok.Arg att.Nothing fit named = absurd (cc)
-  is_there tok.Arg (att.Number n) fit named = absurd (cc)
-  is_there tok.Arg (att.Object object offset) fit named = absurd (cc)
   is_there tok.Arg (att.Slot k) fit named = λ e. some_there (slice_get t.running.arguments (k - 1)) (argument_seen k named.0 named.1) e
-  is_there tok.Arg (att.Branch rel label) fit named = absurd (cc)
-  is_there tok.Arg (att.Label label) fit named = absurd (cc)
-  is_there tok.Arg (att.Callee function count) fit named = absurd (cc)
   is_there tok.IndirB a fit named = tt
   is_there tok.IndirW a fit named = tt
   is_there tok.IndirL a fit named = tt
@@ -287,6 +252,7 @@ module _ {O I S F : Type 0} (of : Meaning O I S F) (law : IsLawful of) (q : Tree
   is_there tok.Save a fit named = tt
   is_there tok.Jump a fit named = tt
   is_there tok.End a fit named = tt
+  is_there _ _ fit named = absurd (cc)
 
   abbrev IsGood : Leaf → Type 0
   IsGood l = (leaf_fits l ≡ true) × Names of q d first f fs t (frame_sight of f t m) m l

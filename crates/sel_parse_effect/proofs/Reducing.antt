@@ -48,22 +48,12 @@ use Rattle.sel_parse_effect.proofs.Giving as giving
 use Rattle.sel_parse_effect.proofs.Giving.{Later, Shaped}
 
 pub reg_is : (k : Option Kind) → is_reg k ≡ true → k ≡ Some kind.Reg
-reg_is None e = absurd (cc)
 reg_is (Some kind.Reg) e = refl
-reg_is (Some (kind.Value z)) e = absurd (cc)
-reg_is (Some (kind.Place z)) e = absurd (cc)
-reg_is (Some kind.Con) e = absurd (cc)
-reg_is (Some kind.Ea) e = absurd (cc)
-reg_is (Some kind.Nothing) e = absurd (cc)
+reg_is _ e = absurd (cc)
 
 pub nothing_is : (k : Option Kind) → is_nothing k ≡ true → k ≡ Some kind.Nothing
-nothing_is None e = absurd (cc)
-nothing_is (Some kind.Reg) e = absurd (cc)
-nothing_is (Some (kind.Value z)) e = absurd (cc)
-nothing_is (Some (kind.Place z)) e = absurd (cc)
-nothing_is (Some kind.Con) e = absurd (cc)
-nothing_is (Some kind.Ea) e = absurd (cc)
 nothing_is (Some kind.Nothing) e = refl
+nothing_is _ e = absurd (cc)
 
 pub bound : {X Y : Type 0} (o : Outcome X) (go : X → Outcome Y) (y : Y) → bind o go ≡ Done y → (x : X) × (o ≡ Done x) × (go x ≡ Done y)
 bound Full go y e = absurd (full_done y e)
@@ -77,11 +67,8 @@ module _ {O I S F : Type 0} (of : Meaning O I S F) (law : IsLawful of) (q : Tree
 
   all_same : (m : S) (xs : List Sym) (es : List (Entry O)) (vs : List Sense) → Holds of q d first f fs t s m0 m es xs vs → AllCarried of q d f t m m xs es es
   all_same m [] [] [] h = tt
-  all_same m [] [] (v ∷ vs) h = absurd h
-  all_same m [] (e ∷ es) vs h = absurd h
-  all_same m (x ∷ xs) [] vs h = absurd h
-  all_same m (x ∷ xs) (e ∷ es) [] h = absurd h
   all_same m (x ∷ xs) (e ∷ es) (v ∷ vs) h = (same_state of q d f t m _ e.attr, all_same m xs es vs h.1)
+  all_same m _ _ _ h = absurd h
 
   -- One reduction by a rule whose effect is shown, from a stack that stands for senses.
   module _ (rule : Rule) (is_rule : IsRule d.classes rule) (shown : IsShown of.effect (count_ones d.pool) d.classes rule) (x : Stack O I) (a : List Sym) (us vs : List Sense)

@@ -87,14 +87,8 @@ at_suc right j = by (suc j == 0) refl
     by false e = ap (λ b. cond b None (slice_get right (suc j - 1))) e ∙ ap (slice_get right) (let back : suc j - 1 ≡ j = omega arith in back)
 
 pub one_hole : (right : List Sym) (ps : List Piece) (x : Sym) → only_symbol right ps ≡ Some x → OneHole right ps (Some x)
-one_hole right [] x e = absurd (none-some x e)
-one_hole right (piece.Hole zero ∷ []) x e = absurd (none-some x e)
 one_hole right (piece.Hole (suc j) ∷ []) x e = record { index = j; is = refl; there = sym (at_suc right j) ∙ e }
-one_hole right (piece.Hole i ∷ p ∷ ps) x e = absurd (none-some x e)
-one_hole right (piece.Bytes w ∷ ps) x e = absurd (none-some x e)
-one_hole right (piece.Label ∷ ps) x e = absurd (none-some x e)
-one_hole right (piece.Callee ∷ ps) x e = absurd (none-some x e)
-one_hole right (piece.Count ∷ ps) x e = absurd (none-some x e)
+one_hole right _ x e = absurd (none-some x e)
 
 pub reg_symbol : (classes : List Class) (o : Option Sym) → is_reg (kind_of_symbol classes o) ≡ true → (c : ℕ) × (o ≡ Some (grammar_symbol.Class c)) × (kind_at classes c ≡ Some kind.Reg)
 reg_symbol classes None e = absurd (cc)
@@ -120,82 +114,13 @@ con_symbol classes (Some (grammar_symbol.Class c)) e = (grammar_symbol.Class c, 
     is_kind (Some kind.Nothing) e = absurd (cc)
 
 pub const_number : (x : Tok) (a : Att) → is_constant (Some (grammar_symbol.Tok x)) ≡ true → is_of_kind (attribute_of x) a ≡ true → (n : ℕ) × (a ≡ att.Number n)
-const_number tok.Zero att.Nothing c e = absurd (cc)
 const_number tok.Zero (att.Number n) c e = (n, refl)
-const_number tok.Zero (att.Object object offset) c e = absurd (cc)
-const_number tok.Zero (att.Slot k) c e = absurd (cc)
-const_number tok.Zero (att.Branch rel label) c e = absurd (cc)
-const_number tok.Zero (att.Label label) c e = absurd (cc)
-const_number tok.Zero (att.Callee function count) c e = absurd (cc)
-const_number tok.One att.Nothing c e = absurd (cc)
 const_number tok.One (att.Number n) c e = (n, refl)
-const_number tok.One (att.Object object offset) c e = absurd (cc)
-const_number tok.One (att.Slot k) c e = absurd (cc)
-const_number tok.One (att.Branch rel label) c e = absurd (cc)
-const_number tok.One (att.Label label) c e = absurd (cc)
-const_number tok.One (att.Callee function count) c e = absurd (cc)
-const_number tok.Two att.Nothing c e = absurd (cc)
 const_number tok.Two (att.Number n) c e = (n, refl)
-const_number tok.Two (att.Object object offset) c e = absurd (cc)
-const_number tok.Two (att.Slot k) c e = absurd (cc)
-const_number tok.Two (att.Branch rel label) c e = absurd (cc)
-const_number tok.Two (att.Label label) c e = absurd (cc)
-const_number tok.Two (att.Callee function count) c e = absurd (cc)
-const_number tok.Four att.Nothing c e = absurd (cc)
 const_number tok.Four (att.Number n) c e = (n, refl)
-const_number tok.Four (att.Object object offset) c e = absurd (cc)
-const_number tok.Four (att.Slot k) c e = absurd (cc)
-const_number tok.Four (att.Branch rel label) c e = absurd (cc)
-const_number tok.Four (att.Label label) c e = absurd (cc)
-const_number tok.Four (att.Callee function count) c e = absurd (cc)
-const_number tok.Eight att.Nothing c e = absurd (cc)
 const_number tok.Eight (att.Number n) c e = (n, refl)
-const_number tok.Eight (att.Object object offset) c e = absurd (cc)
-const_number tok.Eight (att.Slot k) c e = absurd (cc)
-const_number tok.Eight (att.Branch rel label) c e = absurd (cc)
-const_number tok.Eight (att.Label label) c e = absurd (cc)
-const_number tok.Eight (att.Callee function count) c e = absurd (cc)
-const_number tok.Const att.Nothing c e = absurd (cc)
 const_number tok.Const (att.Number n) c e = (n, refl)
-const_number tok.Const (att.Object object offset) c e = absurd (cc)
-const_number tok.Const (att.Slot k) c e = absurd (cc)
-const_number tok.Const (att.Branch rel label) c e = absurd (cc)
-const_number tok.Const (att.Label label) c e = absurd (cc)
-const_number tok.Const (att.Callee function count) c e = absurd (cc)
-const_number tok.Gaddr a c e = absurd (cc)
-const_number tok.Loc a c e = absurd (cc)
-const_number tok.Arg a c e = absurd (cc)
-const_number tok.IndirB a c e = absurd (cc)
-const_number tok.IndirW a c e = absurd (cc)
-const_number tok.IndirL a c e = absurd (cc)
-const_number tok.Plus a c e = absurd (cc)
-const_number tok.Minus a c e = absurd (cc)
-const_number tok.Mul a c e = absurd (cc)
-const_number tok.Div a c e = absurd (cc)
-const_number tok.Mod a c e = absurd (cc)
-const_number tok.And a c e = absurd (cc)
-const_number tok.Or a c e = absurd (cc)
-const_number tok.Xor a c e = absurd (cc)
-const_number tok.Lsh a c e = absurd (cc)
-const_number tok.Rsh a c e = absurd (cc)
-const_number tok.Neg a c e = absurd (cc)
-const_number tok.Com a c e = absurd (cc)
-const_number tok.Sxb a c e = absurd (cc)
-const_number tok.Zxb a c e = absurd (cc)
-const_number tok.Sxw a c e = absurd (cc)
-const_number tok.Zxw a c e = absurd (cc)
-const_number tok.Ncb a c e = absurd (cc)
-const_number tok.Ncw a c e = absurd (cc)
-const_number tok.AssignB a c e = absurd (cc)
-const_number tok.AssignW a c e = absurd (cc)
-const_number tok.AssignL a c e = absurd (cc)
-const_number tok.Cbr a c e = absurd (cc)
-const_number tok.Push a c e = absurd (cc)
-const_number tok.Ret a c e = absurd (cc)
-const_number tok.Call a c e = absurd (cc)
-const_number tok.Save a c e = absurd (cc)
-const_number tok.Jump a c e = absurd (cc)
-const_number tok.End a c e = absurd (cc)
+const_number _ _ c e = absurd (cc)
 
 number_term : (t u : Shape) → Number t ≡ Number u → t ≡ u
 number_term t u e = cc
@@ -275,13 +200,10 @@ module _ {O I S F : Type 0} (of : Meaning O I S F) (law : IsLawful of) (q : Tree
   at_right : (bs : List (Entry O)) (right : List Sym) (ws : List Sense) (j : ℕ) (x : Sym) → Holds of q d first f fs t s m0 m' bs right ws → AllLoaded bs → slice_get right j ≡ Some x
       → (e : Entry O) × (slice_get (attrs bs) j ≡ Some e.attr) × (u : Sense) × (slice_index_or ws j unknown ≡ u) × SymbolIs of q d first f fs t s m0 m' x e.kind e.attr u × IsLoaded e.attr
   at_right [] [] ws j x h k e = absurd (none-some x e)
-  at_right [] (y ∷ ys) ws j x h k e = absurd h
-  at_right (b ∷ bs) [] [] j x h k e = absurd h
-  at_right (b ∷ bs) [] (w ∷ ws) j x h k e = absurd h
-  at_right (b ∷ bs) (y ∷ ys) [] j x h k e = absurd h
   at_right (b ∷ bs) (y ∷ ys) (w ∷ ws) zero x h k e =
       (b, refl, w, refl, subst (λ z. SymbolIs of q d first f fs t s m0 m' z b.kind b.attr w) (same_Some y x e) h.0, k.0)
   at_right (b ∷ bs) (y ∷ ys) (w ∷ ws) (suc j) x h k e = at_right bs ys ws j x h.1 k.1 e
+  at_right _ _ _ j x h k e = absurd h
 
   found_at : (j : ℕ) (x : Sym) → slice_get rule.right j ≡ Some x → At j x
   found_at j x e =
@@ -292,10 +214,7 @@ module _ {O I S F : Type 0} (of : Meaning O I S F) (law : IsLawful of) (q : Tree
       → (r : ℕ) × (n : ℕ) × (a ≡ attr.Reg r) × (u ≡ OfNumber n) × (r < 12) × (of.reads (of.register r) Long m' ≡ Some n)
   register_class k a u (stands.register r n lt is) e h = (r, n, refl, refl, lt, is)
   register_class k a u (stands.in_slot w n le lt is) e h = absurd h
-  register_class k a u (stands.value z o n fits is) e h = absurd (cc)
-  register_class k a u (stands.place z o p fits is) e h = absurd (cc)
-  register_class k a u (stands.number n lt) e h = absurd (cc)
-  register_class k a u (stands.address o n fits is) e h = absurd (cc)
+  register_class k a u _ e h = absurd (cc)
 
   register_symbol : (c : ℕ) (k : Option Kind) (a : Attr O) (u : Sense) (x : Sym) → x ≡ grammar_symbol.Class c → kind_at d.classes c ≡ Some kind.Reg → SymbolIs of q d first f fs t s m0 m' x k a u
       → IsLoaded a
@@ -348,12 +267,8 @@ module _ {O I S F : Type 0} (of : Meaning O I S F) (law : IsLawful of) (q : Tree
           }
 
   number_class : (k : Option Kind) (a : Attr O) (u : Sense) → ClassIs of q d first f fs t s m0 m' k a u → k ≡ Some kind.Con → (n : ℕ) × (a ≡ attr.Con n) × (n < 2 ^ 32)
-  number_class k a u (stands.register r n lt is) e = absurd (cc)
-  number_class k a u (stands.in_slot w n le lt is) e = absurd (cc)
-  number_class k a u (stands.value z o n fits is) e = absurd (cc)
-  number_class k a u (stands.place z o p fits is) e = absurd (cc)
   number_class k a u (stands.number n lt) e = (n, refl, lt)
-  number_class k a u (stands.address o n fits is) e = absurd (cc)
+  number_class k a u _ e = absurd (cc)
 
   -- an attribute that is a constant's: its number
   pub record IsConstant (a : Attr O) : Type 0 where
@@ -369,40 +284,7 @@ module _ {O I S F : Type 0} (of : Meaning O I S F) (law : IsLawful of) (q : Tree
   named_small tok.Four n h e = h
   named_small tok.Eight n h e = h
   named_small tok.Const n h e = h
-  named_small tok.Gaddr n h e = absurd (cc)
-  named_small tok.Loc n h e = absurd (cc)
-  named_small tok.Arg n h e = absurd (cc)
-  named_small tok.IndirB n h e = absurd (cc)
-  named_small tok.IndirW n h e = absurd (cc)
-  named_small tok.IndirL n h e = absurd (cc)
-  named_small tok.Plus n h e = absurd (cc)
-  named_small tok.Minus n h e = absurd (cc)
-  named_small tok.Mul n h e = absurd (cc)
-  named_small tok.Div n h e = absurd (cc)
-  named_small tok.Mod n h e = absurd (cc)
-  named_small tok.And n h e = absurd (cc)
-  named_small tok.Or n h e = absurd (cc)
-  named_small tok.Xor n h e = absurd (cc)
-  named_small tok.Lsh n h e = absurd (cc)
-  named_small tok.Rsh n h e = absurd (cc)
-  named_small tok.Neg n h e = absurd (cc)
-  named_small tok.Com n h e = absurd (cc)
-  named_small tok.Sxb n h e = absurd (cc)
-  named_small tok.Zxb n h e = absurd (cc)
-  named_small tok.Sxw n h e = absurd (cc)
-  named_small tok.Zxw n h e = absurd (cc)
-  named_small tok.Ncb n h e = absurd (cc)
-  named_small tok.Ncw n h e = absurd (cc)
-  named_small tok.AssignB n h e = absurd (cc)
-  named_small tok.AssignW n h e = absurd (cc)
-  named_small tok.AssignL n h e = absurd (cc)
-  named_small tok.Cbr n h e = absurd (cc)
-  named_small tok.Push n h e = absurd (cc)
-  named_small tok.Ret n h e = absurd (cc)
-  named_small tok.Call n h e = absurd (cc)
-  named_small tok.Save n h e = absurd (cc)
-  named_small tok.Jump n h e = absurd (cc)
-  named_small tok.End n h e = absurd (cc)
+  named_small _ n h e = absurd (cc)
 
   constant_token : (x : Tok) (a : Att) → NamedBy of q d first f fs t s m0 x a → is_constant (Some (grammar_symbol.Tok x)) ≡ true → is_of_kind (attribute_of x) a ≡ true
       → IsConstant (attr.Token (record { tok = x; att = a }))

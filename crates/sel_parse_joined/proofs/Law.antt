@@ -292,9 +292,7 @@ module _ {O I S F : Type 0} (of : Meaning O I S F) (law : IsLawful of) (q : Tree
             same_Some (stack of law q d first x) (record { entries = s.entries; code = code; most = most })
             (accepted (Some (stack of law q d first x)) (Some (record { entries = s.entries; code = code; most = most })) f) in
             done x (ap (λ (y : computed_desk.Stack O I). y.code) z) (ap (λ (y : computed_desk.Stack O I). y.most) z) p
-        by (Blocks at) f p = absurd (cc)
-        by (Loops at) f p = absurd (cc)
-        by Refuses f p = absurd (cc)
+        by _ f p = absurd (cc)
 
     pub full_same : computed.FrameFull of q d first w → selected.FrameFull of q d first w
     full_same s = (let m = whole s.log Refuses s.parsed in by m.end m.ends m.parse_of)

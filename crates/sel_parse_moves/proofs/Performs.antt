@@ -64,17 +64,8 @@ pushed_is no_tree w a = refl
 pushed_is (node s passes below beside) w a = pushed_is below (onto beside w) (s ∷ a) ∙ pushed_is beside w (pushed below (s ∷ a))
 
 nothing_there : (o : Option Kind) → sort_fits (option_map sort_of_kind o) sort.Stmt ≡ true → is_nothing o ≡ true
-nothing_there None e = absurd (cc)
-nothing_there (Some kind.Reg) e = absurd (cc)
-nothing_there (Some kind.Con) e = absurd (cc)
-nothing_there (Some kind.Ea) e = absurd (cc)
 nothing_there (Some kind.Nothing) e = refl
-nothing_there (Some (kind.Value sizes.Byte)) e = absurd (cc)
-nothing_there (Some (kind.Value sizes.Word)) e = absurd (cc)
-nothing_there (Some (kind.Value sizes.Long)) e = absurd (cc)
-nothing_there (Some (kind.Place sizes.Byte)) e = absurd (cc)
-nothing_there (Some (kind.Place sizes.Word)) e = absurd (cc)
-nothing_there (Some (kind.Place sizes.Long)) e = absurd (cc)
+nothing_there _ e = absurd (cc)
 
 kind_there : (o : Option Kind) (y : Sort) → option_map sort_of_kind o ≡ Some y → (k : Kind) × (o ≡ Some k) × (y ≡ sort_of_kind k)
 kind_there None y e = absurd (cc)
@@ -302,15 +293,8 @@ module _ {X A : Type 0} (of : Selecting X A) (classes : List Class) (rules : Lis
       by Strays h p = absurd p
 
   lost_so : (d : Deed) (y : X) → I.Trapped y → ((d ≡ Traps → ⊥) → ⊥) → Ran I y d
-  lost_so (Puts g k) y t f = absurd (f (λ e. cc))
-  lost_so (Branches rel label v w) y t f = absurd (f (λ e. cc))
-  lost_so (Pushes k) y t f = absurd (f (λ e. cc))
-  lost_so (Returns k) y t f = absurd (f (λ e. cc))
-  lost_so (Calls g k) y t f = absurd (f (λ e. cc))
-  lost_so (Saves k) y t f = absurd (f (λ e. cc))
-  lost_so (Jumps k) y t f = absurd (f (λ e. cc))
   lost_so Traps y t f = t
-  lost_so Strays y t f = absurd (f (λ e. cc))
+  lost_so _ y t f = absurd (f (λ e. cc))
 
   statement_done : (n : ℕ) (r : Rule) (l : Leaf) (below : Trees (sorted_test classes) (kids_of (grammar_symbol.Tok l.tok))) (fit : leaf_fits l ≡ true) (f : Forest) (y : X) →
       slice_get rules n ≡ Some r → kind_at classes r.left ≡ Some kind.Nothing → sort_fits (sort_of l.tok) sort.Stmt ≡ true → grammar_symbol.Tok l.tok ∷ onto below [] ≡ r.right

@@ -28,82 +28,29 @@ use Rattle.sel_parse_moves.specs.Covers.{Covers, Fills}
 use Rattle.sel_parse_moves.specs.Covers as cover
 
 as_byte : (z : Sort) → fits z sort.PlaceB ≡ true → fits z sort.Byte ≡ true
-as_byte sort.Stmt e = absurd (cc)
-as_byte sort.Long e = absurd (cc)
-as_byte sort.Byte e = absurd (cc)
-as_byte sort.Word e = absurd (cc)
 as_byte sort.PlaceB e = refl
-as_byte sort.PlaceW e = absurd (cc)
-as_byte sort.PlaceL e = absurd (cc)
+as_byte _ e = absurd (cc)
 
 as_word : (z : Sort) → fits z sort.PlaceW ≡ true → fits z sort.Word ≡ true
-as_word sort.Stmt e = absurd (cc)
-as_word sort.Long e = absurd (cc)
-as_word sort.Byte e = absurd (cc)
-as_word sort.Word e = absurd (cc)
-as_word sort.PlaceB e = absurd (cc)
 as_word sort.PlaceW e = refl
-as_word sort.PlaceL e = absurd (cc)
+as_word _ e = absurd (cc)
 
 as_long : (z : Sort) → fits z sort.PlaceL ≡ true → fits z sort.Long ≡ true
-as_long sort.Stmt e = absurd (cc)
-as_long sort.Long e = absurd (cc)
-as_long sort.Byte e = absurd (cc)
-as_long sort.Word e = absurd (cc)
-as_long sort.PlaceB e = absurd (cc)
-as_long sort.PlaceW e = absurd (cc)
 as_long sort.PlaceL e = refl
+as_long _ e = absurd (cc)
 
 fits_on : (z y x : Sort) → fits z y ≡ true → fits y x ≡ true → fits z x ≡ true
 fits_on z sort.Stmt sort.Stmt e f = e
-fits_on z sort.Stmt sort.Long e f = absurd (cc)
-fits_on z sort.Stmt sort.Byte e f = absurd (cc)
-fits_on z sort.Stmt sort.Word e f = absurd (cc)
-fits_on z sort.Stmt sort.PlaceB e f = absurd (cc)
-fits_on z sort.Stmt sort.PlaceW e f = absurd (cc)
-fits_on z sort.Stmt sort.PlaceL e f = absurd (cc)
-fits_on z sort.Long sort.Stmt e f = absurd (cc)
 fits_on z sort.Long sort.Long e f = e
-fits_on z sort.Long sort.Byte e f = absurd (cc)
-fits_on z sort.Long sort.Word e f = absurd (cc)
-fits_on z sort.Long sort.PlaceB e f = absurd (cc)
-fits_on z sort.Long sort.PlaceW e f = absurd (cc)
-fits_on z sort.Long sort.PlaceL e f = absurd (cc)
-fits_on z sort.Byte sort.Stmt e f = absurd (cc)
-fits_on z sort.Byte sort.Long e f = absurd (cc)
 fits_on z sort.Byte sort.Byte e f = e
-fits_on z sort.Byte sort.Word e f = absurd (cc)
-fits_on z sort.Byte sort.PlaceB e f = absurd (cc)
-fits_on z sort.Byte sort.PlaceW e f = absurd (cc)
-fits_on z sort.Byte sort.PlaceL e f = absurd (cc)
-fits_on z sort.Word sort.Stmt e f = absurd (cc)
-fits_on z sort.Word sort.Long e f = absurd (cc)
-fits_on z sort.Word sort.Byte e f = absurd (cc)
 fits_on z sort.Word sort.Word e f = e
-fits_on z sort.Word sort.PlaceB e f = absurd (cc)
-fits_on z sort.Word sort.PlaceW e f = absurd (cc)
-fits_on z sort.Word sort.PlaceL e f = absurd (cc)
-fits_on z sort.PlaceB sort.Stmt e f = absurd (cc)
-fits_on z sort.PlaceB sort.Long e f = absurd (cc)
 fits_on z sort.PlaceB sort.Byte e f = as_byte z e
-fits_on z sort.PlaceB sort.Word e f = absurd (cc)
 fits_on z sort.PlaceB sort.PlaceB e f = e
-fits_on z sort.PlaceB sort.PlaceW e f = absurd (cc)
-fits_on z sort.PlaceB sort.PlaceL e f = absurd (cc)
-fits_on z sort.PlaceW sort.Stmt e f = absurd (cc)
-fits_on z sort.PlaceW sort.Long e f = absurd (cc)
-fits_on z sort.PlaceW sort.Byte e f = absurd (cc)
 fits_on z sort.PlaceW sort.Word e f = as_word z e
-fits_on z sort.PlaceW sort.PlaceB e f = absurd (cc)
 fits_on z sort.PlaceW sort.PlaceW e f = e
-fits_on z sort.PlaceW sort.PlaceL e f = absurd (cc)
-fits_on z sort.PlaceL sort.Stmt e f = absurd (cc)
 fits_on z sort.PlaceL sort.Long e f = as_long z e
-fits_on z sort.PlaceL sort.Byte e f = absurd (cc)
-fits_on z sort.PlaceL sort.Word e f = absurd (cc)
-fits_on z sort.PlaceL sort.PlaceB e f = absurd (cc)
-fits_on z sort.PlaceL sort.PlaceW e f = absurd (cc)
 fits_on z sort.PlaceL sort.PlaceL e f = e
+fits_on z _ _ e f = absurd (cc)
 
 some_fits : (o : Option Sort) (y x : Sort) → sort_fits o y ≡ true → fits y x ≡ true → sort_fits o x ≡ true
 some_fits None y x e f = absurd (cc)

@@ -126,19 +126,12 @@ module _ {O I S F : Type 0} (of : Meaning O I S F) (law : IsLawful of) (q : Tree
       one = lowest_none (λ v. attr_touches of e.attr (RegAt v)) 0 12 r (not_some (lowest (λ v. attr_touches of e.attr (RegAt v)) 0 12) h.0) (omega arith) lt
 
   kind_small : (v : ℕ) (k : Option Kind) → KindFits of k (attr.Reg v) → v < 12
-  kind_small v None h = absurd h
   kind_small v (Some kind.Reg) h = h
-  kind_small v (Some (kind.Value z)) h = absurd h
-  kind_small v (Some (kind.Place z)) h = absurd h
-  kind_small v (Some kind.Con) h = absurd h
-  kind_small v (Some kind.Ea) h = absurd h
-  kind_small v (Some kind.Nothing) h = absurd h
+  kind_small v _ h = absurd h
 
   small : (s : Sym) (v : ℕ) (a : Attr O) → fine.IsFine of law q d first s a → a ≡ attr.Reg v → v < 12
-  small s v a (fine.token l fit own) g = absurd (cc)
   small s v a (fine.class c a' h) g = kind_small v (kind_at d.classes c) (subst (KindFits of (kind_at d.classes c)) g h)
-  small s v a (fine.slot c w e lt) g = absurd (cc)
-  small s v a (fine.statement c e) g = absurd (cc)
+  small s v a _ g = absurd (cc)
 
   -- a symbol that may not go holds a register only if it stands in one
   symbol_registers : (s : Sym) (e : Entry O) → fine.IsFine of law q d first s e.attr → may_go of e ≡ false → registers of law q d first e.attr ≤ tick (is_register e.attr)

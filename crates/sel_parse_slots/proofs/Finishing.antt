@@ -228,26 +228,21 @@ module _ {O I S F : Type 0} (of : Meaning O I S F) (law : IsLawful of) (q : Tree
           subst (λ b. IsNumber (attr.Token (record { tok = x; att = b }))) (sym r.1) (record { number = r.0; small = low; own = refl })
 
       number_class : (k : Option Kind) (a : Attr O) → KindFits of k a → k ≡ Some kind.Con → IsNumber a
-      number_class (Some kind.Reg) (attr.Reg r) h e = absurd (cc)
-      number_class (Some (kind.Value z)) (attr.Value o) h e = absurd (cc)
-      number_class (Some (kind.Place z)) (attr.Place o) h e = absurd (cc)
       number_class (Some kind.Con) (attr.Con n) h e = record { number = n; small = h; own = refl }
-      number_class (Some kind.Ea) (attr.Ea o) h e = absurd (cc)
       number_class k a h e = absurd h
+      number_class _ _ h e = absurd (cc)
 
       number_symbol : (s : Sym) (a : Attr O) → IsFine of law q d first s a → IsLoaded a → (y : Sym) → IsNumeric d.classes y → s ≡ y → IsNumber a
       number_symbol s a (fine.token l fit own) k y (shapes.constant w c) e =
           let same : l.tok ≡ w = cc in
           number_token l.tok l.att own (subst (λ z. Rattle.md_reader.specs.Rows.is_constant (Some (grammar_symbol.Tok z)) ≡ true) (sym same) c) fit
-      number_symbol s a (fine.token l fit own) k y (shapes.class c g) e = absurd (cc)
-      number_symbol s a (fine.class c' a' fit) k y (shapes.constant w c) e = absurd (cc)
       number_symbol s a (fine.class c' a' fit) k y (shapes.class c g) e = number_class (kind_at d.classes c') a fit (ap (kind_at d.classes) (let same : c' ≡ c = cc in same) ∙ g)
       number_symbol s a (fine.slot c' w e' lt) k y n e = absurd k
-      number_symbol s a (fine.statement c' e') k y (shapes.constant w c) e = absurd (cc)
       number_symbol s a (fine.statement c' e') k y (shapes.class c g) e = absurd (apart (sym g ∙ ap (kind_at d.classes) (sym (let same : c' ≡ c = cc in same)) ∙ e'))
         where
           apart : Some kind.Con ≡ Some kind.Nothing → ⊥
           apart e = cc
+      number_symbol s a _ k y _ e = absurd (cc)
 
       -- the symbol that a register's shape names is a register
       pub shape_register : (l : Line) → shape_fits d.classes rule.right (Some kind.Reg) l.pieces ≡ true

@@ -72,26 +72,16 @@ module _ {O I S F : Type 0} (of : Meaning O I S F) (law : IsLawful of) (q : Tree
 
   pub held_fine : (ss : List Sym) (es : List (Entry O)) (ps : List Part) → Held ss es ps → AllFine of law q d first ss es
   held_fine [] [] [] h = tt
-  held_fine [] [] (p ∷ ps) h = absurd h
-  held_fine [] (e ∷ es) ps h = absurd h
-  held_fine (s ∷ ss) [] ps h = absurd h
-  held_fine (s ∷ ss) (e ∷ es) [] h = absurd h
   held_fine (s ∷ ss) (e ∷ es) (p ∷ ps) h = (h.0.0, held_fine ss es ps h.1)
+  held_fine _ _ _ h = absurd h
 
   held_within : (ss : List Sym) (es : List (Entry O)) (ps : List Part) → Held ss es ps → Within of law q d first es (map gamma ps)
   held_within [] [] [] h = tt
-  held_within [] [] (p ∷ ps) h = absurd h
-  held_within [] (e ∷ es) ps h = absurd h
-  held_within (s ∷ ss) [] ps h = absurd h
-  held_within (s ∷ ss) (e ∷ es) [] h = absurd h
   held_within (s ∷ ss) (e ∷ es) (p ∷ ps) h = (h.0.1, held_within ss es ps h.1)
+  held_within _ _ _ h = absurd h
 
   held_ends : (ss : List Sym) (es : List (Entry O)) (ps : List Part) → Held ss es ps → (total ends ps ≡ total ends_of ss) × (total opens ps ≡ total opens_of ss)
   held_ends [] [] [] h = (refl, refl)
-  held_ends [] [] (p ∷ ps) h = absurd h
-  held_ends [] (e ∷ es) ps h = absurd h
-  held_ends (s ∷ ss) [] ps h = absurd h
-  held_ends (s ∷ ss) (e ∷ es) [] h = absurd h
   held_ends (s ∷ ss) (e ∷ es) (p ∷ ps) h =
       let a = marks_ends s p h.0.2 in
       let b = marks_opens s p h.0.2 in
@@ -99,17 +89,15 @@ module _ {O I S F : Type 0} (of : Meaning O I S F) (law : IsLawful of) (q : Tree
       let m = k.0 in
       let n = k.1 in
       (omega (arith, a, m), omega (arith, b, n))
+  held_ends _ _ _ h = absurd h
 
   -- the entries below may have changed
   joined : (ss : List Sym) (old new : List (Entry O)) (ps : List Part) → Held ss old ps → AllFine of law q d first ss new → Within of law q d first new (map gamma ps) → Held ss new ps
   joined [] [] [] [] h f w = tt
   joined [] [] (e ∷ new) [] h f w = absurd f
-  joined [] [] new (p ∷ ps) h f w = absurd h
-  joined [] (e ∷ old) new ps h f w = absurd h
-  joined (s ∷ ss) [] new ps h f w = absurd h
-  joined (s ∷ ss) (e ∷ old) new [] h f w = absurd h
   joined (s ∷ ss) (e ∷ old) [] (p ∷ ps) h f w = absurd f
   joined (s ∷ ss) (e ∷ old) (b ∷ new) (p ∷ ps) h f w = ((f.0, w.0, h.0.2), joined ss old new ps h.1 f.1 w.1)
+  joined _ _ new _ h f w = absurd h
 
   pub record Split (right b : List Sym) (es : List (Entry O)) (ps : List Part) : Type 0 where
     pub symbols : List (Entry O)

@@ -82,16 +82,12 @@ opens_of (grammar_symbol.Class c) = 0
 pub marks_ends : (s : Sym) (p : Part) → Marks s p → ends p ≡ ends_of s
 marks_ends (grammar_symbol.Tok t) p h = ap ends h
 marks_ends (grammar_symbol.Class c) (Whole b) h = refl
-marks_ends (grammar_symbol.Class c) Without h = absurd h
-marks_ends (grammar_symbol.Class c) One h = absurd h
-marks_ends (grammar_symbol.Class c) Two h = absurd h
+marks_ends _ _ h = absurd h
 
 pub marks_opens : (s : Sym) (p : Part) → Marks s p → opens p ≡ opens_of s
 marks_opens (grammar_symbol.Tok t) p h = ap opens h
 marks_opens (grammar_symbol.Class c) (Whole b) h = refl
-marks_opens (grammar_symbol.Class c) Without h = absurd h
-marks_opens (grammar_symbol.Class c) One h = absurd h
-marks_opens (grammar_symbol.Class c) Two h = absurd h
+marks_opens _ _ h = absurd h
 
 pub part_twos : (ks : List Sort) → twos (part_of ks) ≡ fork ks
 part_twos [] = refl

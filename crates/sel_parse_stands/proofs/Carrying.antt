@@ -82,14 +82,9 @@ module _ {O I S F : Type 0} (of : Meaning O I S F) (q : TreeProgram) (d : Conten
   worth_kept spots m m' z attr.Nothing n keeps free e = e
 
   own_untouched : (spots : List Spot) (a : Attr O) (o : O) → Untouched spots a → own_operand of a ≡ Some o → All (λ x. touches of o x ≡ false) spots
-  own_untouched spots (attr.Reg r) o free e = absurd (none-some o e)
-  own_untouched spots (attr.InSlot w) o free e = absurd (none-some o e)
-  own_untouched spots (attr.Value p) o free e = absurd (none-some o e)
   own_untouched spots (attr.Place p) o free e = subst (λ w. All (λ x. touches of w x ≡ false) spots) (same_Some p o e) free
-  own_untouched spots (attr.Con n) o free e = absurd (none-some o e)
-  own_untouched spots (attr.Ea p) o free e = absurd (none-some o e)
   own_untouched spots (attr.Token l) o free e = subst (λ w. All (λ (x : Spot). some_touches of w x ≡ false) spots) e free
-  own_untouched spots attr.Nothing o free e = absurd (none-some o e)
+  own_untouched spots _ o free e = absurd (none-some o e)
 
   pub stays : (spots : List Spot) (m m' : S) (z : Size) (a : Attr O) → Keeps of spots m m' → Untouched spots a → Carried m m' z a a
   stays spots m m' z a keeps free = record {
@@ -121,10 +116,6 @@ module _ {O I S F : Type 0} (of : Meaning O I S F) (q : TreeProgram) (d : Conten
   pub carried_at : (m m' : S) (right : List Sym) (as_ bs : List (Entry O)) (j : ℕ) (b : Attr O) → AllCarried m m' right as_ bs → slice_get (attrs bs) j ≡ Some b
       → CarriedAt m m' right as_ j b
   carried_at m m' [] [] [] j b h at = absurd (cc)
-  carried_at m m' [] [] (e ∷ bs) j b h at = absurd h
-  carried_at m m' [] (a ∷ as_) bs j b h at = absurd h
-  carried_at m m' (x ∷ xs) [] bs j b h at = absurd h
-  carried_at m m' (x ∷ xs) (a ∷ as_) [] j b h at = absurd h
   carried_at m m' (x ∷ xs) (a ∷ as_) (e ∷ bs) zero b h at = record {
     before = a.attr;
     there = refl;
@@ -133,6 +124,7 @@ module _ {O I S F : Type 0} (of : Meaning O I S F) (q : TreeProgram) (d : Conten
   carried_at m m' (x ∷ xs) (a ∷ as_) (e ∷ bs) (suc j) b h at =
       let r = carried_at m m' xs as_ bs j b h.1 at in
       record { before = r.before; there = r.there; carried = r.carried }
+  carried_at m m' _ _ _ j b h at = absurd h
 
   abbrev pub AllUntouched : List Spot → List (Entry O) → Type 0
   AllUntouched spots es = All (λ (e : Entry O). Untouched spots e.attr) es
@@ -141,11 +133,8 @@ module _ {O I S F : Type 0} (of : Meaning O I S F) (q : TreeProgram) (d : Conten
   pub all_carried_on : (spots : List Spot) (m m' m'' : S) (right : List Sym) (as_ bs : List (Entry O)) → Keeps of spots m' m'' → AllUntouched spots bs
       → AllCarried m m' right as_ bs → AllCarried m m'' right as_ bs
   all_carried_on spots m m' m'' [] [] [] keeps free h = tt
-  all_carried_on spots m m' m'' [] [] (b ∷ bs) keeps free h = absurd h
-  all_carried_on spots m m' m'' [] (a ∷ as_) bs keeps free h = absurd h
-  all_carried_on spots m m' m'' (x ∷ xs) [] bs keeps free h = absurd h
-  all_carried_on spots m m' m'' (x ∷ xs) (a ∷ as_) [] keeps free h = absurd h
   all_carried_on spots m m' m'' (x ∷ xs) (a ∷ as_) (b ∷ bs) keeps free h = (
     on m m' m'' (size_of_symbol d.classes x) a.attr b.attr b.attr h.0 (stays spots m' m'' (size_of_symbol d.classes x) b.attr keeps free.0),
     all_carried_on spots m m' m'' xs as_ bs keeps free.1 h.1,
   )
+  all_carried_on spots m m' m'' _ _ _ keeps free h = absurd h

@@ -29,7 +29,6 @@ record Slot {O I S F : Type 0} (of : Meaning O I S F) (w n : ℕ) (m : S) : Type
 
 slot_of : {O I S F : Type 0} (of : Meaning O I S F) (q : TreeProgram) (d : Content) (first : ℕ) (f : Extent) (fs : List Extent) (t : State) (s : Sight) (m0 m : S)
     (k : Option Kind) (a : Attr O) (v : Sense) (w n : ℕ) → ClassIs of q d first f fs t s m0 m k a v → a ≡ attr.InSlot w → v ≡ OfNumber n → Slot of w n m
-slot_of of q d first f fs t s m0 m k a v w n (stands.register r x lt is) e g = absurd (cc)
 slot_of of q d first f fs t s m0 m k a v w n (stands.in_slot u x le lt is) e g =
     let same_word : u ≡ w = cc in
     let same_number : x ≡ n = cc in
@@ -37,10 +36,7 @@ slot_of of q d first f fs t s m0 m k a v w n (stands.in_slot u x le lt is) e g =
       low = subst (λ j. j < 1024) same_word lt;
       reads = subst (λ j. of.reads (of.slot j) Long m ≡ Some n) same_word (subst (λ j. of.reads (of.slot u) Long m ≡ Some j) same_number is);
     }
-slot_of of q d first f fs t s m0 m k a v w n (stands.value z o x fits is) e g = absurd (cc)
-slot_of of q d first f fs t s m0 m k a v w n (stands.place z o p fits is) e g = absurd (cc)
-slot_of of q d first f fs t s m0 m k a v w n (stands.number x lt) e g = absurd (cc)
-slot_of of q d first f fs t s m0 m k a v w n (stands.address o x fits is) e g = absurd (cc)
+slot_of of q d first f fs t s m0 m k a v w n _ e g = absurd (cc)
 
 pub registers_are_reloaded : {O I S F : Type 0} (of : Meaning O I S F) → IsLawful of → RegistersAreReloaded of
 registers_are_reloaded of law q d first f fs t s m0 m frame lines sees w r n lt is =

@@ -74,14 +74,9 @@ arity_of classes (grammar_symbol.Class c) = refl
 -- a symbol takes its kids from the stack and leaves what it makes of them
 step_made : (i : ℕ) (r : Role) (kids rest : List SubtreeShape) → length kids ≡ arity r → step i r (kids ++ rest) ≡ made i r kids ∷ rest
 step_made i (role.Leaf r) [] rest e = refl
-step_made i (role.Leaf r) (k ∷ ks) rest e = absurd (omega arith)
-step_made i (role.One r) [] rest e = absurd (omega arith)
 step_made i (role.One r) (k ∷ []) rest e = refl
-step_made i (role.One r) (k ∷ l ∷ ks) rest e = absurd (omega arith)
-step_made i (role.Two r) [] rest e = absurd (omega arith)
-step_made i (role.Two r) (k ∷ []) rest e = absurd (omega arith)
 step_made i (role.Two r) (k ∷ l ∷ []) rest e = refl
-step_made i (role.Two r) (k ∷ l ∷ m ∷ ks) rest e = absurd (omega arith)
+step_made i _ _ rest e = absurd (omega arith)
 
 module _ (classes : List Class) (ok : Sym → Sort → Bool) where
   parts_count : {xs : List Sort} (f : Trees ok xs) (i : ℕ) → length (parts classes f i) ≡ length xs

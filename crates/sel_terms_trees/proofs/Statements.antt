@@ -68,10 +68,8 @@ module _ (objects : List Object) (s : Sight) (all : List Sense) (m : State) wher
     -- a place of which the address divides by zero
     zero_store : (part : PartShape) (ds : List Shape) (v : Value) → IsZeroSpot objects s all m (record { part = part; divisors = ds }) → IsOf objects s all m q v
         → ActIs (two i two_role.Assign (record { part = part; divisors = ds }) q) Traps
-    zero_store (Worth t) ds v h k = absurd h.ill
-    zero_store (Home z j) ds v h k = absurd h.ill
     zero_store (At z a) ds v h k = record { divides = first_zero ds q.divisors h.divides; safe = (h.ill.1, safe_of q v k); divisors = both_safe false ds q.divisors h.divisors (safes_of q v k) }
-    zero_store (Does a) ds v h k = absurd h.ill
+    zero_store _ ds v h k = absurd h.ill
 
     spot_store : (part : PartShape) (ds : List Shape) (g : Meaning) (v : Value) → IsSpot objects s all m (record { part = part; divisors = ds }) g → IsOf objects s all m q v
         → ActIs (two i two_role.Assign (record { part = part; divisors = ds }) q) (given v (Puts g))
@@ -137,73 +135,20 @@ module _ (objects : List Object) (s : Sight) (all : List Sense) (m : State) wher
 
   branch_law : (a : Att) (i : ℕ) (p q : SubtreeShape) (v w : Value) → att_of (sense_at all i) ≡ a → is_of_kind (attribute_of tok.Cbr) a ≡ true → IsOf objects s all m p v
       → IsOf objects s all m q w → ActIs (two i two_role.Branch p q) (branched a v w)
-  branch_law att.Nothing i p q v w e f h k = absurd (cc)
-  branch_law (att.Number n) i p q v w e f h k = absurd (cc)
-  branch_law (att.Object o n) i p q v w e f h k = absurd (cc)
-  branch_law (att.Slot n) i p q v w e f h k = absurd (cc)
   branch_law (att.Branch rel label) i p q v w e f h k = compared i q p rel label v w e h k
-  branch_law (att.Label l) i p q v w e f h k = absurd (cc)
-  branch_law (att.Callee g n) i p q v w e f h k = absurd (cc)
+  branch_law _ i p q v w e f h k = absurd (cc)
 
   -- the act of a statement's token
   pub act_law : (t : Tok) (a : Att) (st rest : List SubtreeShape) (gs : List Meaning) → sort_fits (sort_of t) sort.Stmt ≡ true → is_of_kind (attribute_of t) a ≡ true
       → sense_at all 1 ≡ OfLeaf (record { tok = t; att = a }) → Each objects s all m (kids t) st gs 0 rest →
       ActIs (first_part (step 1 (role_of_token t) st)) (deed_of s t a (slice_get gs 0) (slice_get gs 1))
-  act_law tok.Zero a st rest gs c f is e = absurd (cc)
-  act_law tok.One a st rest gs c f is e = absurd (cc)
-  act_law tok.Two a st rest gs c f is e = absurd (cc)
-  act_law tok.Four a st rest gs c f is e = absurd (cc)
-  act_law tok.Eight a st rest gs c f is e = absurd (cc)
-  act_law tok.Const a st rest gs c f is e = absurd (cc)
-  act_law tok.Gaddr a st rest gs c f is e = absurd (cc)
-  act_law tok.Loc a st rest gs c f is e = absurd (cc)
-  act_law tok.Arg a st rest gs c f is e = absurd (cc)
-  act_law tok.IndirB a st rest gs c f is e = absurd (cc)
-  act_law tok.IndirW a st rest gs c f is e = absurd (cc)
-  act_law tok.IndirL a st rest gs c f is e = absurd (cc)
-  act_law tok.Plus a st rest gs c f is e = absurd (cc)
-  act_law tok.Minus a st rest gs c f is e = absurd (cc)
-  act_law tok.Mul a st rest gs c f is e = absurd (cc)
-  act_law tok.Div a st rest gs c f is e = absurd (cc)
-  act_law tok.Mod a st rest gs c f is e = absurd (cc)
-  act_law tok.And a st rest gs c f is e = absurd (cc)
-  act_law tok.Or a st rest gs c f is e = absurd (cc)
-  act_law tok.Xor a st rest gs c f is e = absurd (cc)
-  act_law tok.Lsh a st rest gs c f is e = absurd (cc)
-  act_law tok.Rsh a st rest gs c f is e = absurd (cc)
-  act_law tok.Neg a st rest gs c f is e = absurd (cc)
-  act_law tok.Com a st rest gs c f is e = absurd (cc)
-  act_law tok.Sxb a st rest gs c f is e = absurd (cc)
-  act_law tok.Zxb a st rest gs c f is e = absurd (cc)
-  act_law tok.Sxw a st rest gs c f is e = absurd (cc)
-  act_law tok.Zxw a st rest gs c f is e = absurd (cc)
-  act_law tok.Ncb a st rest gs c f is e = absurd (cc)
-  act_law tok.Ncw a st rest gs c f is e = absurd (cc)
   act_law tok.AssignB a st rest gs c f is e = assign_law 1 (first_part (below st)) sizes.Byte (first_part st) (slice_get gs 0) (kid s (slice_get gs 1)) e.0 e.1.0
   act_law tok.AssignW a st rest gs c f is e = assign_law 1 (first_part (below st)) sizes.Word (first_part st) (slice_get gs 0) (kid s (slice_get gs 1)) e.0 e.1.0
   act_law tok.AssignL a st rest gs c f is e = assign_law 1 (first_part (below st)) sizes.Long (first_part st) (slice_get gs 0) (kid s (slice_get gs 1)) e.0 e.1.0
   act_law tok.Cbr a st rest gs c f is e = branch_law a 1 (first_part st) (first_part (below st)) (kid s (slice_get gs 0)) (kid s (slice_get gs 1)) (ap att_of is) f e.0 e.1.0
   act_law tok.Push a st rest gs c f is e = pushed_law (first_part st) (kid s (slice_get gs 0)) e.0
   act_law tok.Ret a st rest gs c f is e = returned_law (first_part st) (kid s (slice_get gs 0)) e.0
-  act_law tok.Call att.Nothing st rest gs c f is e = absurd (cc)
-  act_law tok.Call (att.Number n) st rest gs c f is e = absurd (cc)
-  act_law tok.Call (att.Object o n) st rest gs c f is e = absurd (cc)
-  act_law tok.Call (att.Slot n) st rest gs c f is e = absurd (cc)
-  act_law tok.Call (att.Branch r n) st rest gs c f is e = absurd (cc)
-  act_law tok.Call (att.Label n) st rest gs c f is e = absurd (cc)
   act_law tok.Call (att.Callee g n) st rest gs c f is e = record { divides = refl; does = ap att_of is; safe = tt; divisors = tt }
-  act_law tok.Save att.Nothing st rest gs c f is e = absurd (cc)
-  act_law tok.Save (att.Number n) st rest gs c f is e = absurd (cc)
-  act_law tok.Save (att.Object o n) st rest gs c f is e = absurd (cc)
   act_law tok.Save (att.Slot n) st rest gs c f is e = record { divides = refl; does = ap att_of is; safe = tt; divisors = tt }
-  act_law tok.Save (att.Branch r n) st rest gs c f is e = absurd (cc)
-  act_law tok.Save (att.Label n) st rest gs c f is e = absurd (cc)
-  act_law tok.Save (att.Callee g n) st rest gs c f is e = absurd (cc)
-  act_law tok.Jump att.Nothing st rest gs c f is e = absurd (cc)
-  act_law tok.Jump (att.Number n) st rest gs c f is e = absurd (cc)
-  act_law tok.Jump (att.Object o n) st rest gs c f is e = absurd (cc)
-  act_law tok.Jump (att.Slot n) st rest gs c f is e = absurd (cc)
-  act_law tok.Jump (att.Branch r n) st rest gs c f is e = absurd (cc)
   act_law tok.Jump (att.Label n) st rest gs c f is e = record { divides = refl; does = ap att_of is; safe = tt; divisors = tt }
-  act_law tok.Jump (att.Callee g n) st rest gs c f is e = absurd (cc)
-  act_law tok.End a st rest gs c f is e = absurd (cc)
+  act_law _ _ st rest gs c f is e = absurd (cc)

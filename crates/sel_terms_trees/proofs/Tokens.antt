@@ -148,10 +148,8 @@ module _ (objects : List Object) (s : Sight) (all : List Sense) (m : State) wher
   module _ (stands : StandsFor objects s all m) where
     -- a place that is read
     zero_read : (part : PartShape) (ds : List Shape) → IsZeroSpot (record { part = part; divisors = ds }) → IsZero (record { part = part; divisors = ds })
-    zero_read (Worth t) ds h = absurd h.ill
-    zero_read (Home z i) ds h = absurd h.ill
     zero_read (At z a) ds h = record { divides = h.divides; ill = h.ill.0; safe = (h.ill.1, λ e. absurd (true_false (divides_well m a) h.ill.0 e)); divisors = h.divisors }
-    zero_read (Does a) ds h = absurd h.ill
+    zero_read _ ds h = absurd h.ill
 
     -- a place that isn't memory is a symbol's own
     home_read : (part : PartShape) (ds : List Shape) (g : Meaning) (n : ℕ) → IsSpot (record { part = part; divisors = ds }) g → ((z : Size) (a : ℕ) → g ≡ Memory z a → ⊥) → read s g ≡ Number n
@@ -177,16 +175,13 @@ module _ (objects : List Object) (s : Sight) (all : List Sense) (m : State) wher
     place_read p (Of Wild) h v e tame = absurd h
     place_read p (Of ZeroDivisor) h (Number n) e tame = absurd (cc)
     place_read p (Of ZeroDivisor) h ZeroDivisor e tame = zero_read p.part p.divisors h
-    place_read p (Of ZeroDivisor) h Wild e tame = absurd (tame refl)
     place_read p (Local k) h (Number n) e tame = home_read p.part p.divisors (Local k) n h (λ z a. local_no_memory k z a) e
     place_read p (Local k) h ZeroDivisor e tame = absurd (there_pure (s.locals k) e)
-    place_read p (Local k) h Wild e tame = absurd (tame refl)
     place_read p (Argument k) h (Number n) e tame = home_read p.part p.divisors (Argument k) n h (λ z a. argument_no_memory k z a) e
     place_read p (Argument k) h ZeroDivisor e tame = absurd (there_pure (slice_get s.arguments (k - 1)) e)
-    place_read p (Argument k) h Wild e tame = absurd (tame refl)
     place_read p (Memory z a) h (Number n) e tame = memory_read p.part p.divisors z a n h (there_is (fetched z s.area a) n e)
     place_read p (Memory z a) h ZeroDivisor e tame = absurd (there_pure (fetched z s.area a) e)
-    place_read p (Memory z a) h Wild e tame = absurd (tame refl)
+    place_read p _ h _ e tame = absurd (tame refl)
 
     -- one kid
     one_law : (op : UnaryOp) (p : SubtreeShape) (v : Value) → IsOf p v → IsOf (one (one_role.Operator op) p) (bind v (λ x. Number (unary op x)))
@@ -391,13 +386,8 @@ module _ (objects : List Object) (s : Sight) (all : List Sense) (m : State) wher
 
     const_law : (i : ℕ) (a : Att) → is_of_kind (attribute_of tok.Const) a ≡ true → sense_at all i ≡ OfLeaf (record { tok = tok.Const; att = a })
         → IsOf (record { part = Worth (Symbol i); divisors = [] }) (read s (token_means objects s tok.Const a Wild Wild))
-    const_law i att.Nothing e is = absurd (cc)
     const_law i (att.Number n) e is = own_number i n (record { tok = tok.Const; att = att.Number n }) is refl
-    const_law i (att.Object o k) e is = absurd (cc)
-    const_law i (att.Slot n) e is = absurd (cc)
-    const_law i (att.Branch r l) e is = absurd (cc)
-    const_law i (att.Label l) e is = absurd (cc)
-    const_law i (att.Callee f n) e is = absurd (cc)
+    const_law i _ e is = absurd (cc)
 
     object_law : (i : ℕ) (l : Leaf) (v : Value) → sense_at all i ≡ OfLeaf l → read s (means objects s (OfLeaf l)) ≡ v → (v ≡ Wild → ⊥) → (v ≡ ZeroDivisor → ⊥)
         → IsOf (record { part = Worth (Symbol i); divisors = [] }) v
@@ -411,34 +401,19 @@ module _ (objects : List Object) (s : Sight) (all : List Sense) (m : State) wher
 
     gaddr_law : (i : ℕ) (a : Att) → is_of_kind (attribute_of tok.Gaddr) a ≡ true → sense_at all i ≡ OfLeaf (record { tok = tok.Gaddr; att = a })
         → (read s (token_means objects s tok.Gaddr a Wild Wild) ≡ Wild → ⊥) → IsOf (record { part = Worth (Symbol i); divisors = [] }) (read s (token_means objects s tok.Gaddr a Wild Wild))
-    gaddr_law i att.Nothing e is tame = absurd (cc)
-    gaddr_law i (att.Number n) e is tame = absurd (cc)
     gaddr_law i (att.Object o k) e is tame =
         object_law i (record { tok = tok.Gaddr; att = att.Object o k }) (address_of (slice_get objects o) k) is refl tame (no_zero_address (slice_get objects o) k)
-    gaddr_law i (att.Slot n) e is tame = absurd (cc)
-    gaddr_law i (att.Branch r l) e is tame = absurd (cc)
-    gaddr_law i (att.Label l) e is tame = absurd (cc)
-    gaddr_law i (att.Callee f n) e is tame = absurd (cc)
+    gaddr_law i _ e is tame = absurd (cc)
 
     local_law : (i : ℕ) (a : Att) → is_of_kind (attribute_of tok.Loc) a ≡ true → sense_at all i ≡ OfLeaf (record { tok = tok.Loc; att = a })
         → IsAtSome sizes.Long (record { part = Home sizes.Long i; divisors = [] }) (Some (token_means objects s tok.Loc a Wild Wild))
-    local_law i att.Nothing e is = absurd (cc)
-    local_law i (att.Number n) e is = absurd (cc)
-    local_law i (att.Object o k) e is = absurd (cc)
     local_law i (att.Slot n) e is = (own_place i (record { tok = tok.Loc; att = att.Slot n }) (Local n) is refl refl, refl)
-    local_law i (att.Branch r l) e is = absurd (cc)
-    local_law i (att.Label l) e is = absurd (cc)
-    local_law i (att.Callee f n) e is = absurd (cc)
+    local_law i _ e is = absurd (cc)
 
     argument_law : (i : ℕ) (a : Att) → is_of_kind (attribute_of tok.Arg) a ≡ true → sense_at all i ≡ OfLeaf (record { tok = tok.Arg; att = a })
         → IsAtSome sizes.Long (record { part = Home sizes.Long i; divisors = [] }) (Some (token_means objects s tok.Arg a Wild Wild))
-    argument_law i att.Nothing e is = absurd (cc)
-    argument_law i (att.Number n) e is = absurd (cc)
-    argument_law i (att.Object o k) e is = absurd (cc)
     argument_law i (att.Slot n) e is = (own_place i (record { tok = tok.Arg; att = att.Slot n }) (Argument n) is refl refl, refl)
-    argument_law i (att.Branch r l) e is = absurd (cc)
-    argument_law i (att.Label l) e is = absurd (cc)
-    argument_law i (att.Callee f n) e is = absurd (cc)
+    argument_law i _ e is = absurd (cc)
 
     -- a token over its kids
     pub token_law : (t : Tok) (a : Att) (i : ℕ) (st rest : List SubtreeShape) (gs : List Meaning) → is_of_kind (attribute_of t) a ≡ true → sense_at all i ≡ OfLeaf (record { tok = t; att = a })
@@ -530,54 +505,16 @@ module _ (objects : List Object) (s : Sight) (all : List Sense) (m : State) wher
     -- a tree of one sort where another is wanted
     pub fitting : (y x : Sort) (p : SubtreeShape) (g : Meaning) → fits y x ≡ true → StandsAt y p (Some g) → IsTame objects s x g → StandsAt x p (Some g)
     fitting sort.Stmt sort.Stmt p g e h tame = h
-    fitting sort.Stmt sort.Long p g e h tame = absurd (cc)
-    fitting sort.Stmt sort.Byte p g e h tame = absurd (cc)
-    fitting sort.Stmt sort.Word p g e h tame = absurd (cc)
-    fitting sort.Stmt sort.PlaceB p g e h tame = absurd (cc)
-    fitting sort.Stmt sort.PlaceW p g e h tame = absurd (cc)
-    fitting sort.Stmt sort.PlaceL p g e h tame = absurd (cc)
-    fitting sort.Long sort.Stmt p g e h tame = absurd (cc)
     fitting sort.Long sort.Long p g e h tame = h
-    fitting sort.Long sort.Byte p g e h tame = absurd (cc)
-    fitting sort.Long sort.Word p g e h tame = absurd (cc)
-    fitting sort.Long sort.PlaceB p g e h tame = absurd (cc)
-    fitting sort.Long sort.PlaceW p g e h tame = absurd (cc)
-    fitting sort.Long sort.PlaceL p g e h tame = absurd (cc)
-    fitting sort.Byte sort.Stmt p g e h tame = absurd (cc)
-    fitting sort.Byte sort.Long p g e h tame = absurd (cc)
     fitting sort.Byte sort.Byte p g e h tame = h
-    fitting sort.Byte sort.Word p g e h tame = absurd (cc)
-    fitting sort.Byte sort.PlaceB p g e h tame = absurd (cc)
-    fitting sort.Byte sort.PlaceW p g e h tame = absurd (cc)
-    fitting sort.Byte sort.PlaceL p g e h tame = absurd (cc)
-    fitting sort.Word sort.Stmt p g e h tame = absurd (cc)
-    fitting sort.Word sort.Long p g e h tame = absurd (cc)
-    fitting sort.Word sort.Byte p g e h tame = absurd (cc)
     fitting sort.Word sort.Word p g e h tame = h
-    fitting sort.Word sort.PlaceB p g e h tame = absurd (cc)
-    fitting sort.Word sort.PlaceW p g e h tame = absurd (cc)
-    fitting sort.Word sort.PlaceL p g e h tame = absurd (cc)
-    fitting sort.PlaceB sort.Stmt p g e h tame = absurd (cc)
-    fitting sort.PlaceB sort.Long p g e h tame = absurd (cc)
     fitting sort.PlaceB sort.Byte p g e h tame = place_read p g h.0 (read s g) refl tame
-    fitting sort.PlaceB sort.Word p g e h tame = absurd (cc)
     fitting sort.PlaceB sort.PlaceB p g e h tame = h
-    fitting sort.PlaceB sort.PlaceW p g e h tame = absurd (cc)
-    fitting sort.PlaceB sort.PlaceL p g e h tame = absurd (cc)
-    fitting sort.PlaceW sort.Stmt p g e h tame = absurd (cc)
-    fitting sort.PlaceW sort.Long p g e h tame = absurd (cc)
-    fitting sort.PlaceW sort.Byte p g e h tame = absurd (cc)
     fitting sort.PlaceW sort.Word p g e h tame = place_read p g h.0 (read s g) refl tame
-    fitting sort.PlaceW sort.PlaceB p g e h tame = absurd (cc)
     fitting sort.PlaceW sort.PlaceW p g e h tame = h
-    fitting sort.PlaceW sort.PlaceL p g e h tame = absurd (cc)
-    fitting sort.PlaceL sort.Stmt p g e h tame = absurd (cc)
     fitting sort.PlaceL sort.Long p g e h tame = place_read p g h.0 (read s g) refl tame
-    fitting sort.PlaceL sort.Byte p g e h tame = absurd (cc)
-    fitting sort.PlaceL sort.Word p g e h tame = absurd (cc)
-    fitting sort.PlaceL sort.PlaceB p g e h tame = absurd (cc)
-    fitting sort.PlaceL sort.PlaceW p g e h tame = absurd (cc)
     fitting sort.PlaceL sort.PlaceL p g e h tame = h
+    fitting _ _ p g e h tame = absurd (cc)
 
     pub tame_own : (o : Option Sort) (x : Sort) (g : Meaning) → sort_fits o x ≡ true → IsTame objects s x g → OwnTame o g
     tame_own None x g e h = tt

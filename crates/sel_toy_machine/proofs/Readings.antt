@@ -70,10 +70,8 @@ place_read : (m : Machine) (o : Operand) (size : Size) (a x : ℕ) → is_place 
     fetched size m.area a ≡ Some x
 place_read m (Register r) size a x p some e g = absurd (false≢true p)
 place_read m (Based r) size a x p some e g = subst (λ k. fetched size m.area k ≡ Some x) (same_Some (long (in_register m r)) a e) g
-place_read m (Word w) size a x p some e g = absurd (some refl)
-place_read m (Deferred w) size a x p some e g = absurd (some refl)
-place_read m (Argument k) size a x p some e g = absurd (some refl)
 place_read m (Number n) size a x p some e g = absurd (false≢true p)
+place_read m _ size a x p some e g = absurd (some refl)
 
 long_at : (xs : List ℕ) (k x : ℕ) → AllByRecursion (λ n. n < 2 ^ 32) xs → slice_get xs k ≡ Some x → x < 2 ^ 32
 long_at [] k x h e = absurd (none-some x e)

@@ -83,18 +83,14 @@ rule_is = record {
 }
 
 values_are : (i x : ℕ) (h : Attr Operand) → hole holes i ≡ Some h → numbers i ≡ Some x → worth toy program (size_at classes rule.right i) h machine ≡ Some x
-values_are zero x h at e = absurd (none-some x e)
-values_are (suc zero) x h at e = absurd (none-some x e)
 values_are (suc (suc zero)) x h at e = subst (λ g. worth toy program (size_at classes rule.right 2) g machine ≡ Some x) (same_Some _ h at) e
 values_are (suc (suc (suc zero))) x h at e = subst (λ g. worth toy program (size_at classes rule.right 3) g machine ≡ Some x) (same_Some _ h at) e
-values_are (suc (suc (suc (suc i)))) x h at e = absurd (none-some x e)
+values_are _ x h at e = absurd (none-some x e)
 
 small_are : (i x : ℕ) → numbers i ≡ Some x → x < 2 ^ (8 * bytes_of (size_at classes rule.right i))
-small_are zero x e = absurd (none-some x e)
-small_are (suc zero) x e = absurd (none-some x e)
 small_are (suc (suc zero)) x e = subst (λ n. n < 2 ^ 32) (same_Some 5 x e) (omega arith)
 small_are (suc (suc (suc zero))) x e = subst (λ n. n < 2 ^ 32) (same_Some 7 x e) (omega arith)
-small_are (suc (suc (suc (suc i)))) x e = absurd (none-some x e)
+small_are _ x e = absurd (none-some x e)
 
 whole_are : (i : ℕ) (h : Attr Operand) → hole holes i ≡ Some h → IsWhole h (numbers i)
 whole_are zero h at = absurd (none-some h at)
@@ -106,10 +102,8 @@ whole_are (suc (suc (suc (suc i)))) h at = absurd (none-some h at)
 -- no symbol is a place
 homes_are : (i : ℕ) (h : Attr Operand) (o : Operand) → hole holes i ≡ Some h → own_operand toy h ≡ Some o → IsSome (toy.names o (size_at classes rule.right i) machine)
 homes_are zero h o at e = absurd (none-some h at)
-homes_are (suc zero) h o at e = absurd (none-some o (ap (own_operand toy) (same_Some _ h at) ∙ e))
-homes_are (suc (suc zero)) h o at e = absurd (none-some o (ap (own_operand toy) (same_Some _ h at) ∙ e))
-homes_are (suc (suc (suc zero))) h o at e = absurd (none-some o (ap (own_operand toy) (same_Some _ h at) ∙ e))
 homes_are (suc (suc (suc (suc i)))) h o at e = absurd (none-some h at)
+homes_are _ h o at e = absurd (none-some o (ap (own_operand toy) (same_Some _ h at) ∙ e))
 
 agrees : Stands program frame [] view.state machine
 agrees = record {

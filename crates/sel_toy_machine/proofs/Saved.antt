@@ -48,75 +48,29 @@ is_one : (i : ℕ) → (i == 1) ≡ true → i ≡ 1
 is_one i e = eqb-true i 1 e
 
 value_found : (size : Size) (o : Option Form) (e : EffectShape) → found_spill (kind.Value size) o ≡ Some e → Found o (form.Move size 1) e (StoreHome size 0 (Symbol 1))
-value_found size None e h = absurd (none-some e h)
 value_found size (Some (form.Move z i)) e h =
     let w = where_is ((bytes_of z == bytes_of size) && (i == 1)) (undivided (StoreHome size 0 (Symbol 1))) e h in
     let b = and_parts (bytes_of z == bytes_of size) (i == 1) w.0 in
     record { form_is = ap (λ y. Some (form.Move y i)) (same_size z size b.0) ∙ ap (λ j. Some (form.Move size j)) (is_one i b.1); effect_is = w.1 }
-value_found size (Some (form.Address i)) e h = absurd (none-some e h)
-value_found size (Some (form.Add i j)) e h = absurd (none-some e h)
-value_found size (Some (form.Divide i j)) e h = absurd (none-some e h)
-value_found size (Some (form.Store z i j)) e h = absurd (none-some e h)
-value_found size (Some (form.StoreAt z i j)) e h = absurd (none-some e h)
-value_found size (Some (form.Push i)) e h = absurd (none-some e h)
-value_found size (Some (form.Branch i j k)) e h = absurd (none-some e h)
-value_found size (Some (form.Jump i)) e h = absurd (none-some e h)
-value_found size (Some (form.Call i)) e h = absurd (none-some e h)
-value_found size (Some (form.Return i)) e h = absurd (none-some e h)
-value_found size (Some (form.Save i)) e h = absurd (none-some e h)
+value_found size _ e h = absurd (none-some e h)
 
 place_found : (size : Size) (o : Option Form) (e : EffectShape) → found_spill (kind.Place size) o ≡ Some e → Found o (form.Address 1) e (StoreHome Long 0 (Symbol 1))
-place_found size None e h = absurd (none-some e h)
-place_found size (Some (form.Move z i)) e h = absurd (none-some e h)
 place_found size (Some (form.Address i)) e h =
     let w = where_is (i == 1) (undivided (StoreHome Long 0 (Symbol 1))) e h in
     record { form_is = ap (λ j. Some (form.Address j)) (is_one i w.0); effect_is = w.1 }
-place_found size (Some (form.Add i j)) e h = absurd (none-some e h)
-place_found size (Some (form.Divide i j)) e h = absurd (none-some e h)
-place_found size (Some (form.Store z i j)) e h = absurd (none-some e h)
-place_found size (Some (form.StoreAt z i j)) e h = absurd (none-some e h)
-place_found size (Some (form.Push i)) e h = absurd (none-some e h)
-place_found size (Some (form.Branch i j k)) e h = absurd (none-some e h)
-place_found size (Some (form.Jump i)) e h = absurd (none-some e h)
-place_found size (Some (form.Call i)) e h = absurd (none-some e h)
-place_found size (Some (form.Return i)) e h = absurd (none-some e h)
-place_found size (Some (form.Save i)) e h = absurd (none-some e h)
+place_found size _ e h = absurd (none-some e h)
 
 address_found : (o : Option Form) (e : EffectShape) → found_spill kind.Ea o ≡ Some e → Found o (form.Address 1) e (StoreHome Long 0 (Symbol 1))
-address_found None e h = absurd (none-some e h)
-address_found (Some (form.Move z i)) e h = absurd (none-some e h)
 address_found (Some (form.Address i)) e h =
     let w = where_is (i == 1) (undivided (StoreHome Long 0 (Symbol 1))) e h in
     record { form_is = ap (λ j. Some (form.Address j)) (is_one i w.0); effect_is = w.1 }
-address_found (Some (form.Add i j)) e h = absurd (none-some e h)
-address_found (Some (form.Divide i j)) e h = absurd (none-some e h)
-address_found (Some (form.Store size i j)) e h = absurd (none-some e h)
-address_found (Some (form.StoreAt size i j)) e h = absurd (none-some e h)
-address_found (Some (form.Push i)) e h = absurd (none-some e h)
-address_found (Some (form.Branch i j k)) e h = absurd (none-some e h)
-address_found (Some (form.Jump i)) e h = absurd (none-some e h)
-address_found (Some (form.Call i)) e h = absurd (none-some e h)
-address_found (Some (form.Return i)) e h = absurd (none-some e h)
-address_found (Some (form.Save i)) e h = absurd (none-some e h)
+address_found _ e h = absurd (none-some e h)
 
 reload_found : (o : Option Form) (e : EffectShape) → found_spill kind.Reg o ≡ Some e → Found o (form.Move Long 1) e (Value (Symbol 1))
-reload_found None e h = absurd (none-some e h)
-reload_found (Some (form.Move Byte i)) e h = absurd (none-some e h)
-reload_found (Some (form.Move Halfword i)) e h = absurd (none-some e h)
 reload_found (Some (form.Move Long i)) e h =
     let w = where_is (i == 1) (undivided (Value (Symbol 1))) e h in
     record { form_is = ap (λ j. Some (form.Move Long j)) (is_one i w.0); effect_is = w.1 }
-reload_found (Some (form.Address i)) e h = absurd (none-some e h)
-reload_found (Some (form.Add i j)) e h = absurd (none-some e h)
-reload_found (Some (form.Divide i j)) e h = absurd (none-some e h)
-reload_found (Some (form.Store size i j)) e h = absurd (none-some e h)
-reload_found (Some (form.StoreAt size i j)) e h = absurd (none-some e h)
-reload_found (Some (form.Push i)) e h = absurd (none-some e h)
-reload_found (Some (form.Branch i j k)) e h = absurd (none-some e h)
-reload_found (Some (form.Jump i)) e h = absurd (none-some e h)
-reload_found (Some (form.Call i)) e h = absurd (none-some e h)
-reload_found (Some (form.Return i)) e h = absurd (none-some e h)
-reload_found (Some (form.Save i)) e h = absurd (none-some e h)
+reload_found _ e h = absurd (none-some e h)
 
 stored_same : (y z : Size) (i j : ℕ) (a b : Shape) → StoreHome y i a ≡ StoreHome z j b → a ≡ b
 stored_same y z i j a b e = cc

@@ -90,19 +90,13 @@ taken_shape classes rule e l h gives = shape_taken classes rule e l (taken_by cl
 -- a class of registers has a register
 register_fits : (k : Option Kind) (h : Attr Operand) → is_reg k ≡ true → KindFits toy k h → (r : ℕ) × (h ≡ attr.Reg r)
 register_fits (Some kind.Reg) (attr.Reg r) e fit = (r, refl)
-register_fits (Some kind.Reg) (attr.InSlot w) e fit = absurd fit
-register_fits (Some kind.Reg) (attr.Value o) e fit = absurd fit
-register_fits (Some kind.Reg) (attr.Place o) e fit = absurd fit
-register_fits (Some kind.Reg) (attr.Con n) e fit = absurd fit
-register_fits (Some kind.Reg) (attr.Ea o) e fit = absurd fit
-register_fits (Some kind.Reg) (attr.Token l) e fit = absurd fit
-register_fits (Some kind.Reg) attr.Nothing e fit = absurd fit
 register_fits (Some (kind.Value size)) h e fit = absurd (false≢true e)
 register_fits (Some (kind.Place size)) h e fit = absurd (false≢true e)
 register_fits (Some kind.Con) h e fit = absurd (false≢true e)
 register_fits (Some kind.Ea) h e fit = absurd (false≢true e)
 register_fits (Some kind.Nothing) h e fit = absurd (false≢true e)
 register_fits None h e fit = absurd (false≢true e)
+register_fits _ _ e fit = absurd fit
 
 symbol_register : (classes : List Class) (s : Sym) (h : Attr Operand) → holds_register classes (Some s) ≡ true → SymFits toy classes s h → (r : ℕ) × (h ≡ attr.Reg r)
 symbol_register classes (grammar_symbol.Tok x) h e fit = absurd (false≢true e)
@@ -136,90 +130,31 @@ module _ (classes : List Class) (right : List Sym) (hs : List (Attr Operand)) (f
 
   place_fits : (size : Size) (k : Option Kind) (h : Attr Operand) → is_place_of size k ≡ true → KindFits toy k h → OwnPlace h
   place_fits size (Some (kind.Place z)) (attr.Place o) e fit = record { operand_is = o; own = refl; place = fit }
-  place_fits size (Some (kind.Place z)) (attr.Reg r) e fit = absurd fit
-  place_fits size (Some (kind.Place z)) (attr.InSlot w) e fit = absurd fit
-  place_fits size (Some (kind.Place z)) (attr.Value o) e fit = absurd fit
-  place_fits size (Some (kind.Place z)) (attr.Con n) e fit = absurd fit
-  place_fits size (Some (kind.Place z)) (attr.Ea o) e fit = absurd fit
-  place_fits size (Some (kind.Place z)) (attr.Token l) e fit = absurd fit
-  place_fits size (Some (kind.Place z)) attr.Nothing e fit = absurd fit
   place_fits size (Some (kind.Value z)) h e fit = absurd (false≢true e)
   place_fits size (Some kind.Reg) h e fit = absurd (false≢true e)
   place_fits size (Some kind.Con) h e fit = absurd (false≢true e)
   place_fits size (Some kind.Ea) h e fit = absurd (false≢true e)
   place_fits size (Some kind.Nothing) h e fit = absurd (false≢true e)
   place_fits size None h e fit = absurd (false≢true e)
+  place_fits size _ _ e fit = absurd fit
 
   local_place : (a : Att) → is_of_kind (attribute_of tok.Loc) a ≡ true → OwnPlace (attr.Token (record { tok = tok.Loc; att = a }))
-  local_place att.Nothing e = absurd (false≢true e)
-  local_place (att.Number n) e = absurd (false≢true e)
-  local_place (att.Object object offset) e = absurd (false≢true e)
-  local_place (att.Branch rel label) e = absurd (false≢true e)
-  local_place (att.Label label) e = absurd (false≢true e)
-  local_place (att.Callee function count) e = absurd (false≢true e)
   local_place (att.Slot k) e = record { operand_is = operand.Word k; own = refl; place = refl }
+  local_place _ e = absurd (false≢true e)
 
   argument_place : (a : Att) → is_of_kind (attribute_of tok.Arg) a ≡ true → OwnPlace (attr.Token (record { tok = tok.Arg; att = a }))
-  argument_place att.Nothing e = absurd (false≢true e)
-  argument_place (att.Number n) e = absurd (false≢true e)
-  argument_place (att.Object object offset) e = absurd (false≢true e)
-  argument_place (att.Branch rel label) e = absurd (false≢true e)
-  argument_place (att.Label label) e = absurd (false≢true e)
-  argument_place (att.Callee function count) e = absurd (false≢true e)
   argument_place (att.Slot k) e = record { operand_is = operand.Argument k; own = refl; place = refl }
+  argument_place _ e = absurd (false≢true e)
 
   slot_place : (x : Tok) (a : Att) → is_slot x ≡ true → is_of_kind (attribute_of x) a ≡ true → OwnPlace (attr.Token (record { tok = x; att = a }))
-  slot_place tok.Zero a e fit = absurd (false≢true e)
-  slot_place tok.One a e fit = absurd (false≢true e)
-  slot_place tok.Two a e fit = absurd (false≢true e)
-  slot_place tok.Four a e fit = absurd (false≢true e)
-  slot_place tok.Eight a e fit = absurd (false≢true e)
-  slot_place tok.Const a e fit = absurd (false≢true e)
-  slot_place tok.Gaddr a e fit = absurd (false≢true e)
   slot_place tok.Loc a e fit = local_place a fit
   slot_place tok.Arg a e fit = argument_place a fit
-  slot_place tok.IndirB a e fit = absurd (false≢true e)
-  slot_place tok.IndirW a e fit = absurd (false≢true e)
-  slot_place tok.IndirL a e fit = absurd (false≢true e)
-  slot_place tok.Plus a e fit = absurd (false≢true e)
-  slot_place tok.Minus a e fit = absurd (false≢true e)
-  slot_place tok.Mul a e fit = absurd (false≢true e)
-  slot_place tok.Div a e fit = absurd (false≢true e)
-  slot_place tok.Mod a e fit = absurd (false≢true e)
-  slot_place tok.And a e fit = absurd (false≢true e)
-  slot_place tok.Or a e fit = absurd (false≢true e)
-  slot_place tok.Xor a e fit = absurd (false≢true e)
-  slot_place tok.Lsh a e fit = absurd (false≢true e)
-  slot_place tok.Rsh a e fit = absurd (false≢true e)
-  slot_place tok.Neg a e fit = absurd (false≢true e)
-  slot_place tok.Com a e fit = absurd (false≢true e)
-  slot_place tok.Sxb a e fit = absurd (false≢true e)
-  slot_place tok.Zxb a e fit = absurd (false≢true e)
-  slot_place tok.Sxw a e fit = absurd (false≢true e)
-  slot_place tok.Zxw a e fit = absurd (false≢true e)
-  slot_place tok.Ncb a e fit = absurd (false≢true e)
-  slot_place tok.Ncw a e fit = absurd (false≢true e)
-  slot_place tok.AssignB a e fit = absurd (false≢true e)
-  slot_place tok.AssignW a e fit = absurd (false≢true e)
-  slot_place tok.AssignL a e fit = absurd (false≢true e)
-  slot_place tok.Cbr a e fit = absurd (false≢true e)
-  slot_place tok.Push a e fit = absurd (false≢true e)
-  slot_place tok.Ret a e fit = absurd (false≢true e)
-  slot_place tok.Call a e fit = absurd (false≢true e)
-  slot_place tok.Save a e fit = absurd (false≢true e)
-  slot_place tok.Jump a e fit = absurd (false≢true e)
-  slot_place tok.End a e fit = absurd (false≢true e)
+  slot_place _ a e fit = absurd (false≢true e)
 
   home_place : (size : Size) (s : Sym) (h : Attr Operand) → is_home classes size (Some s) ≡ true → SymFits toy classes s h → OwnPlace h
   home_place size (grammar_symbol.Tok x) (attr.Token l) e fit = slot_place l.tok l.att (subst (λ y. is_slot y ≡ true) (sym fit.0) (and_parts (is_slot x) _ e).0) fit.1
-  home_place size (grammar_symbol.Tok x) (attr.Reg r) e fit = absurd fit
-  home_place size (grammar_symbol.Tok x) (attr.InSlot w) e fit = absurd fit
-  home_place size (grammar_symbol.Tok x) (attr.Value o) e fit = absurd fit
-  home_place size (grammar_symbol.Tok x) (attr.Place o) e fit = absurd fit
-  home_place size (grammar_symbol.Tok x) (attr.Con n) e fit = absurd fit
-  home_place size (grammar_symbol.Tok x) (attr.Ea o) e fit = absurd fit
-  home_place size (grammar_symbol.Tok x) attr.Nothing e fit = absurd fit
   home_place size (grammar_symbol.Class c) h e fit = place_fits size (kind_at classes c) h e fit
+  home_place size _ _ e fit = absurd fit
 
   pub home_hole : (size : Size) (i : ℕ) → is_home classes size (hole right i) ≡ true → Home i
   home_hole size zero e = absurd (false≢true e)
@@ -372,20 +307,12 @@ other a size i e is act h = no_home a size i (act_of (undivided a) e is ∙ act)
 
 home_own : (q : TreeProgram) (classes : List Class) (rule : Rule) (e : EffectShape) (size : Size) (i : ℕ) (hs : List (Attr Operand)) (h : Attr Operand) (k : Option Kind) (g : ShapeForm) →
     found_shape classes rule.right k g ≡ Some e → e.act ≡ PlaceHome size i → Fit toy classes rule.right hs → hole hs i ≡ Some h → own_operand toy h ≡ Some (shaped q g hs)
-home_own q classes rule e size i hs h None (shape_form.Alone j) found act fit at = absurd (none-some e found)
-home_own q classes rule e size i hs h None (shape_form.Based j) found act fit at = absurd (none-some e found)
 home_own q classes rule e size i hs h (Some kind.Reg) (shape_form.Alone j) found act fit at =
     absurd (other (Value (Symbol j)) size i e (where_is _ (undivided (Value (Symbol j))) e found).1 act tt)
-home_own q classes rule e size i hs h (Some kind.Reg) (shape_form.Based j) found act fit at = absurd (none-some e found)
 home_own q classes rule e size i hs h (Some kind.Con) (shape_form.Alone j) found act fit at =
     absurd (other (Number (Symbol j)) size i e (where_is _ (undivided (Number (Symbol j))) e found).1 act tt)
-home_own q classes rule e size i hs h (Some kind.Con) (shape_form.Based j) found act fit at = absurd (none-some e found)
-home_own q classes rule e size i hs h (Some kind.Ea) (shape_form.Alone j) found act fit at = absurd (none-some e found)
 home_own q classes rule e size i hs h (Some kind.Ea) (shape_form.Based j) found act fit at =
     absurd (other (Address (Symbol j)) size i e (where_is _ (undivided (Address (Symbol j))) e found).1 act tt)
-home_own q classes rule e size i hs h (Some kind.Nothing) (shape_form.Alone j) found act fit at = absurd (none-some e found)
-home_own q classes rule e size i hs h (Some kind.Nothing) (shape_form.Based j) found act fit at = absurd (none-some e found)
-home_own q classes rule e size i hs h (Some (kind.Value z)) (shape_form.Alone j) found act fit at = absurd (none-some e found)
 home_own q classes rule e size i hs h (Some (kind.Value z)) (shape_form.Based j) found act fit at =
     absurd (other (Value (Memory z (Symbol j))) size i e (where_is _ (undivided (Value (Memory z (Symbol j)))) e found).1 act tt)
 home_own q classes rule e size i hs h (Some (kind.Place z)) (shape_form.Alone j) found act fit at =
@@ -396,6 +323,7 @@ home_own q classes rule e size i hs h (Some (kind.Place z)) (shape_form.Alone j)
     subst (λ x. own_operand toy x ≡ Some (shaped q (shape_form.Alone j) hs)) h_is (p.own ∙ ap Some (sym (alone_is classes rule.right hs fit q z j w.0)))
 home_own q classes rule e size i hs h (Some (kind.Place z)) (shape_form.Based j) found act fit at =
     absurd (other (PlaceAt z (Symbol j)) size i e (where_is _ (undivided (PlaceAt z (Symbol j))) e found).1 act tt)
+home_own q classes rule e size i hs h _ _ found act fit at = absurd (none-some e found)
 
 register_own : (classes : List Class) (rule : Rule) (e : EffectShape) (i : ℕ) → found_shape classes rule.right (Some kind.Reg) (shape_form.Alone i) ≡ Some e → e.act ≡ Value (Symbol i)
 register_own classes rule e i found = sym (act_of (undivided (Value (Symbol i))) e (where_is (holds_register classes (hole rule.right i)) (undivided (Value (Symbol i))) e found).1)

@@ -39,14 +39,9 @@ use Rattle.sel_toy_machine.specs.Toy.{toy}
 
 pub same_size : (a b : Size) → (bytes_of a == bytes_of b) ≡ true → a ≡ b
 same_size Byte Byte e = refl
-same_size Byte Halfword e = absurd (false≢true e)
-same_size Byte Long e = absurd (false≢true e)
-same_size Halfword Byte e = absurd (false≢true e)
 same_size Halfword Halfword e = refl
-same_size Halfword Long e = absurd (false≢true e)
-same_size Long Byte e = absurd (false≢true e)
-same_size Long Halfword e = absurd (false≢true e)
 same_size Long Long e = refl
+same_size _ _ e = absurd (false≢true e)
 
 -- the_number view's number of a symbol is its value as a term
 pub symbol_value : (v : View) (i x : ℕ) (size : Size) → v.symbol i ≡ Some x → x < 2 ^ (8 * bytes_of size) → value v (Symbol i) ≡ x
@@ -81,13 +76,10 @@ slot_taken (Some o) x m e = e
 
 token_taken : (q : TreeProgram) (y : Tok) (a : Att) (x : ℕ) (m : Machine) → Rattle.sel_target.specs.Values.token_worth toy q y a m ≡ Some x → x < 2 ^ 32 →
     toy.reads (token_operand q y a) Long m ≡ Some x
-token_taken q y att.Nothing x m e lt = absurd (none-some x e)
 token_taken q y (att.Number n) x m e lt = number_taken Long n x (same_Some n x e) lt
 token_taken q y (att.Object object offset) x m e lt = number_taken Long (unwrap_or (address_of (slice_get q.objects object) offset) 0) x (ap (λ o. unwrap_or o 0) e) lt
 token_taken q y (att.Slot k) x m e lt = slot_taken (slot_place operand.Word operand.Argument y k) x m e
-token_taken q y (att.Branch rel label) x m e lt = absurd (none-some x e)
-token_taken q y (att.Label label) x m e lt = absurd (none-some x e)
-token_taken q y (att.Callee function count) x m e lt = absurd (none-some x e)
+token_taken q y _ x m e lt = absurd (none-some x e)
 
 -- an attribute's number is what an instruction takes of it
 attr_taken : (q : TreeProgram) (h : Attr Operand) (size : Size) (x : ℕ) (m : Machine) → ((l : Leaf) → h ≡ attr.Token l → size ≡ Long) →

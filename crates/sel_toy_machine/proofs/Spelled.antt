@@ -30,41 +30,12 @@ use Rattle.sel_toy_machine.specs.Toy.{toy}
 
 alike : (a b : Operand) → same a b ≡ true → a ≡ b
 alike (Register i) (Register j) e = ap Register (eqb-true i j e)
-alike (Register i) (Based j) e = absurd (false≢true e)
-alike (Register i) (Word j) e = absurd (false≢true e)
-alike (Register i) (Deferred j) e = absurd (false≢true e)
-alike (Register i) (Argument j) e = absurd (false≢true e)
-alike (Register i) (Number j) e = absurd (false≢true e)
-alike (Based i) (Register j) e = absurd (false≢true e)
 alike (Based i) (Based j) e = ap Based (eqb-true i j e)
-alike (Based i) (Word j) e = absurd (false≢true e)
-alike (Based i) (Deferred j) e = absurd (false≢true e)
-alike (Based i) (Argument j) e = absurd (false≢true e)
-alike (Based i) (Number j) e = absurd (false≢true e)
-alike (Word i) (Register j) e = absurd (false≢true e)
-alike (Word i) (Based j) e = absurd (false≢true e)
 alike (Word i) (Word j) e = ap Word (eqb-true i j e)
-alike (Word i) (Deferred j) e = absurd (false≢true e)
-alike (Word i) (Argument j) e = absurd (false≢true e)
-alike (Word i) (Number j) e = absurd (false≢true e)
-alike (Deferred i) (Register j) e = absurd (false≢true e)
-alike (Deferred i) (Based j) e = absurd (false≢true e)
-alike (Deferred i) (Word j) e = absurd (false≢true e)
 alike (Deferred i) (Deferred j) e = ap Deferred (eqb-true i j e)
-alike (Deferred i) (Argument j) e = absurd (false≢true e)
-alike (Deferred i) (Number j) e = absurd (false≢true e)
-alike (Argument i) (Register j) e = absurd (false≢true e)
-alike (Argument i) (Based j) e = absurd (false≢true e)
-alike (Argument i) (Word j) e = absurd (false≢true e)
-alike (Argument i) (Deferred j) e = absurd (false≢true e)
 alike (Argument i) (Argument j) e = ap Argument (eqb-true i j e)
-alike (Argument i) (Number j) e = absurd (false≢true e)
-alike (Number i) (Register j) e = absurd (false≢true e)
-alike (Number i) (Based j) e = absurd (false≢true e)
-alike (Number i) (Word j) e = absurd (false≢true e)
-alike (Number i) (Deferred j) e = absurd (false≢true e)
-alike (Number i) (Argument j) e = absurd (false≢true e)
 alike (Number i) (Number j) e = ap Number (eqb-true i j e)
+alike _ _ e = absurd (false≢true e)
 
 itself : (a : Operand) → same a a ≡ true
 itself (Register i) = number_is i
@@ -102,13 +73,10 @@ slot_touches (Some o) s e = e
 
 token_touches : (q : TreeProgram) (x : Tok) (a : Att) (s : Spot) → touches toy (token_operand q x a) s ≡ true →
     some_touches toy (Rattle.sel_target.specs.Values.token_operand toy x a) s ≡ true
-token_touches q x att.Nothing s e = absurd (nothing s e)
 token_touches q x (att.Number n) s e = absurd (number_nothing n s e)
 token_touches q x (att.Object object offset) s e = absurd (number_nothing (unwrap_or (address_of (slice_get q.objects object) offset) 0) s e)
 token_touches q x (att.Slot k) s e = slot_touches (slot_place Word Argument x k) s e
-token_touches q x (att.Branch rel label) s e = absurd (nothing s e)
-token_touches q x (att.Label label) s e = absurd (nothing s e)
-token_touches q x (att.Callee function count) s e = absurd (nothing s e)
+token_touches q x _ s e = absurd (nothing s e)
 
 of_touches : (q : TreeProgram) (h : Attr Operand) (s : Spot) → touches toy (operand_of q h) s ≡ true → attr_touches toy h s ≡ true
 of_touches q (attr.Reg r) s e = e
@@ -129,11 +97,7 @@ hole_touches q hs (suc i) s (Some h) at e = any_passes_from_place (λ g. attr_to
 based_touches : (o : Operand) (s : Spot) → touches toy (based o) s ≡ true → touches toy o s ≡ true
 based_touches (Register r) (RegAt k) e = e
 based_touches (Register r) (WordAt w) e = absurd (false≢true e)
-based_touches (Based r) s e = absurd (nothing s e)
-based_touches (Word w) s e = absurd (nothing s e)
-based_touches (Deferred w) s e = absurd (nothing s e)
-based_touches (Argument k) s e = absurd (nothing s e)
-based_touches (Number n) s e = absurd (nothing s e)
+based_touches _ s e = absurd (nothing s e)
 
 shaped_touches : (q : TreeProgram) (f : ShapeForm) (hs : List (Attr Operand)) (s : Spot) → touches toy (shaped q f hs) s ≡ true →
     list_any (λ h. attr_touches toy h s) hs ≡ true
@@ -149,24 +113,14 @@ slot_is : (o : Option Operand) (p : Operand) → o ≡ Some p → unwrap_or o no
 slot_is o p e = ap (λ w. unwrap_or w nought) e
 
 token_is : (q : TreeProgram) (x : Tok) (a : Att) (p : Operand) → Rattle.sel_target.specs.Values.token_operand toy x a ≡ Some p → token_operand q x a ≡ p
-token_is q x att.Nothing p e = absurd (none-some p e)
-token_is q x (att.Number n) p e = absurd (none-some p e)
-token_is q x (att.Object object offset) p e = absurd (none-some p e)
 token_is q x (att.Slot k) p e = slot_is (slot_place Word Argument x k) p e
-token_is q x (att.Branch rel label) p e = absurd (none-some p e)
-token_is q x (att.Label label) p e = absurd (none-some p e)
-token_is q x (att.Callee function count) p e = absurd (none-some p e)
+token_is q x _ p e = absurd (none-some p e)
 
 -- a symbol that is a place has its own operand
 pub own_is : (q : TreeProgram) (h : Attr Operand) (p : Operand) → own_operand toy h ≡ Some p → operand_of q h ≡ p
-own_is q (attr.Reg r) p e = absurd (none-some p e)
-own_is q (attr.InSlot w) p e = absurd (none-some p e)
-own_is q (attr.Value o) p e = absurd (none-some p e)
 own_is q (attr.Place o) p e = same_Some o p e
-own_is q (attr.Con n) p e = absurd (none-some p e)
-own_is q (attr.Ea o) p e = absurd (none-some p e)
 own_is q (attr.Token l) p e = token_is q l.tok l.att p e
-own_is q attr.Nothing p e = absurd (none-some p e)
+own_is q _ p e = absurd (none-some p e)
 
 pub alone : (q : TreeProgram) (l : Line) (i : ℕ) (hs : List (Attr Operand)) (h : Attr Operand) (o : Operand) →
     l.pieces ≡ piece.Hole i ∷ [] → hole hs i ≡ Some h → own_operand toy h ≡ Some o → operand_filled q l hs ≡ o

@@ -485,101 +485,45 @@ module _ (q : TreeProgram) (f : Extent) (fs : List Extent) (classes : List Class
       (gives_nothing rule.give && (is_home classes size (hole rule.right i) && is_sized classes rule.right Long j)) ≡ true →
       Act (StoreHome size i (Symbol j)) d → Goal (form.Store size i j) d
   by_store size i j (Puts g n) ready w did = store_did size i j n g ready (given_tests _ _ w).1 did.0 did.1
-  by_store size i j (Branches rel label x y) ready w did = absurd did
-  by_store size i j (Pushes n) ready w did = absurd did
-  by_store size i j (Leaves n) ready w did = absurd did
-  by_store size i j (CallDeed function count) ready w did = absurd did
-  by_store size i j (Saves slot) ready w did = absurd did
-  by_store size i j (Jumps label) ready w did = absurd did
-  by_store size i j Traps ready w did = absurd did
-  by_store size i j Strays ready w did = absurd did
+  by_store size i j _ ready w did = absurd did
 
   by_store_at : (size : Size) (i j : ℕ) (d : Deed) → R (undivided (StoreAt size (Symbol i) (Symbol j))) →
       (gives_nothing rule.give && (holds_register classes (hole rule.right i) && is_sized classes rule.right Long j)) ≡ true →
       Act (StoreAt size (Symbol i) (Symbol j)) d → Goal (form.StoreAt size i j) d
   by_store_at size i j (Puts g n) ready w did = store_at_did size i j n g ready (given_tests _ _ w).0 (given_tests _ _ w).1 did.0 did.1
-  by_store_at size i j (Branches rel label x y) ready w did = absurd did
-  by_store_at size i j (Pushes n) ready w did = absurd did
-  by_store_at size i j (Leaves n) ready w did = absurd did
-  by_store_at size i j (CallDeed function count) ready w did = absurd did
-  by_store_at size i j (Saves slot) ready w did = absurd did
-  by_store_at size i j (Jumps label) ready w did = absurd did
-  by_store_at size i j Traps ready w did = absurd did
-  by_store_at size i j Strays ready w did = absurd did
+  by_store_at size i j _ ready w did = absurd did
 
   by_push : (i : ℕ) (d : Deed) → R (undivided (Push (Symbol i))) → (gives_nothing rule.give && is_sized classes rule.right Long i) ≡ true → Act (Push (Symbol i)) d → Goal (form.Push i) d
-  by_push i (Puts g n) ready w did = absurd did
-  by_push i (Branches rel label x y) ready w did = absurd did
   by_push i (Pushes n) ready w did = push_did i n ready (and_parts (gives_nothing rule.give) _ w).1 did
-  by_push i (Leaves n) ready w did = absurd did
-  by_push i (CallDeed function count) ready w did = absurd did
-  by_push i (Saves slot) ready w did = absurd did
-  by_push i (Jumps label) ready w did = absurd did
-  by_push i Traps ready w did = absurd did
-  by_push i Strays ready w did = absurd did
+  by_push i _ ready w did = absurd did
 
   by_branch : (i j k : ℕ) (d : Deed) → R (undivided (Branch i (Symbol j) (Symbol k))) →
       (gives_nothing rule.give && (is_sized classes rule.right Long j && is_sized classes rule.right Long k)) ≡ true → Act (Branch i (Symbol j) (Symbol k)) d →
       Goal (form.Branch i j k) d
-  by_branch i j k (Puts g n) ready w did = absurd did
   by_branch i j k (Branches rel label x y) ready w did =
       subst (λ o. Did (branched o (source_at q hs j) (source_at q hs k) ∷ []) (Branches rel label x y)) (sym did.0)
       (branch_did i j k rel label x y ready (given_tests _ _ w).0 (given_tests _ _ w).1 did.2 did.3)
-  by_branch i j k (Pushes n) ready w did = absurd did
-  by_branch i j k (Leaves n) ready w did = absurd did
-  by_branch i j k (CallDeed function count) ready w did = absurd did
-  by_branch i j k (Saves slot) ready w did = absurd did
-  by_branch i j k (Jumps label) ready w did = absurd did
-  by_branch i j k Traps ready w did = absurd did
-  by_branch i j k Strays ready w did = absurd did
+  by_branch i j k _ ready w did = absurd did
 
   by_jump : (i : ℕ) (d : Deed) → R (undivided Jump) → (gives_nothing rule.give && (i == 1)) ≡ true → Act Jump d → Goal (form.Jump i) d
-  by_jump i (Puts g n) ready w did = absurd did
-  by_jump i (Branches rel label x y) ready w did = absurd did
-  by_jump i (Pushes n) ready w did = absurd did
-  by_jump i (Leaves n) ready w did = absurd did
-  by_jump i (CallDeed function count) ready w did = absurd did
-  by_jump i (Saves slot) ready w did = absurd did
   by_jump i (Jumps label) ready w did =
       subst (λ o. Did (jumped o ∷ []) (Jumps label)) (sym (ap (λ j. att_of (hole hs j)) (one_is i w) ∙ did)) (jump_did label (undivided Jump) ready)
-  by_jump i Traps ready w did = absurd did
-  by_jump i Strays ready w did = absurd did
+  by_jump i _ ready w did = absurd did
 
   by_call : (i : ℕ) (d : Deed) → R (undivided Call) → (gives_nothing rule.give && (i == 1)) ≡ true → Act Call d → Goal (form.Call i) d
-  by_call i (Puts g n) ready w did = absurd did
-  by_call i (Branches rel label x y) ready w did = absurd did
-  by_call i (Pushes n) ready w did = absurd did
-  by_call i (Leaves n) ready w did = absurd did
   by_call i (CallDeed function count) ready w did =
       subst (λ o. Did (called o ∷ []) (CallDeed function count)) (sym (ap (λ j. att_of (hole hs j)) (one_is i w) ∙ did.0)) (call_did function count did.1 did.2 ready.instance_of.agrees)
-  by_call i (Saves slot) ready w did = absurd did
-  by_call i (Jumps label) ready w did = absurd did
-  by_call i Traps ready w did = absurd did
-  by_call i Strays ready w did = absurd did
+  by_call i _ ready w did = absurd did
 
   by_return : (i : ℕ) (d : Deed) → R (undivided (Return (Symbol i))) → (gives_nothing rule.give && is_sized classes rule.right Long i) ≡ true →
       Act (Return (Symbol i)) d → Goal (form.Return i) d
-  by_return i (Puts g n) ready w did = absurd did
-  by_return i (Branches rel label x y) ready w did = absurd did
-  by_return i (Pushes n) ready w did = absurd did
   by_return i (Leaves n) ready w did = returned_did i n ready (and_parts (gives_nothing rule.give) _ w).1 did
-  by_return i (CallDeed function count) ready w did = absurd did
-  by_return i (Saves slot) ready w did = absurd did
-  by_return i (Jumps label) ready w did = absurd did
-  by_return i Traps ready w did = absurd did
-  by_return i Strays ready w did = absurd did
+  by_return i _ ready w did = absurd did
 
   by_save : (i : ℕ) (d : Deed) → R (undivided (Save i)) → (gives_nothing rule.give && begins_with_save rule.right) ≡ true → Act (Save i) d → Goal (form.Save i) d
-  by_save i (Puts g n) ready w did = absurd did
-  by_save i (Branches rel label x y) ready w did = absurd did
-  by_save i (Pushes n) ready w did = absurd did
-  by_save i (Leaves n) ready w did = absurd did
-  by_save i (CallDeed function count) ready w did = absurd did
   by_save i (Saves slot) ready w did =
       subst (λ o. Did (saved o ∷ []) (Saves slot)) (sym did.0) (save_did slot (undivided (Save i)) ready (and_parts (gives_nothing rule.give) _ w).1 did.1)
-  by_save i (Jumps label) ready w did = absurd did
-  by_save i Traps ready w did = absurd did
-  by_save i Strays ready w did = absurd did
+  by_save i _ ready w did = absurd did
 
   value_did : (t : Shape) (d : Deed) → Act (Value t) d → ⊥
   value_did t (Puts g n) h = h

@@ -35,10 +35,6 @@ line_taken classes rule e l (Some f) el ef h = by_line l f el ef h
 
 rule_taken : (classes : List Class) (rule : Rule) (e : EffectShape) (lines : List Line) (g : Give) → rule.lines ≡ lines → rule.give ≡ g →
     found_rule classes rule lines g ≡ Ok e → Taken classes rule e
-rule_taken classes rule e [] give.Fresh el eg h = absurd (err_ok (fault_at 0) e h)
-rule_taken classes rule e [] give.Reuse el eg h = absurd (err_ok (fault_at 0) e h)
-rule_taken classes rule e [] give.Scratch el eg h = absurd (err_ok (fault_at 0) e h)
-rule_taken classes rule e [] give.Nothing el eg h = absurd (err_ok (fault_at 0) e h)
 rule_taken classes rule e [] (give.Shape l) el eg h = by_shape l el eg (or_ok l.line (found_shape classes rule.right (kind_at classes rule.left) (shape_of l.pieces)) e h)
 rule_taken classes rule e (l ∷ []) g el eg h =
     line_taken classes rule e l (form_of l.pieces) el refl (or_ok l.line (found_line classes rule (form_of l.pieces)) e (by g h))
@@ -56,6 +52,7 @@ rule_taken classes rule e (l ∷ k ∷ ls) g el eg h = absurd (err_ok (fault_at 
   by give.Scratch h = h
   by give.Nothing h = h
   by (give.Shape s) h = h
+rule_taken classes rule e _ _ el eg h = absurd (err_ok (fault_at 0) e h)
 
 pub taken_by : (classes : List Class) (rule : Rule) (e : EffectShape) → effect classes rule ≡ Ok e → Taken classes rule e
 taken_by classes rule e h = rule_taken classes rule e rule.lines rule.give refl refl h

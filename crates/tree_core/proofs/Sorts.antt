@@ -6,9 +6,4 @@ use Rattle.tree_core.specs.declared.token.Sort.TheVariants as sort
 
 pub fits_stmt : (x : Sort) → fits sort.Stmt x ≡ true → x ≡ sort.Stmt
 fits_stmt sort.Stmt e = refl
-fits_stmt sort.Long e = absurd (cc)
-fits_stmt sort.Byte e = absurd (cc)
-fits_stmt sort.Word e = absurd (cc)
-fits_stmt sort.PlaceB e = absurd (cc)
-fits_stmt sort.PlaceW e = absurd (cc)
-fits_stmt sort.PlaceL e = absurd (cc)
+fits_stmt _ e = absurd (cc)

@@ -19,54 +19,11 @@ both_true false c e = absurd cc
 
 no_attribute : (a : Att) → is_of_kind (attribute_of tok.End) a ≡ true → a ≡ att.Nothing
 no_attribute att.Nothing e = refl
-no_attribute (att.Number n) e = absurd cc
-no_attribute (att.Object o k) e = absurd cc
-no_attribute (att.Slot n) e = absurd cc
-no_attribute (att.Branch r l) e = absurd cc
-no_attribute (att.Label l) e = absurd cc
-no_attribute (att.Callee f n) e = absurd cc
+no_attribute _ e = absurd cc
 
 end_is : (t : Tok) (a : Att) → is_end (record { tok = t; att = a }) ≡ true → (let l : Leaf = record { tok = t; att = a } in l) ≡ end_leaf
-end_is tok.Zero a e = absurd cc
-end_is tok.One a e = absurd cc
-end_is tok.Two a e = absurd cc
-end_is tok.Four a e = absurd cc
-end_is tok.Eight a e = absurd cc
-end_is tok.Const a e = absurd cc
-end_is tok.Gaddr a e = absurd cc
-end_is tok.Loc a e = absurd cc
-end_is tok.Arg a e = absurd cc
-end_is tok.IndirB a e = absurd cc
-end_is tok.IndirW a e = absurd cc
-end_is tok.IndirL a e = absurd cc
-end_is tok.Plus a e = absurd cc
-end_is tok.Minus a e = absurd cc
-end_is tok.Mul a e = absurd cc
-end_is tok.Div a e = absurd cc
-end_is tok.Mod a e = absurd cc
-end_is tok.And a e = absurd cc
-end_is tok.Or a e = absurd cc
-end_is tok.Xor a e = absurd cc
-end_is tok.Lsh a e = absurd cc
-end_is tok.Rsh a e = absurd cc
-end_is tok.Neg a e = absurd cc
-end_is tok.Com a e = absurd cc
-end_is tok.Sxb a e = absurd cc
-end_is tok.Zxb a e = absurd cc
-end_is tok.Sxw a e = absurd cc
-end_is tok.Zxw a e = absurd cc
-end_is tok.Ncb a e = absurd cc
-end_is tok.Ncw a e = absurd cc
-end_is tok.AssignB a e = absurd cc
-end_is tok.AssignW a e = absurd cc
-end_is tok.AssignL a e = absurd cc
-end_is tok.Cbr a e = absurd cc
-end_is tok.Push a e = absurd cc
-end_is tok.Ret a e = absurd cc
-end_is tok.Call a e = absurd cc
-end_is tok.Save a e = absurd cc
-end_is tok.Jump a e = absurd cc
 end_is tok.End a e = ap (λ (b : Att). let l : Leaf = record { tok = tok.End; att = b } in l) (no_attribute a e)
+end_is _ a e = absurd cc
 
 -- trees for two lists of sorts, from those for the lists together
 pub record Cut (fs bs : List Sort) (f : Forest) : Type 0 where
@@ -135,12 +92,7 @@ typed_exactly w x b e = (typed_there w x b e, typed_back w x b e)
 -- where a statement stands, a statement is wanted
 stmt_wanted : (x : Sort) (b : Bool) → (sort_fits (Some sort.Stmt) x && b) ≡ true → x ≡ sort.Stmt
 stmt_wanted sort.Stmt b e = refl
-stmt_wanted sort.Long b e = absurd cc
-stmt_wanted sort.Byte b e = absurd cc
-stmt_wanted sort.Word b e = absurd cc
-stmt_wanted sort.PlaceB b e = absurd cc
-stmt_wanted sort.PlaceW b e = absurd cc
-stmt_wanted sort.PlaceL b e = absurd cc
+stmt_wanted _ b e = absurd cc
 
 -- the kids of a leaf that may stand can be kept
 can_push : (t : Tok) (a : Att) (x : Sort) (w : Wanted) → stands_for (record { tok = t; att = a }) x ≡ true → w.first ≡ None → (x ≡ sort.Stmt → IsLast w) → w.longs + 1 < 2 ^ 64 → CanPush (kids t) w

@@ -212,16 +212,11 @@ module _ (objects : List Object) (s : Sight) where
   token_follows tok.Zxw a gs some = one_follows (kid s (slice_get gs 0)) (converted tok.Zxw) (λ x e. cc)
   token_follows tok.Ncb a gs some = one_follows (kid s (slice_get gs 0)) (converted tok.Ncb) (λ x e. cc)
   token_follows tok.Ncw a gs some = one_follows (kid s (slice_get gs 0)) (converted tok.Ncw) (λ x e. cc)
-  token_follows tok.AssignB a gs some = absurd (some refl)
-  token_follows tok.AssignW a gs some = absurd (some refl)
-  token_follows tok.AssignL a gs some = absurd (some refl)
-  token_follows tok.Cbr a gs some = absurd (some refl)
-  token_follows tok.Push a gs some = absurd (some refl)
-  token_follows tok.Ret a gs some = absurd (some refl)
   token_follows tok.Call a gs some = leaf_follows Well (λ e. cc)
   token_follows tok.Save a gs some = leaf_follows Well (λ e. cc)
   token_follows tok.Jump a gs some = leaf_follows Well (λ e. cc)
   token_follows tok.End a gs some = leaf_follows Well (λ e. cc)
+  token_follows _ a gs some = absurd (some refl)
 
   jumped_no_zero : (a : Att) → fate_of_deed (Rattle.tree_meaning.specs.Deeds.jumped_by a) ≡ Zero → ⊥
   jumped_no_zero att.Nothing e = cc
@@ -311,54 +306,16 @@ module _ (objects : List Object) (s : Sight) where
 
   lifted : (d : Bool) (r : Fate) (y x : Sort) (g : Meaning) → fits y x ≡ true → Follows d r (fate_at y (Some g)) → Follows d r (fate_at x (Some g))
   lifted d r sort.Stmt sort.Stmt g e h = h
-  lifted d r sort.Stmt sort.Long g e h = absurd (cc)
-  lifted d r sort.Stmt sort.Byte g e h = absurd (cc)
-  lifted d r sort.Stmt sort.Word g e h = absurd (cc)
-  lifted d r sort.Stmt sort.PlaceB g e h = absurd (cc)
-  lifted d r sort.Stmt sort.PlaceW g e h = absurd (cc)
-  lifted d r sort.Stmt sort.PlaceL g e h = absurd (cc)
-  lifted d r sort.Long sort.Stmt g e h = absurd (cc)
   lifted d r sort.Long sort.Long g e h = h
-  lifted d r sort.Long sort.Byte g e h = absurd (cc)
-  lifted d r sort.Long sort.Word g e h = absurd (cc)
-  lifted d r sort.Long sort.PlaceB g e h = absurd (cc)
-  lifted d r sort.Long sort.PlaceW g e h = absurd (cc)
-  lifted d r sort.Long sort.PlaceL g e h = absurd (cc)
-  lifted d r sort.Byte sort.Stmt g e h = absurd (cc)
-  lifted d r sort.Byte sort.Long g e h = absurd (cc)
   lifted d r sort.Byte sort.Byte g e h = h
-  lifted d r sort.Byte sort.Word g e h = absurd (cc)
-  lifted d r sort.Byte sort.PlaceB g e h = absurd (cc)
-  lifted d r sort.Byte sort.PlaceW g e h = absurd (cc)
-  lifted d r sort.Byte sort.PlaceL g e h = absurd (cc)
-  lifted d r sort.Word sort.Stmt g e h = absurd (cc)
-  lifted d r sort.Word sort.Long g e h = absurd (cc)
-  lifted d r sort.Word sort.Byte g e h = absurd (cc)
   lifted d r sort.Word sort.Word g e h = h
-  lifted d r sort.Word sort.PlaceB g e h = absurd (cc)
-  lifted d r sort.Word sort.PlaceW g e h = absurd (cc)
-  lifted d r sort.Word sort.PlaceL g e h = absurd (cc)
-  lifted d r sort.PlaceB sort.Stmt g e h = absurd (cc)
-  lifted d r sort.PlaceB sort.Long g e h = absurd (cc)
   lifted d r sort.PlaceB sort.Byte g e h = record { astray = λ q. place_astray g (h.astray q); zero = λ q. h.zero (read_zero g q) }
-  lifted d r sort.PlaceB sort.Word g e h = absurd (cc)
   lifted d r sort.PlaceB sort.PlaceB g e h = h
-  lifted d r sort.PlaceB sort.PlaceW g e h = absurd (cc)
-  lifted d r sort.PlaceB sort.PlaceL g e h = absurd (cc)
-  lifted d r sort.PlaceW sort.Stmt g e h = absurd (cc)
-  lifted d r sort.PlaceW sort.Long g e h = absurd (cc)
-  lifted d r sort.PlaceW sort.Byte g e h = absurd (cc)
   lifted d r sort.PlaceW sort.Word g e h = record { astray = λ q. place_astray g (h.astray q); zero = λ q. h.zero (read_zero g q) }
-  lifted d r sort.PlaceW sort.PlaceB g e h = absurd (cc)
   lifted d r sort.PlaceW sort.PlaceW g e h = h
-  lifted d r sort.PlaceW sort.PlaceL g e h = absurd (cc)
-  lifted d r sort.PlaceL sort.Stmt g e h = absurd (cc)
   lifted d r sort.PlaceL sort.Long g e h = record { astray = λ q. place_astray g (h.astray q); zero = λ q. h.zero (read_zero g q) }
-  lifted d r sort.PlaceL sort.Byte g e h = absurd (cc)
-  lifted d r sort.PlaceL sort.Word g e h = absurd (cc)
-  lifted d r sort.PlaceL sort.PlaceB g e h = absurd (cc)
-  lifted d r sort.PlaceL sort.PlaceW g e h = absurd (cc)
   lifted d r sort.PlaceL sort.PlaceL g e h = h
+  lifted d r _ _ g e h = absurd (cc)
 
   follows_at : (l : Leaf) (x : Sort) (gs : List Meaning) → sort_fits (sort_of l.tok) x ≡ true → (x ≡ sort.Stmt → ⊥)
       → Follows (divides l.tok) (fates (kids l.tok) gs 0) (fate_at x (Some (token_means objects s l.tok l.att (kid s (slice_get gs 0)) (kid s (slice_get gs 1)))))
@@ -443,9 +400,6 @@ module _ (objects : List Object) (s : Sight) where
   token_quiet tok.Gaddr a gs x e r h q = tame_any x (token_means objects s tok.Gaddr a (kid s (slice_get gs 0)) (kid s (slice_get gs 1))) h
   token_quiet tok.Loc a gs x e r h q = tame_any x (token_means objects s tok.Loc a (kid s (slice_get gs 0)) (kid s (slice_get gs 1))) h
   token_quiet tok.Arg a gs x e r h q = tame_any x (token_means objects s tok.Arg a (kid s (slice_get gs 0)) (kid s (slice_get gs 1))) h
-  token_quiet tok.IndirB a gs x e r h q = absurd (cc)
-  token_quiet tok.IndirW a gs x e r h q = absurd (cc)
-  token_quiet tok.IndirL a gs x e r h q = absurd (cc)
   token_quiet tok.Plus a gs x e r h q =
       tame_any x (token_means objects s tok.Plus a (kid s (slice_get gs 0)) (kid s (slice_get gs 1)))
       (two_quiet (kid s (slice_get gs 0)) (kid s (slice_get gs 1)) (operated tok.Plus) q.0 q.1.0 (λ x y e. cc))
@@ -501,7 +455,7 @@ module _ (objects : List Object) (s : Sight) where
   token_quiet tok.Call a gs x e r h q = subst (λ (t : Sort). IsTame objects s t (token_means objects s tok.Call a (kid s (slice_get gs 0)) (kid s (slice_get gs 1)))) (sym (fits_stmt x e)) tt
   token_quiet tok.Save a gs x e r h q = subst (λ (t : Sort). IsTame objects s t (token_means objects s tok.Save a (kid s (slice_get gs 0)) (kid s (slice_get gs 1)))) (sym (fits_stmt x e)) tt
   token_quiet tok.Jump a gs x e r h q = subst (λ (t : Sort). IsTame objects s t (token_means objects s tok.Jump a (kid s (slice_get gs 0)) (kid s (slice_get gs 1)))) (sym (fits_stmt x e)) tt
-  token_quiet tok.End a gs x e r h q = absurd (cc)
+  token_quiet _ a gs x e r h q = absurd (cc)
 
   quiet : (xs : List Sort) (f : Forest) (w : List Leaf) → Typed xs f → AllThere objects s f → ReadsNothing (leaves_onto f w) → Tame objects s xs f
   quiet [] f w typed h r = tt

@@ -37,36 +37,12 @@ module _ (fs : List TreeFn) (objects : List Object) (f : TreeFn) (t : Sight) (fr
   leaf_there tok.Two a e h = tt
   leaf_there tok.Four a e h = tt
   leaf_there tok.Eight a e h = tt
-  leaf_there tok.Const att.Nothing e h = absurd (cc)
   leaf_there tok.Const (att.Number n) e h = λ q. cc
-  leaf_there tok.Const (att.Object o n) e h = absurd (cc)
-  leaf_there tok.Const (att.Slot n) e h = absurd (cc)
-  leaf_there tok.Const (att.Branch r n) e h = absurd (cc)
-  leaf_there tok.Const (att.Label n) e h = absurd (cc)
-  leaf_there tok.Const (att.Callee g n) e h = absurd (cc)
-  leaf_there tok.Gaddr att.Nothing e h = absurd (cc)
-  leaf_there tok.Gaddr (att.Number n) e h = absurd (cc)
   leaf_there tok.Gaddr (att.Object o n) e h = object_there (slice_get objects o) n (some_at objects o (ltb-true o (length objects) h))
-  leaf_there tok.Gaddr (att.Slot n) e h = absurd (cc)
-  leaf_there tok.Gaddr (att.Branch r n) e h = absurd (cc)
-  leaf_there tok.Gaddr (att.Label n) e h = absurd (cc)
-  leaf_there tok.Gaddr (att.Callee g n) e h = absurd (cc)
-  leaf_there tok.Loc att.Nothing e h = absurd (cc)
-  leaf_there tok.Loc (att.Number n) e h = absurd (cc)
-  leaf_there tok.Loc (att.Object o n) e h = absurd (cc)
   leaf_there tok.Loc (att.Slot n) e h = not_wild (t.locals n) (frame.locals n (ltb-true n f.locals h))
-  leaf_there tok.Loc (att.Branch r n) e h = absurd (cc)
-  leaf_there tok.Loc (att.Label n) e h = absurd (cc)
-  leaf_there tok.Loc (att.Callee g n) e h = absurd (cc)
-  leaf_there tok.Arg att.Nothing e h = absurd (cc)
-  leaf_there tok.Arg (att.Number n) e h = absurd (cc)
-  leaf_there tok.Arg (att.Object o n) e h = absurd (cc)
   leaf_there tok.Arg (att.Slot n) e h =
       (let p = and_parts (nat_le 1 n) (nat_le n 255) e in let a = leb-true 1 n p.0 in let b = leb-true n f.args h in let c = frame.arguments in not_wild (slice_get t.arguments (n - 1))
       (some_at t.arguments (n - 1) (omega (arith, a, b, c))))
-  leaf_there tok.Arg (att.Branch r n) e h = absurd (cc)
-  leaf_there tok.Arg (att.Label n) e h = absurd (cc)
-  leaf_there tok.Arg (att.Callee g n) e h = absurd (cc)
   leaf_there tok.IndirB a e h = tt
   leaf_there tok.IndirW a e h = tt
   leaf_there tok.IndirL a e h = tt
@@ -98,6 +74,7 @@ module _ (fs : List TreeFn) (objects : List Object) (f : TreeFn) (t : Sight) (fr
   leaf_there tok.Save a e h = tt
   leaf_there tok.Jump a e h = tt
   leaf_there tok.End a e h = tt
+  leaf_there _ _ e h = absurd (cc)
 
   all_there : (trees : Forest) → AllNamed fs (length objects) f trees → AllThere objects t trees
   all_there none h = tt

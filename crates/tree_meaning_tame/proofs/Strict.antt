@@ -115,14 +115,11 @@ module _ (objects : List Object) (s : Sight) where
 
   two_down : (v w : Value) (f : ℕ → ℕ → Value) → Alive (Of (bind v (λ x. bind w (λ y. f x y)))) → HasNumber v × HasNumber w
   two_down (Number x) (Number y) f h = (record { number = x; is = refl }, record { number = y; is = refl })
-  two_down (Number x) ZeroDivisor f (inl h) = absurd (let e = h.is in cc)
-  two_down (Number x) Wild f (inl h) = absurd (let e = h.is in cc)
-  two_down ZeroDivisor w f (inl h) = absurd (let e = h.is in cc)
-  two_down Wild w f (inl h) = absurd (let e = h.is in cc)
   two_down (Number x) ZeroDivisor f (inr h) = absurd h
   two_down (Number x) Wild f (inr h) = absurd h
   two_down ZeroDivisor w f (inr h) = absurd h
   two_down Wild w f (inr h) = absurd h
+  two_down _ _ f _ = absurd (let e = h.is in cc)
 
   one_down : (v : Value) (f : ℕ → Value) → Alive (Of (bind v f)) → HasNumber v
   one_down (Number x) f h = record { number = x; is = refl }
@@ -144,24 +141,14 @@ module _ (objects : List Object) (s : Sight) where
   given_down Wild f h = absurd h
 
   assigned_down : (o : Option Meaning) (v : Value) → IsDeed (assigned o v) → SpotSome o × HasNumber v
-  assigned_down None v h = absurd h
-  assigned_down (Some (Of (Number n))) v h = absurd h
-  assigned_down (Some (Of ZeroDivisor)) v h = absurd h
-  assigned_down (Some (Of Wild)) v h = absurd h
   assigned_down (Some (Local k)) v h = (tt, given_down v (Puts (Local k)) h)
   assigned_down (Some (Argument k)) v h = (tt, given_down v (Puts (Argument k)) h)
   assigned_down (Some (Memory z a)) v h = (tt, given_down v (Puts (Memory z a)) h)
+  assigned_down _ v h = absurd h
 
   branched_down : (a : Att) (v w : Value) → IsDeed (branched a v w) → HasNumber v × HasNumber w
-  branched_down att.Nothing v w h = absurd h
-  branched_down (att.Number n) v w h = absurd h
-  branched_down (att.Object o n) v w h = absurd h
-  branched_down (att.Slot n) v w h = absurd h
   branched_down (att.Branch r n) (Number x) w h = (record { number = x; is = refl }, given_down w (λ y. Branches r n x y) h)
-  branched_down (att.Branch r n) ZeroDivisor w h = absurd h
-  branched_down (att.Branch r n) Wild w h = absurd h
-  branched_down (att.Label n) v w h = absurd h
-  branched_down (att.Callee g n) v w h = absurd h
+  branched_down _ _ w h = absurd h
 
   -- what a token stands for is settled only where its kids are
   token_down : (t : Tok) (a : Att) (gs : List Meaning) → Alive (token_means objects s t a (kid s (slice_get gs 0)) (kid s (slice_get gs 1))) → SettledAll (kids t) gs 0
@@ -195,54 +182,19 @@ module _ (objects : List Object) (s : Sight) where
   token_down tok.Zxw a gs h = (one_down (kid s (slice_get gs 0)) (converted tok.Zxw) h, tt)
   token_down tok.Ncb a gs h = (one_down (kid s (slice_get gs 0)) (converted tok.Ncb) h, tt)
   token_down tok.Ncw a gs h = (one_down (kid s (slice_get gs 0)) (converted tok.Ncw) h, tt)
-  token_down tok.AssignB a gs (inl h) = absurd (let e = h.is in cc)
   token_down tok.AssignB a gs (inr h) = absurd h
-  token_down tok.AssignW a gs (inl h) = absurd (let e = h.is in cc)
   token_down tok.AssignW a gs (inr h) = absurd h
-  token_down tok.AssignL a gs (inl h) = absurd (let e = h.is in cc)
   token_down tok.AssignL a gs (inr h) = absurd h
-  token_down tok.Cbr a gs (inl h) = absurd (let e = h.is in cc)
   token_down tok.Cbr a gs (inr h) = absurd h
-  token_down tok.Push a gs (inl h) = absurd (let e = h.is in cc)
   token_down tok.Push a gs (inr h) = absurd h
-  token_down tok.Ret a gs (inl h) = absurd (let e = h.is in cc)
   token_down tok.Ret a gs (inr h) = absurd h
   token_down tok.Call a gs h = tt
   token_down tok.Save a gs h = tt
   token_down tok.Jump a gs h = tt
   token_down tok.End a gs h = tt
+  token_down _ a gs _ = absurd (let e = h.is in cc)
 
   deed_down : (t : Tok) (a : Att) (gs : List Meaning) → IsDeed (deed_of s t a (slice_get gs 0) (slice_get gs 1)) → SettledAll (kids t) gs 0
-  deed_down tok.Zero a gs h = absurd h
-  deed_down tok.One a gs h = absurd h
-  deed_down tok.Two a gs h = absurd h
-  deed_down tok.Four a gs h = absurd h
-  deed_down tok.Eight a gs h = absurd h
-  deed_down tok.Const a gs h = absurd h
-  deed_down tok.Gaddr a gs h = absurd h
-  deed_down tok.Loc a gs h = absurd h
-  deed_down tok.Arg a gs h = absurd h
-  deed_down tok.IndirB a gs h = absurd h
-  deed_down tok.IndirW a gs h = absurd h
-  deed_down tok.IndirL a gs h = absurd h
-  deed_down tok.Plus a gs h = absurd h
-  deed_down tok.Minus a gs h = absurd h
-  deed_down tok.Mul a gs h = absurd h
-  deed_down tok.Div a gs h = absurd h
-  deed_down tok.Mod a gs h = absurd h
-  deed_down tok.And a gs h = absurd h
-  deed_down tok.Or a gs h = absurd h
-  deed_down tok.Xor a gs h = absurd h
-  deed_down tok.Lsh a gs h = absurd h
-  deed_down tok.Rsh a gs h = absurd h
-  deed_down tok.Neg a gs h = absurd h
-  deed_down tok.Com a gs h = absurd h
-  deed_down tok.Sxb a gs h = absurd h
-  deed_down tok.Zxb a gs h = absurd h
-  deed_down tok.Sxw a gs h = absurd h
-  deed_down tok.Zxw a gs h = absurd h
-  deed_down tok.Ncb a gs h = absurd h
-  deed_down tok.Ncw a gs h = absurd h
   deed_down tok.AssignB a gs h = (let e = assigned_down (slice_get gs 0) (kid s (slice_get gs 1)) h in (e.0, (e.1, tt)))
   deed_down tok.AssignW a gs h = (let e = assigned_down (slice_get gs 0) (kid s (slice_get gs 1)) h in (e.0, (e.1, tt)))
   deed_down tok.AssignL a gs h = (let e = assigned_down (slice_get gs 0) (kid s (slice_get gs 1)) h in (e.0, (e.1, tt)))
@@ -252,7 +204,7 @@ module _ (objects : List Object) (s : Sight) where
   deed_down tok.Call a gs h = tt
   deed_down tok.Save a gs h = tt
   deed_down tok.Jump a gs h = tt
-  deed_down tok.End a gs h = absurd h
+  deed_down _ a gs h = absurd h
 
   settled_tame : (x : Sort) (g : Meaning) → Settled x (Some g) → IsTame objects s x g
   settled_tame sort.Stmt g h = tt

@@ -419,11 +419,8 @@ module _ (mask_at : ℕ → ℕ) (m : State) (g : IsGuarded m.items mask_at) (a 
         (λ r low high e. register_kept r (omega (arith, low)) high i m1 (g.named p i r stands low high e)) (frames_kept i m1) placed (from_performed i m1)
 
   by_item : (x : Option CodeItem) (o : Option ℕ) (n : State) → slice_get m.items p ≡ x → at_item x p m ≡ Ok (o, n) → Kept n
-  by_item None o n stands done = absurd (err_ok _ _ done)
-  by_item (Some (item_kind.Label l)) o n stands done = absurd (err_ok _ _ done)
-  by_item (Some (item_kind.Globl l)) o n stands done = absurd (err_ok _ _ done)
-  by_item (Some (item_kind.Mask k)) o n stands done = absurd (err_ok _ _ done)
   by_item (Some (item_kind.Instr i)) o n stands done = step_keeps i stands o n done
+  by_item _ o n stands done = absurd (err_ok _ _ done)
 
   act_keeps : (o : Option ℕ) (n : State) → act m ≡ Ok (o, n) → Kept n
   unfolding act

@@ -34,11 +34,9 @@ behind_first x xs = let e : length xs ≡ length (x ∷ xs) - 1 = omega arith in
 -- the operands behind the first have the numbers behind the first
 pub numbers_behind : (layout new : List AreaItem) (ks : List OperandKind) (os : List Operand) (ns : List ℕ) → 0 < length ks → 0 < length os → 0 < length ns → new ≡ layout → HasNumbers layout ks os ns
     → HasNumbers new (take (length ks - 1) (drop 1 ks)) (take (length os - 1) (drop 1 os)) (take (length ns - 1) (drop 1 ns))
-numbers_behind layout new [] os ns k o n e h = absurd (omega arith)
-numbers_behind layout new (x ∷ ks) [] ns k o n e h = absurd (omega arith)
-numbers_behind layout new (x ∷ ks) (y ∷ os) [] k o n e h = absurd (omega arith)
 numbers_behind layout new (x ∷ ks) (y ∷ os) (z ∷ ns) k o n e h =
     subst (λ (l : List OperandKind). HasNumbers new l (take (length (y ∷ os) - 1) (drop 1 (y ∷ os))) (take (length (z ∷ ns) - 1) (drop 1 (z ∷ ns)))) (behind_first x ks)
     (subst (λ (l : List Operand). HasNumbers new ks l (take (length (z ∷ ns) - 1) (drop 1 (z ∷ ns)))) (behind_first y os)
     (subst (λ (l : List ℕ). HasNumbers new ks os l) (behind_first z ns)
     (subst (λ (l : List AreaItem). HasNumbers l ks os ns) (sym e) h.1)))
+numbers_behind layout new _ _ _ k o n e h = absurd (omega arith)

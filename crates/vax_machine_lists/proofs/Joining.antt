@@ -29,10 +29,8 @@ use Rattle.vax_machine_lists.proofs.Steps.{nothing, one, further, then_gets, get
 
 -- no label is skipped before an instruction
 skips_none : (x : CodeItem) (xs : List CodeItem) (i : Instr) → ◌≡◌ {A = Option CodeItem} (Some x) (Some (item_kind.Instr i)) → skipped (x ∷ xs) ≡ 0
-skips_none (item_kind.Label n) xs i e = absurd cc
-skips_none (item_kind.Globl n) xs i e = absurd cc
-skips_none (item_kind.Mask m) xs i e = absurd cc
 skips_none (item_kind.Instr j) xs i e = refl
+skips_none _ xs i e = absurd cc
 
 plain_at : (list : List CodeItem) (place : ℕ) (i : Instr) → slice_get list place ≡ Some (item_kind.Instr i) → skipped (drop place list) ≡ 0
 plain_at [] zero i e = absurd cc

@@ -139,9 +139,7 @@ tab_before : (kinds : List OperandKind) (target : Bool) (os : List Operand) (lab
 tab_before kinds target [] (Some label) l h t = refl
 tab_before kinds target (o ∷ os) None l h t = refl
 tab_before kinds target (o ∷ os) (Some label) l h t = refl
-tab_before [] true [] None l h t = absurd (cc)
-tab_before [] false [] None l h t = absurd (cc)
-tab_before (kind ∷ kinds) target [] None l h t = absurd (cc)
+tab_before _ _ _ _ l h t = absurd (cc)
 
 bare_valid : (kinds : List OperandKind) (target : Bool) → is_last kinds target ≡ true → (are_operands kinds [] && is_target target None) ≡ true
 bare_valid [] true h = absurd (cc)
@@ -198,10 +196,7 @@ tab_again op kinds true os (Some label) rest h t ends =
 bare_is : (kinds : List OperandKind) (target : Bool) (os : List Operand) (label : Option (List ℕ)) → is_last kinds target ≡ true → are_operands kinds os ≡ true → is_target target label
     ≡ true → (os ≡ []) × (label ≡ None)
 bare_is [] false [] None l h t = (refl, refl)
-bare_is [] false [] (Some label) l h t = absurd (cc)
-bare_is [] false (o ∷ os) label l h t = absurd (cc)
-bare_is [] true os label l h t = absurd (cc)
-bare_is (kind ∷ kinds) target os label l h t = absurd (cc)
+bare_is _ _ _ _ l h t = absurd (cc)
 
 bare_again : (op : Op) (os : List Operand) (label : Option (List ℕ)) (rest : List ℕ) → (os ≡ []) × (label ≡ None)
     → ◌≡◌ {A = Option (Instr × List ℕ)} (Some (made op [] None, tail_text os label ++ rest)) (Some (made op os label, rest))

@@ -174,14 +174,7 @@ module _ (q : TreeProgram) (f : Extent) (fs : List Extent) (classes : List Class
   call_goes : (d : Deed) → DoesAct vax q f rule.restrictions hs v m Call d → G (deed_step q t d)
   call_goes (Enters function count) h =
       callee_goes (slice_get q.functions function) function count refl h.1 h.2 (called ∙ ap (λ o. performed (call_of q o) n) (callee_first hs function count h.0))
-  call_goes (Puts g y) h = absurd h
-  call_goes (Branches r label y z) h = absurd h
-  call_goes (Pushes y) h = absurd h
-  call_goes (Leaves y) h = absurd h
-  call_goes (Saves k) h = absurd h
-  call_goes (Jumps label) h = absurd h
-  call_goes Traps h = absurd h
-  call_goes Strays h = absurd h
+  call_goes _ h = absurd h
 
 pub calls_do : CallsDo
 calls_do q f fs classes rule e d hs res v m ready act h = call_goes q f fs classes rule e hs res v m ready act d (subst (λ a. DoesAct vax q f rule.restrictions hs v m a d) act h)

@@ -31,11 +31,6 @@ module _ (q : TreeProgram) (f : Extent) (fs : List Extent) (classes : List Class
   Act a = DoesAct vax q f rule.restrictions hs v m a d
 
   by_act : (a : ActShape) → e.act ≡ a → Act a → G
-  by_act (Value t) is k = absurd k
-  by_act (Number t) is k = absurd k
-  by_act (Address t) is k = absurd k
-  by_act (PlaceHome z i) is k = absurd k
-  by_act (PlaceAt z a) is k = absurd k
   by_act (StoreHome z i t) is k = ordinary (StoreHome z i t) is tt
   by_act (StoreAt z a t) is k = ordinary (StoreAt z a t) is tt
   by_act (Branch i a b) is k = ordinary (Branch i a b) is tt
@@ -44,6 +39,7 @@ module _ (q : TreeProgram) (f : Extent) (fs : List Extent) (classes : List Class
   by_act (Save i) is k = ordinary (Save i) is tt
   by_act (Return t) is k = ordinary (Return t) is tt
   by_act Jump is k = ordinary Jump is tt
+  by_act _ is k = absurd k
 
   pub act_does : G
   act_does = by_act e.act refl h

@@ -88,21 +88,11 @@ module _ (q : TreeProgram) (m : State) where
 
   literal_numbered : (x : Tok) (k : ℕ) (a : Att) → is_of_kind (att_kind.Own k) a ≡ true → HasOne (attr.Token (record { tok = x; att = a }))
   literal_numbered x k (att.Number n) f = number_numbered x n
-  literal_numbered x k att.Nothing f = absurd (cc)
-  literal_numbered x k (att.Object object offset) f = absurd (cc)
-  literal_numbered x k (att.Slot w) f = absurd (cc)
-  literal_numbered x k (att.Branch rel label) f = absurd (cc)
-  literal_numbered x k (att.Label label) f = absurd (cc)
-  literal_numbered x k (att.Callee function count) f = absurd (cc)
+  literal_numbered x k _ f = absurd (cc)
 
   constant_numbered : (x : Tok) (a : Att) → is_of_kind att_kind.Other a ≡ true → HasOne (attr.Token (record { tok = x; att = a }))
   constant_numbered x (att.Number n) f = number_numbered x n
-  constant_numbered x att.Nothing f = absurd (cc)
-  constant_numbered x (att.Object object offset) f = absurd (cc)
-  constant_numbered x (att.Slot w) f = absurd (cc)
-  constant_numbered x (att.Branch rel label) f = absurd (cc)
-  constant_numbered x (att.Label label) f = absurd (cc)
-  constant_numbered x (att.Callee function count) f = absurd (cc)
+  constant_numbered x _ f = absurd (cc)
 
   token_numbered : (x : Tok) (a : Att) → is_of_kind (attribute_of x) a ≡ true → Numbered (hole_of_token x) (attr.Token (record { tok = x; att = a }))
   token_numbered tok.Zero a f = literal_numbered tok.Zero 0 a f
@@ -150,16 +140,7 @@ module _ (q : TreeProgram) (m : State) where
   one_of : (r : Hole) (i : ℕ) (t : Shape) (a : Attr Operand) → Numbered r a → constant_of r i ≡ Ok t → HasOne a
   one_of hole_kind.Constant i t a k e = k
   one_of (hole_kind.Literal n) i t a k e = k
-  one_of hole_kind.Register i t a k e = absurd (err_ok _ t e)
-  one_of (hole_kind.Value z) i t a k e = absurd (err_ok _ t e)
-  one_of (hole_kind.Place z) i t a k e = absurd (err_ok _ t e)
-  one_of hole_kind.Local i t a k e = absurd (err_ok _ t e)
-  one_of (hole_kind.SavedPlace z) i t a k e = absurd (err_ok _ t e)
-  one_of hole_kind.Address i t a k e = absurd (err_ok _ t e)
-  one_of hole_kind.Object i t a k e = absurd (err_ok _ t e)
-  one_of hole_kind.Saved i t a k e = absurd (err_ok _ t e)
-  one_of hole_kind.Relation i t a k e = absurd (err_ok _ t e)
-  one_of hole_kind.Other i t a k e = absurd (err_ok _ t e)
+  one_of _ i t a k e = absurd (err_ok _ t e)
 
 form_of : (o : Option Form) (f : Form) → shape_read o ≡ Ok f → o ≡ Some f
 form_of None f e = absurd (err_ok _ f e)

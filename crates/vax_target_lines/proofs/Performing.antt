@@ -332,9 +332,7 @@ module _ (c : Scene) (held : Option Shape) (m : State) (h : Sees c held m) where
   acted_aims (action.Compute f) op fs x ks d s e is reads =
       computed_aims op x.target (given f x.first x.second) d is (λ no. all_plain ks fs x (given_plain f x.first x.second ks s no) e) reads
   acted_aims action.Push op fs x ks d s e is reads = none_aims x.target (all_plain ks fs x (push_plain ks s) e)
-  acted_aims (action.Branch t) op fs x ks d s e is reads = absurd (err_ok _ d is)
-  acted_aims action.Call op fs x ks d s e is reads = absurd (err_ok _ d is)
-  acted_aims action.Return op fs x ks d s e is reads = absurd (err_ok _ d is)
+  acted_aims _ op fs x ks d s e is reads = absurd (err_ok _ d is)
 
   -- ---- what is done with the operands
 
@@ -364,9 +362,7 @@ module _ (c : Scene) (held : Option Shape) (m : State) (h : Sees c held m) where
       (λ no. all_plain ks fs x (given_plain f x.first x.second ks s no) e) some
   acted_did action.Push op fs x y ks d s e long is a some =
       statement_did c.setting.is_statement (act.Push x.first) d (course_of (pushing m y.first)) refl is (ap (λ n. course_of (pushing m n)) a.first)
-  acted_did (action.Branch t) op fs x y ks d s e long is a some = absurd (err_ok _ d is)
-  acted_did action.Call op fs x y ks d s e long is a some = absurd (err_ok _ d is)
-  acted_did action.Return op fs x y ks d s e long is a some = absurd (err_ok _ d is)
+  acted_did _ op fs x y ks d s e long is a some = absurd (err_ok _ d is)
 
   -- ---- an instruction with operands
 
@@ -444,14 +440,12 @@ module _ (c : Scene) (held : Option Shape) (m : State) (h : Sees c held m) where
   F i = filled_instruction c.program c.holes c.own (Some i)
 
   branches_did : (i : ℕ) (before : Last) (d : Deed) → CodesMean c m.conditions before → branches c.setting i before ≡ Ok d → Did d (performed (F (Relation i)) m)
-  branches_did i Plain d k e = absurd (err_ok _ d e)
   branches_did i (Compared a b) d k e = statement_did c.setting.is_statement (act.Branch i a b) d _ refl e (inl k, refl)
   branches_did i (Tested t) d k e = by c.setting.is_signed refl e where
     by : (b : Bool) → c.setting.is_signed ≡ b → cond b (ends_statement c.setting (act.Branch i t (Constant 0))) (Err NotInstr) ≡ Ok d → Did d (performed (F (Relation i)) m)
     by true is e = statement_did c.setting.is_statement (act.Branch i t (Constant 0)) d _ refl e (inr (is, refl, k), refl)
     by false is e = absurd (err_ok _ d e)
-  branches_did i (Returning t) d k e = absurd (err_ok _ d e)
-  branches_did i (Ended deed) d k e = absurd (err_ok _ d e)
+  branches_did i _ d k e = absurd (err_ok _ d e)
 
   relation_did : (r : Hole) (i : ℕ) (before : Last) (d : Deed) → CodesMean c m.conditions before → cond (is_relation r) (branches c.setting i before) (Err NotInstr) ≡ Ok d
       → Did d (performed (F (Relation i)) m)
@@ -470,11 +464,8 @@ module _ (c : Scene) (held : Option Shape) (m : State) (h : Sees c held m) where
   instruction_did_so is_first before (Operates op fs) d short k e reads ends_read some = operated_did is_first op fs d short e reads ends_read some
 
   returned_did : (t : Shape) (i : Instruction) (d : Deed) → ZeroHolds c m (Returning t) → returned t i ≡ Ok d → Did d (performed (F i) m)
-  returned_did t (Relation i) d holds e = absurd (err_ok _ d e)
-  returned_did t Jump d holds e = absurd (err_ok _ d e)
-  returned_did t Calls d holds e = absurd (err_ok _ d e)
   returned_did t Ret d holds e = ended (act.Return t) d (performed plain_return m) (inl holds.1) (returns_so m, holds.0) e
-  returned_did t (Operates op fs) d holds e = absurd (err_ok _ d e)
+  returned_did t _ d holds e = absurd (err_ok _ d e)
 
   behind_did : (is_first : Bool) (before : Last) (i : Instruction) (d : Deed) → IsShortLine i → CodesMean c m.conditions before → ZeroHolds c m before →
       did_behind c.setting c.roles is_first held before i ≡ Ok d → AreRead c d.reads → EndIsRead c d.last → NoneIsZero c d.divisors → Did d (performed (F i) m)
@@ -531,9 +522,7 @@ module _ (c : Scene) (held : Option Shape) (m : State) (h : Sees c held m) where
       d.divisors ≡ w ∷ [] → worth c w ≡ 0 → alone a y None m ≡ ends (Stops Trapped)
   acted_trap (action.Compute f) op x y ks d w s is a ds z = computed_trap op x.target (given f x.first x.second) _ y.destination d w is (computes_so f x y ks s a) ds z
   acted_trap action.Push op x y ks d w s is a ds z = absurd (no_divisor d.divisors w (statement_undivided c.setting.is_statement (act.Push x.first) d is) ds)
-  acted_trap (action.Branch t) op x y ks d w s is a ds z = absurd (err_ok _ d is)
-  acted_trap action.Call op x y ks d w s is a ds z = absurd (err_ok _ d is)
-  acted_trap action.Return op x y ks d w s is a ds z = absurd (err_ok _ d is)
+  acted_trap _ op x y ks d w s is a ds z = absurd (err_ok _ d is)
 
   operated_trap : (is_first : Bool) (op : Op) (fs : List Form) (d : Deed) (w : Shape) → AreShort fs → operated c.setting c.roles is_first held op fs ≡ Ok d → AreRead c d.reads →
       EndIsRead c d.last → d.divisors ≡ w ∷ [] → worth c w ≡ 0 → performed (F (Operates op fs)) m ≡ ends (Stops Trapped)
@@ -542,14 +531,12 @@ module _ (c : Scene) (held : Option Shape) (m : State) (h : Sees c held m) where
       r.is ∙ acted_trap (action_of op) op r.arguments r.numbers (shape op).operands r.acts w (row_of op).suits r.acted_so r.are (ap (λ (y : Deed). y.divisors) r.same ∙ ds) z
 
   branches_undivided : (i : ℕ) (before : Last) (d : Deed) → branches c.setting i before ≡ Ok d → d.divisors ≡ []
-  branches_undivided i Plain d e = absurd (err_ok _ d e)
   branches_undivided i (Compared a b) d e = statement_undivided c.setting.is_statement (act.Branch i a b) d e
   branches_undivided i (Tested t) d e = by c.setting.is_signed e where
     by : (b : Bool) → cond b (ends_statement c.setting (act.Branch i t (Constant 0))) (Err NotInstr) ≡ Ok d → d.divisors ≡ []
     by true e = statement_undivided c.setting.is_statement (act.Branch i t (Constant 0)) d e
     by false e = absurd (err_ok _ d e)
-  branches_undivided i (Returning t) d e = absurd (err_ok _ d e)
-  branches_undivided i (Ended deed) d e = absurd (err_ok _ d e)
+  branches_undivided i _ d e = absurd (err_ok _ d e)
 
   instruction_trap : (is_first : Bool) (before : Last) (i : Instruction) (d : Deed) (w : Shape) → IsShortLine i → instruction_did c.setting c.roles is_first held before i ≡ Ok d →
       AreRead c d.reads → EndIsRead c d.last → d.divisors ≡ w ∷ [] → worth c w ≡ 0 → performed (F i) m ≡ ends (Stops Trapped)
@@ -563,11 +550,8 @@ module _ (c : Scene) (held : Option Shape) (m : State) (h : Sees c held m) where
   instruction_trap is_first before (Operates op fs) d w short e reads ends_read ds z = operated_trap is_first op fs d w short e reads ends_read ds z
 
   returned_undivided : (t : Shape) (i : Instruction) (d : Deed) → returned t i ≡ Ok d → d.divisors ≡ []
-  returned_undivided t (Relation i) d e = absurd (err_ok _ d e)
-  returned_undivided t Jump d e = absurd (err_ok _ d e)
-  returned_undivided t Calls d e = absurd (err_ok _ d e)
   returned_undivided t Ret d e = undivided (act.Return t) d e
-  returned_undivided t (Operates op fs) d e = absurd (err_ok _ d e)
+  returned_undivided t _ d e = absurd (err_ok _ d e)
 
   behind_trap : (is_first : Bool) (before : Last) (i : Instruction) (d : Deed) (w : Shape) → IsShortLine i → did_behind c.setting c.roles is_first held before i ≡ Ok d →
       AreRead c d.reads → EndIsRead c d.last → d.divisors ≡ w ∷ [] → worth c w ≡ 0 → performed (F i) m ≡ ends (Stops Trapped)

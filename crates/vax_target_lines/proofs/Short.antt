@@ -182,16 +182,7 @@ operates_short op ms j e =
 
 jumps_short : (t : Test) (ms : List Mark) (j : Instruction) → jumps t ms ≡ Some j → IsShortLine j
 jumps_short test.Always ms j e = only_short (behind_blank is_label (strip 32 ms)) Jump j tt e
-jumps_short test.Equal ms j e = absurd (none-some j e)
-jumps_short test.NotEqual ms j e = absurd (none-some j e)
-jumps_short test.Less ms j e = absurd (none-some j e)
-jumps_short test.LessOrEqual ms j e = absurd (none-some j e)
-jumps_short test.Greater ms j e = absurd (none-some j e)
-jumps_short test.GreaterOrEqual ms j e = absurd (none-some j e)
-jumps_short test.LessUnsigned ms j e = absurd (none-some j e)
-jumps_short test.LessOrEqualUnsigned ms j e = absurd (none-some j e)
-jumps_short test.GreaterUnsigned ms j e = absurd (none-some j e)
-jumps_short test.GreaterOrEqualUnsigned ms j e = absurd (none-some j e)
+jumps_short _ ms j e = absurd (none-some j e)
 
 behind_short : (a : Action) (op : Op) (ms : List Mark) (j : Instruction) → behind a op ms ≡ Some j → IsShortLine j
 behind_short (action.Compute f) op ms j e = operates_short op ms j e

@@ -133,12 +133,9 @@ module _ (c : Scene) (held : Option Shape) where
   hole_points hole_kind.Local i w e = subst Points (ok_same _ w e) tt
   hole_points (hole_kind.SavedPlace z) i w e = subst Points (ok_same _ w e) tt
   hole_points hole_kind.Address i w e = subst Points (ok_same _ w e) (λ safe. tt)
-  hole_points hole_kind.Constant i w e = absurd (err_ok _ w e)
-  hole_points (hole_kind.Literal n) i w e = absurd (err_ok _ w e)
   hole_points hole_kind.Object i w e = subst Points (ok_same _ w e) (λ safe. tt)
   hole_points hole_kind.Saved i w e = subst Points (ok_same _ w e) tt
-  hole_points hole_kind.Relation i w e = absurd (err_ok _ w e)
-  hole_points hole_kind.Other i w e = absurd (err_ok _ w e)
+  hole_points _ i w e = absurd (err_ok _ w e)
 
   own_points : (o : Own) (w : Where) → where_own o ≡ Ok w → Points w
   own_points own.Nothing w e = absurd (err_ok _ w e)
@@ -151,18 +148,9 @@ module _ (c : Scene) (held : Option Shape) where
   zero_points opening.Other w e = absurd (err_ok _ w e)
 
   deferred_points : (r : Hole) (i : ℕ) (w : Where) → where_deferred r i ≡ Ok w → Points w
-  deferred_points hole_kind.Register i w e = absurd (err_ok _ w e)
-  deferred_points (hole_kind.Value z) i w e = absurd (err_ok _ w e)
-  deferred_points (hole_kind.Place z) i w e = absurd (err_ok _ w e)
   deferred_points hole_kind.Local i w e = subst Points (ok_same _ w e) (λ safe. tt)
-  deferred_points (hole_kind.SavedPlace z) i w e = absurd (err_ok _ w e)
-  deferred_points hole_kind.Address i w e = absurd (err_ok _ w e)
-  deferred_points hole_kind.Constant i w e = absurd (err_ok _ w e)
-  deferred_points (hole_kind.Literal n) i w e = absurd (err_ok _ w e)
   deferred_points hole_kind.Object i w e = through_points (Symbol i) w e
-  deferred_points hole_kind.Saved i w e = absurd (err_ok _ w e)
-  deferred_points hole_kind.Relation i w e = absurd (err_ok _ w e)
-  deferred_points hole_kind.Other i w e = absurd (err_ok _ w e)
+  deferred_points _ i w e = absurd (err_ok _ w e)
 
   alone_points : (i : ℕ) (b : Bool) (w : Where) → cond b (where_own c.setting.own) (where_hole (role_at c i) i) ≡ Ok w → Points w
   alone_points i true w e = own_points c.setting.own w e
@@ -183,16 +171,8 @@ module _ (c : Scene) (held : Option Shape) where
   base_points (base.Deferred i) w e = deferred_points (role_at c i) i w e
 
   moved_points : (size : Size) (u w : Where) (t : Shape) → Points u → moved size u t ≡ Ok w → Points w
-  moved_points size (Immediate a) w t h e = absurd (err_ok _ w e)
-  moved_points size (Register a) w t h e = absurd (err_ok _ w e)
-  moved_points size OwnRegister w t h e = absurd (err_ok _ w e)
-  moved_points size RegisterZero w t h e = absurd (err_ok _ w e)
-  moved_points size (Value z i) w t h e = absurd (err_ok _ w e)
-  moved_points size (Place z i) w t h e = absurd (err_ok _ w e)
-  moved_points size (Local i) w t h e = absurd (err_ok _ w e)
-  moved_points size (SavedPlace z i) w t h e = absurd (err_ok _ w e)
-  moved_points size (Saved i) w t h e = absurd (err_ok _ w e)
   moved_points size (At a p) w t h e = subst Points (ok_same (At (sum a (scaled size t)) p) w e) (λ safe. h safe.0)
+  moved_points size _ w t h e = absurd (err_ok _ w e)
 
   form_points_by : (b : Base) (index : Option ℕ) (size : Size) (w : Where) → (where_base c.setting c.roles held b >>= where_indexed c.setting c.roles held index size) ≡ Ok w → Points w
   form_points_by b None size w e =
@@ -241,10 +221,8 @@ module _ (c : Scene) (held : Option Shape) (m : State) (h : Sees c held m) where
       stands_same m (operand_in c.program c.own) size l (locations.Register (register_in c.own)) at (register_stands c m c.own o.number size o.is)
 
   last_is : (o : Opening) (z : Option Shape) (size : Size) (t : Taken) → last_result o z size ≡ Ok t → (o ≡ opening.Save) × (z ≡ None) × (taken_term (truncated size LastResult) ≡ t)
-  last_is opening.Return z size t e = absurd (err_ok _ t e)
   last_is opening.Save None size t e = (refl, refl, ok_same _ t e)
-  last_is opening.Save (Some x) size t e = absurd (err_ok _ t e)
-  last_is opening.Other z size t e = absurd (err_ok _ t e)
+  last_is _ _ size t e = absurd (err_ok _ t e)
 
   fetched_means : (w : Where) (size : Size) (t : Taken) (l : Location) → fetched c.setting held w size ≡ Ok t → t.missized ≡ false → AreRead c t.reads → IsWhere c m w size l → Fetches l size t
   unfolding fetched
@@ -317,26 +295,21 @@ module _ (c : Scene) (held : Option Shape) (m : State) (h : Sees c held m) where
   IsAimed l size x = x.1 ≡ false → IsTarget c m x.0 l size
 
   own_aimed : (o : Own) (size : Size) (x : Target × Bool) (l : Location) → c.setting.own ≡ o → own_target o size ≡ Ok x → StandsAt m (operand_in c.program c.own) size l → IsAimed l size x
-  own_aimed own.Nothing size x l is e at = absurd (err_ok _ x e)
-  own_aimed own.Register Byte x l is e at = absurd (err_ok _ x e)
-  own_aimed own.Register Word x l is e at = absurd (err_ok _ x e)
   own_aimed own.Register Long x l is e at = subst (IsAimed l Long) (ok_same _ x e) (λ none. (at, refl, is))
   own_aimed (own.Slot z) size x l is e at = subst (IsAimed l size) (ok_same _ x e) (λ none. (at, refl, (z, is)))
+  own_aimed _ _ x l is e at = absurd (err_ok _ x e)
 
   targeted_means : (w : Where) (size : Size) (x : Target × Bool) (l : Location) → targeted c.setting w size ≡ Ok x → IsWhere c m w size l → IsAimed l size x
   unfolding targeted
-  targeted_means (Immediate a) size x l e is = absurd (err_ok _ x (statement_of c.setting.is_statement _ x e))
-  targeted_means (Register a) size x l e is = absurd (err_ok _ x (statement_of c.setting.is_statement _ x e))
   targeted_means OwnRegister size x l e is = own_aimed c.setting.own size x l refl e is
   targeted_means RegisterZero size x l e is =
       subst (IsAimed l size) (zero_target_is c.setting.opening x (statement_of c.setting.is_statement _ x e)) (λ none. (is, statement_true c.setting.is_statement _ x e))
-  targeted_means (Value z i) size x l e is = absurd (err_ok _ x (statement_of c.setting.is_statement _ x e))
   targeted_means (Place z i) size x l e is = subst (IsAimed l size) (ok_same _ x (statement_of c.setting.is_statement _ x e)) (λ none. (is, refl, statement_true c.setting.is_statement _ x e))
   targeted_means (Local i) size x l e is = subst (IsAimed l size) (ok_same _ x (statement_of c.setting.is_statement _ x e)) (λ none. (is.0, refl, statement_true c.setting.is_statement _ x e))
-  targeted_means (SavedPlace z i) size x l e is = absurd (err_ok _ x (statement_of c.setting.is_statement _ x e))
   targeted_means (Saved i) size x l e is = subst (IsAimed l size) (ok_same _ x (statement_of c.setting.is_statement _ x e)) (λ none. (is.0, is.1, statement_true c.setting.is_statement _ x e))
   targeted_means (At a p) size x l e is =
       subst (IsAimed l size) (memory_target_is c.setting.own a size x (statement_of c.setting.is_statement _ x e)) (λ none. (is, refl, statement_true c.setting.is_statement _ x e))
+  targeted_means _ size x l e is = absurd (err_ok _ x (statement_of c.setting.is_statement _ x e))
 
   -- ---- by the operand's access
 
@@ -366,18 +339,10 @@ module _ (c : Scene) (held : Option Shape) (m : State) (h : Sees c held m) where
       })
 
   addressed_means : (w : Where) (size : Size) (t : Taken) → addressed w size ≡ Ok t → Address w size t
-  addressed_means (Immediate a) size t e = absurd (err_ok _ t e)
-  addressed_means (Register a) size t e = absurd (err_ok _ t e)
-  addressed_means OwnRegister size t e = absurd (err_ok _ t e)
-  addressed_means RegisterZero size t e = absurd (err_ok _ t e)
-  addressed_means (Value z i) size t e = absurd (err_ok _ t e)
-  addressed_means (Place z i) size t e = absurd (err_ok _ t e)
-  addressed_means (Local i) size t e = absurd (err_ok _ t e)
   addressed_means (SavedPlace z i) size t e = (
     λ none reads. (sized_is z size _ t e none).0,
     λ l none is. address_taken l size (Symbol i) (taken_term (Symbol i)) t is refl refl (sized_is z size _ t e none).1,
   )
-  addressed_means (Saved i) size t e = absurd (err_ok _ t e)
   addressed_means (At a p) size t e = (
     λ none reads. pointer p (subst (λ (x : Taken). AreRead c x.reads) (sym (ok_same _ t e)) reads),
     λ l none is. address_taken l size a _ t is refl refl (ok_same _ t e),
@@ -386,6 +351,7 @@ module _ (c : Scene) (held : Option Shape) (m : State) (h : Sees c held m) where
       pointer : (p : Option Shape) → AreRead c (pointer_read p) → IsReadIfAny c p
       pointer None h = tt
       pointer (Some x) h = h.0
+  addressed_means _ size t e = absurd (err_ok _ t e)
 
   read_taken : (l : Location) (size : Size) (t : Taken) → Fetches l size t → IsTaken accesses.Read size l t
   unfolding machine.taken

@@ -19,19 +19,9 @@ slot_alone x k o e = absurd (cc)
 
 token_alone : (q : TreeProgram) (x : Tok) (a : Att) (o : Operand) → token_operand vax x a ≡ Some o → leaf_operand q x a ≡ o
 token_alone q x (att.Slot k) o e = slot_alone x k o e
-token_alone q x att.Nothing o e = absurd (cc)
-token_alone q x (att.Number n) o e = absurd (cc)
-token_alone q x (att.Object object offset) o e = absurd (cc)
-token_alone q x (att.Branch rel label) o e = absurd (cc)
-token_alone q x (att.Label label) o e = absurd (cc)
-token_alone q x (att.Callee function count) o e = absurd (cc)
+token_alone q x _ o e = absurd (cc)
 
 pub attr_alone : (q : TreeProgram) (h : Attr Operand) (o : Operand) → own_operand vax h ≡ Some o → operand_in q h ≡ o
 attr_alone q (attr.Place p) o e = cc
 attr_alone q (attr.Token l) o e = token_alone q l.tok l.att o e
-attr_alone q (attr.Reg r) o e = absurd (cc)
-attr_alone q (attr.InSlot w) o e = absurd (cc)
-attr_alone q (attr.Value p) o e = absurd (cc)
-attr_alone q (attr.Con n) o e = absurd (cc)
-attr_alone q (attr.Ea p) o e = absurd (cc)
-attr_alone q attr.Nothing o e = absurd (cc)
+attr_alone q _ o e = absurd (cc)

@@ -114,23 +114,14 @@ module _ (c : Scene) (zero : Option Shape) (m : State) (h : Sees c zero m) where
 
   deferred_stands : (r : Hole) (i : ℕ) (w : Where) (size : Size) → Means c m r i (filling_at c i) → where_deferred r i ≡ Ok w → CanStand c w size →
       BaseStands c m w (deferred_in c.program (filling_at c i)) size
-  deferred_stands hole_kind.Register i w size k e can = absurd (err_ok _ w e)
-  deferred_stands (hole_kind.Value z) i w size k e can = absurd (err_ok _ w e)
-  deferred_stands (hole_kind.Place z) i w size k e can = absurd (err_ok _ w e)
   deferred_stands hole_kind.Local i w size k e can =
       subst (λ x. BaseStands c m x (deferred_in c.program (filling_at c i)) size) (ok_same (At (Symbol i) None) w e)
       (k.plain, named_located m (deferred_in c.program (filling_at c i)).base size (worth c (Symbol i)) k.deferred)
-  deferred_stands (hole_kind.SavedPlace z) i w size k e can = absurd (err_ok _ w e)
-  deferred_stands hole_kind.Address i w size k e can = absurd (err_ok _ w e)
-  deferred_stands hole_kind.Constant i w size k e can = absurd (err_ok _ w e)
-  deferred_stands (hole_kind.Literal n) i w size k e can = absurd (err_ok _ w e)
   deferred_stands hole_kind.Object i w size k e can =
       subst (λ o. BaseStands c m w o size) (sym k.deferred_is)
       (through_stands (alone (bases.RelDef (addr_in c.program (filling_at c i)))) size (Symbol i) (resolved m.layout (addr_in c.program (filling_at c i))) w e can k.address refl
       (rel_deferred m (addr_in c.program (filling_at c i)) size))
-  deferred_stands hole_kind.Saved i w size k e can = absurd (err_ok _ w e)
-  deferred_stands hole_kind.Relation i w size k e can = absurd (err_ok _ w e)
-  deferred_stands hole_kind.Other i w size k e can = absurd (err_ok _ w e)
+  deferred_stands _ i w size k e can = absurd (err_ok _ w e)
 
   -- ---- bases
 
@@ -191,15 +182,6 @@ module _ (c : Scene) (zero : Option Shape) (m : State) (h : Sees c zero m) where
 
   indexed_stands : (u w : Where) (o : Operand) (t : Shape) (r : Reg) (size : Size) → reg m r ≡ worth c t → moved size u t ≡ Ok w →
       (CanStand c u size → BaseStands c m u o size) → CanStand c w size → Stands c m (record o { index = Some r }) w size
-  indexed_stands (Immediate a) w o t r size is e b can = absurd (err_ok _ w e)
-  indexed_stands (Register a) w o t r size is e b can = absurd (err_ok _ w e)
-  indexed_stands OwnRegister w o t r size is e b can = absurd (err_ok _ w e)
-  indexed_stands RegisterZero w o t r size is e b can = absurd (err_ok _ w e)
-  indexed_stands (Value z i) w o t r size is e b can = absurd (err_ok _ w e)
-  indexed_stands (Place z i) w o t r size is e b can = absurd (err_ok _ w e)
-  indexed_stands (Local i) w o t r size is e b can = absurd (err_ok _ w e)
-  indexed_stands (SavedPlace z i) w o t r size is e b can = absurd (err_ok _ w e)
-  indexed_stands (Saved i) w o t r size is e b can = absurd (err_ok _ w e)
   indexed_stands (At a p) w o t r size is e b can =
       subst (λ x. CanStand c x size → Stands c m (record o { index = Some r }) x size) (ok_same (At (sum a (scaled size t)) p) w e)
       (λ safe. record {
@@ -207,6 +189,7 @@ module _ (c : Scene) (zero : Option Shape) (m : State) (h : Sees c zero m) where
         at = record { base = locations.Memory (worth c a); found = (b safe).1; is = refl };
         is = ap (λ x. locations.Memory (add32 (worth c a) x)) (scaled_is c size t (reg m r) is);
       }) can
+  indexed_stands _ w o t r size is e b can = absurd (err_ok _ w e)
 
   form_stands_by : (b : Base) (index : Option ℕ) (w : Where) (size : Size) → BaseIsShort b → (is_lost c zero ≡ true → (base_spells c.roles b || index_is_operand c.roles index) ≡ false) →
       (where_base c.setting c.roles zero b >>= where_indexed c.setting c.roles zero index size) ≡ Ok w → CanStand c w size → Stands c m (with_index c.holes c.own index (F b)) w size

@@ -72,49 +72,27 @@ module _ (c : Scene) (m : State) where
   number_resolved a n k = ap (λ o. resolved_of m.layout o (addr_in c.program a).offset) k.nameless ∙ k.is
 
   pub constant_known : (r : Hole) (i : ℕ) (t : Shape) (a : Attr Operand) → Means c m r i a → constant_of r i ≡ Ok t → IsNumber c a (worth c t)
-  constant_known hole_kind.Register i t a k e = absurd (err_ok _ t e)
-  constant_known (hole_kind.Value z) i t a k e = absurd (err_ok _ t e)
-  constant_known (hole_kind.Place z) i t a k e = absurd (err_ok _ t e)
-  constant_known hole_kind.Local i t a k e = absurd (err_ok _ t e)
-  constant_known (hole_kind.SavedPlace z) i t a k e = absurd (err_ok _ t e)
-  constant_known hole_kind.Address i t a k e = absurd (err_ok _ t e)
   constant_known hole_kind.Constant i t a k e = subst (λ s. IsNumber c a (worth c s)) (ok_same (Symbol i) t e) k
   constant_known (hole_kind.Literal n) i t a k e =
       subst (λ s. IsNumber c a (worth c s)) (ok_same (Constant n) t e)
       (subst (λ x. IsNumber c a x) (let small : n ≡ n % 2 ^ 32 = omega (arith, k.low) in small) k)
-  constant_known hole_kind.Object i t a k e = absurd (err_ok _ t e)
-  constant_known hole_kind.Saved i t a k e = absurd (err_ok _ t e)
-  constant_known hole_kind.Relation i t a k e = absurd (err_ok _ t e)
-  constant_known hole_kind.Other i t a k e = absurd (err_ok _ t e)
+  constant_known _ i t a k e = absurd (err_ok _ t e)
 
   pub address_known : (r : Hole) (i : ℕ) (t : Shape) (a : Attr Operand) → Means c m r i a → address_of r i ≡ Ok t → resolved m.layout (addr_in c.program a) ≡ worth c t
-  address_known hole_kind.Register i t a k e = absurd (err_ok _ t e)
-  address_known (hole_kind.Value z) i t a k e = absurd (err_ok _ t e)
-  address_known (hole_kind.Place z) i t a k e = absurd (err_ok _ t e)
-  address_known hole_kind.Local i t a k e = absurd (err_ok _ t e)
-  address_known (hole_kind.SavedPlace z) i t a k e = absurd (err_ok _ t e)
-  address_known hole_kind.Address i t a k e = absurd (err_ok _ t e)
   address_known hole_kind.Constant i t a k e = number_resolved a (worth c t) (constant_known hole_kind.Constant i t a k e)
   address_known (hole_kind.Literal n) i t a k e = number_resolved a (worth c t) (constant_known (hole_kind.Literal n) i t a k e)
   address_known hole_kind.Object i t a k e = k.address ∙ ap (worth c) (ok_same (Symbol i) t e)
-  address_known hole_kind.Saved i t a k e = absurd (err_ok _ t e)
-  address_known hole_kind.Relation i t a k e = absurd (err_ok _ t e)
-  address_known hole_kind.Other i t a k e = absurd (err_ok _ t e)
+  address_known _ i t a k e = absurd (err_ok _ t e)
 
   -- a number stands in no register
   pub number_no_operand : (r : Hole) (i : ℕ) (t : Shape) → address_of r i ≡ Ok t → is_operand r ≡ false
-  number_no_operand hole_kind.Register i t e = absurd (err_ok _ t e)
-  number_no_operand (hole_kind.Value z) i t e = absurd (err_ok _ t e)
-  number_no_operand (hole_kind.Place z) i t e = absurd (err_ok _ t e)
-  number_no_operand hole_kind.Local i t e = absurd (err_ok _ t e)
-  number_no_operand (hole_kind.SavedPlace z) i t e = absurd (err_ok _ t e)
-  number_no_operand hole_kind.Address i t e = absurd (err_ok _ t e)
   number_no_operand hole_kind.Constant i t e = refl
   number_no_operand (hole_kind.Literal n) i t e = refl
   number_no_operand hole_kind.Object i t e = refl
   number_no_operand hole_kind.Saved i t e = refl
   number_no_operand hole_kind.Relation i t e = refl
   number_no_operand hole_kind.Other i t e = refl
+  number_no_operand _ i t e = absurd (err_ok _ t e)
 
   pub constant_address : (r : Hole) (i : ℕ) (t : Shape) → constant_of r i ≡ Ok t → address_of r i ≡ Ok t
   constant_address hole_kind.Register i t e = e
@@ -134,17 +112,7 @@ module _ (c : Scene) (m : State) where
 
   pub register_known : (r : Hole) (i : ℕ) (t : Shape) (a : Attr Operand) → Means c m r i a → register_of r i ≡ Ok t → reg m (register_in a) ≡ worth c t
   register_known hole_kind.Register i t a k e = ap (λ x. reg m (register_in x)) k.is ∙ k.holds ∙ ap (worth c) (ok_same (Symbol i) t e)
-  register_known (hole_kind.Value z) i t a k e = absurd (err_ok _ t e)
-  register_known (hole_kind.Place z) i t a k e = absurd (err_ok _ t e)
-  register_known hole_kind.Local i t a k e = absurd (err_ok _ t e)
-  register_known (hole_kind.SavedPlace z) i t a k e = absurd (err_ok _ t e)
-  register_known hole_kind.Address i t a k e = absurd (err_ok _ t e)
-  register_known hole_kind.Constant i t a k e = absurd (err_ok _ t e)
-  register_known (hole_kind.Literal n) i t a k e = absurd (err_ok _ t e)
-  register_known hole_kind.Object i t a k e = absurd (err_ok _ t e)
-  register_known hole_kind.Saved i t a k e = absurd (err_ok _ t e)
-  register_known hole_kind.Relation i t a k e = absurd (err_ok _ t e)
-  register_known hole_kind.Other i t a k e = absurd (err_ok _ t e)
+  register_known _ i t a k e = absurd (err_ok _ t e)
 
   -- ---- operands that are holes
 
@@ -228,8 +196,6 @@ module _ (c : Scene) (m : State) where
   hole_stands hole_kind.Address i w size k e can =
       subst (λ x. BaseStands x (operand_in c.program (filling_at c i)) size) (ok_same (At (Symbol i) None) w e)
       (k.plain, named_located m (operand_in c.program (filling_at c i)).base size (worth c (Symbol i)) k.named_so)
-  hole_stands hole_kind.Constant i w size k e can = absurd (err_ok _ w e)
-  hole_stands (hole_kind.Literal n) i w size k e can = absurd (err_ok _ w e)
   hole_stands hole_kind.Object i w size k e can =
       subst (λ x. BaseStands x (operand_in c.program (filling_at c i)) size) (ok_same (At (Symbol i) None) w e)
       (subst (λ o. BaseStands (At (Symbol i) None) o size) (sym k.operand_is)
@@ -241,8 +207,7 @@ module _ (c : Scene) (m : State) where
       (plain_stands m (home k.local) size (locations.Memory (displaced m Fp (word_addr k.local))) refl
       (named_located m (home k.local).base size (displaced m Fp (word_addr k.local)) refl)) in
       record { place = locations.Memory (displaced m Fp (word_addr k.local)); at = at; is = (at, k) })
-  hole_stands hole_kind.Relation i w size k e can = absurd (err_ok _ w e)
-  hole_stands hole_kind.Other i w size k e can = absurd (err_ok _ w e)
+  hole_stands _ i w size k e can = absurd (err_ok _ w e)
 
   -- ---- `%0`
 
@@ -262,10 +227,8 @@ module _ (c : Scene) (m : State) where
           record { place = _; at = at; is = at }
 
   pub own_held : (o : Own) (z : Option Shape) (t : Shape) → Holds c m z → own_value o z ≡ Ok t → reg m (register_in c.own) ≡ worth c t
-  own_held own.Nothing z t h e = absurd (err_ok _ t e)
-  own_held own.Register None t h e = absurd (err_ok _ t e)
   own_held own.Register (Some x) t h e = h ∙ ap (worth c) (ok_same x t e)
-  own_held (own.Slot z) y t h e = absurd (err_ok _ t e)
+  own_held _ _ t h e = absurd (err_ok _ t e)
 
 -- ---- in a state that is seen
 

@@ -66,17 +66,13 @@ deferred_is m b a x e = ap (λ (r : Result ℕ Stop). r >>= λ (n : ℕ). Ok (lo
 -- a base that names an address stands there
 pub named_located : (m : State) (b : Base) (size : Size) (a : ℕ) → named m b ≡ Some a → located m b size ≡ Ok (locations.Memory a, m)
 unfolding located
-named_located m (bases.Imm d) size a e = absurd (none-some a e)
-named_located m (bases.Reg r) size a e = absurd (none-some a e)
 named_located m (bases.Def r) size a e = ap (λ (n : ℕ). Ok (locations.Memory n, m)) (same_Some (reg m r) a e)
-named_located m (bases.Inc r) size a e = absurd (none-some a e)
-named_located m (bases.IncDef r) size a e = absurd (none-some a e)
-named_located m (bases.Dec r) size a e = absurd (none-some a e)
 named_located m (bases.Disp d r) size a e = ap (λ (n : ℕ). Ok (locations.Memory n, m)) (same_Some (displaced m r d) a e)
 named_located m (bases.DispDef d r) size a e = deferred_is m (is_own r d) (displaced m r d) a e
 named_located m (bases.Abs n) size a e = ap (λ (k : ℕ). Ok (locations.Memory k, m)) (longword_is n a e)
 named_located m (bases.Rel d) size a e = ap (λ (k : ℕ). Ok (locations.Memory k, m)) (longword_is (resolved m.layout d) a e)
 named_located m (bases.RelDef d) size a e = deferred_is m false (resolved m.layout d) a e
+named_located m _ size a e = absurd (none-some a e)
 
 moved_so : (m : State) (index : Option Reg) (size : Size) (a : ℕ) → indexed m (locations.Memory a) index size ≡ locations.Memory (reading.moved m index size a)
 moved_so m None size a = refl

@@ -39,21 +39,11 @@ Owned h = (o : Operand) × (own_operand vax h ≡ Some o)
 
 local_owned : (a : Att) → is_of_kind att_kind.Local a ≡ true → Owned (attr.Token (record { tok = tok.Loc; att = a }))
 local_owned (att.Slot k) f = (vax.local k, refl)
-local_owned att.Nothing f = absurd (cc)
-local_owned (att.Number n) f = absurd (cc)
-local_owned (att.Object object offset) f = absurd (cc)
-local_owned (att.Branch rel label) f = absurd (cc)
-local_owned (att.Label label) f = absurd (cc)
-local_owned (att.Callee function count) f = absurd (cc)
+local_owned _ f = absurd (cc)
 
 argument_owned : (a : Att) → is_of_kind att_kind.Argument a ≡ true → Owned (attr.Token (record { tok = tok.Arg; att = a }))
 argument_owned (att.Slot k) f = (vax.argument k, refl)
-argument_owned att.Nothing f = absurd (cc)
-argument_owned (att.Number n) f = absurd (cc)
-argument_owned (att.Object object offset) f = absurd (cc)
-argument_owned (att.Branch rel label) f = absurd (cc)
-argument_owned (att.Label label) f = absurd (cc)
-argument_owned (att.Callee function count) f = absurd (cc)
+argument_owned _ f = absurd (cc)
 
 token_owned : (x : Tok) (a : Att) → is_of_kind (attribute_of x) a ≡ true → IsPlace (hole_of_token x) → Owned (attr.Token (record { tok = x; att = a }))
 token_owned tok.Loc a f p = local_owned a f

@@ -34,32 +34,24 @@ use Rattle.vax_target_spelling.proofs.Own.{home_word, local_is}
 
 pub by_names : (b : Base) (x : Option Reg) (size : Size) (a n : ℕ) (m : State) → names (record { base = b; index = x }) size m ≡ Some a →
     number_at (is_own_place (record { base = b; index = x })) m a size ≡ Some n → reads (record { base = b; index = x }) size m ≡ Some n
-by_names (bases.Imm d) x size a n m named e = absurd (none-some a named)
-by_names (bases.Reg r) x size a n m named e = absurd (none-some a named)
 by_names (bases.Def r) x size a n m named e = ap (option_and_then (at_place (record { base = bases.Def r; index = x }) size m)) named ∙ e
-by_names (bases.Inc r) x size a n m named e = absurd (none-some a named)
-by_names (bases.IncDef r) x size a n m named e = absurd (none-some a named)
-by_names (bases.Dec r) x size a n m named e = absurd (none-some a named)
 by_names (bases.Disp d r) x size a n m named e = ap (option_and_then (at_place (record { base = bases.Disp d r; index = x }) size m)) named ∙ e
 by_names (bases.DispDef d r) x size a n m named e = ap (option_and_then (at_place (record { base = bases.DispDef d r; index = x }) size m)) named ∙ e
 by_names (bases.Abs k) x size a n m named e = ap (option_and_then (at_place (record { base = bases.Abs k; index = x }) size m)) named ∙ e
 by_names (bases.Rel d) x size a n m named e = ap (option_and_then (at_place (record { base = bases.Rel d; index = x }) size m)) named ∙ e
 by_names (bases.RelDef d) x size a n m named e = ap (option_and_then (at_place (record { base = bases.RelDef d; index = x }) size m)) named ∙ e
+by_names _ x size a n m named e = absurd (none-some a named)
 
 -- and what they read stands there
 pub of_names : (b : Base) (x : Option Reg) (size : Size) (a n : ℕ) (m : State) → names (record { base = b; index = x }) size m ≡ Some a →
     reads (record { base = b; index = x }) size m ≡ Some n → number_at (is_own_place (record { base = b; index = x })) m a size ≡ Some n
-of_names (bases.Imm d) x size a n m named e = absurd (none-some a named)
-of_names (bases.Reg r) x size a n m named e = absurd (none-some a named)
 of_names (bases.Def r) x size a n m named e = ap (option_and_then (at_place (record { base = bases.Def r; index = x }) size m)) (sym named) ∙ e
-of_names (bases.Inc r) x size a n m named e = absurd (none-some a named)
-of_names (bases.IncDef r) x size a n m named e = absurd (none-some a named)
-of_names (bases.Dec r) x size a n m named e = absurd (none-some a named)
 of_names (bases.Disp d r) x size a n m named e = ap (option_and_then (at_place (record { base = bases.Disp d r; index = x }) size m)) (sym named) ∙ e
 of_names (bases.DispDef d r) x size a n m named e = ap (option_and_then (at_place (record { base = bases.DispDef d r; index = x }) size m)) (sym named) ∙ e
 of_names (bases.Abs k) x size a n m named e = ap (option_and_then (at_place (record { base = bases.Abs k; index = x }) size m)) (sym named) ∙ e
 of_names (bases.Rel d) x size a n m named e = ap (option_and_then (at_place (record { base = bases.Rel d; index = x }) size m)) (sym named) ∙ e
 of_names (bases.RelDef d) x size a n m named e = ap (option_and_then (at_place (record { base = bases.RelDef d; index = x }) size m)) (sym named) ∙ e
+of_names _ x size a n m named e = absurd (none-some a named)
 
 -- an operand's own place spells no register
 own_register : (r : Reg) (a : Addr) → is_own r a ≡ true → operand_bits (record { base = bases.Disp a r; index = None }) ≡ 0

@@ -66,9 +66,7 @@ computed_few op to (Tests t) d e = none_few d.divisors (of_deed (leaves (Tested 
 acted_few : (s : Setting) (a : Action) (op : Op) (x : Arguments) (d : Deed) → acted s a op x ≡ Ok d → IsFew d.divisors
 acted_few s (action.Compute f) op x d e = computed_few op x.target (given f x.first x.second) d e
 acted_few s action.Push op x d e = none_few d.divisors (statement_none s.is_statement (act.Push x.first) d e)
-acted_few s (action.Branch t) op x d e = absurd (err_ok _ d e)
-acted_few s action.Call op x d e = absurd (err_ok _ d e)
-acted_few s action.Return op x d e = absurd (err_ok _ d e)
+acted_few s _ op x d e = absurd (err_ok _ d e)
 
 has_none : (ds : List Shape) → has_some ds ≡ false → [] ≡ ds
 has_none [] e = refl
@@ -103,14 +101,12 @@ module _ (s : Setting) (roles : List Hole) (held : Option Shape) (is_first : Boo
       }
 
   branches_none : (i : ℕ) (before : Last) (d : Deed) → branches s i before ≡ Ok d → [] ≡ d.divisors
-  branches_none i Plain d e = absurd (err_ok _ d e)
   branches_none i (Compared a b) d e = statement_none s.is_statement (act.Branch i a b) d e
   branches_none i (Tested t) d e = by s.is_signed e where
     by : (b : Bool) → cond b (ends_statement s (act.Branch i t (Constant 0))) (Err NotInstr) ≡ Ok d → [] ≡ d.divisors
     by true e = statement_none s.is_statement (act.Branch i t (Constant 0)) d e
     by false e = absurd (err_ok _ d e)
-  branches_none i (Returning t) d e = absurd (err_ok _ d e)
-  branches_none i (Ended deed) d e = absurd (err_ok _ d e)
+  branches_none i _ d e = absurd (err_ok _ d e)
 
   instruction_divided : (before : Last) (i : Instruction) (d : Deed) → instruction_did s roles is_first held before i ≡ Ok d → Divided is_first d.divisors
   instruction_divided before (Relation i) d e = undivided is_first d.divisors (by (is_relation (hole_at roles i)) e) where
@@ -123,11 +119,8 @@ module _ (s : Setting) (roles : List Hole) (held : Option Shape) (is_first : Boo
   instruction_divided before (Operates op fs) d e = operated_divided op fs d e
 
   returned_none : (t : Shape) (i : Instruction) (d : Deed) → returned t i ≡ Ok d → [] ≡ d.divisors
-  returned_none t (Relation i) d e = absurd (err_ok _ d e)
-  returned_none t Jump d e = absurd (err_ok _ d e)
-  returned_none t Calls d e = absurd (err_ok _ d e)
   returned_none t Ret d e = of_deed (leaves (Ended (act.Return t))) d e
-  returned_none t (Operates op fs) d e = absurd (err_ok _ d e)
+  returned_none t _ d e = absurd (err_ok _ d e)
 
   behind_divided : (before : Last) (i : Instruction) (d : Deed) → did_behind s roles is_first held before i ≡ Ok d → Divided is_first d.divisors
   behind_divided Plain i d e = instruction_divided Plain i d e

@@ -174,46 +174,12 @@ module _ (c : Scene) (m : State) (i : ℕ) (labelled : AreLabelled c.program.obj
   class_means : (k : Option Kind) (h : Attr Operand) → KindFits vax k h → Knows (size_of_kind k) h → IsWhole h (c.view.symbol i) → HasHome (size_of_kind k) h → Means c m (hole_of_kind k) i h
   class_means None h fits known whole homes = tt
   class_means (Some kind.Reg) (attr.Reg r) fits known whole homes = record { number = r; is = refl; low = fits; holds = same_Some (reg m (numbered r)) (worth c (Symbol i)) (known whole) }
-  class_means (Some kind.Reg) (attr.InSlot k) fits known whole homes = absurd fits
-  class_means (Some kind.Reg) (attr.Value o) fits known whole homes = absurd fits
-  class_means (Some kind.Reg) (attr.Place o) fits known whole homes = absurd fits
-  class_means (Some kind.Reg) (attr.Con n) fits known whole homes = absurd fits
-  class_means (Some kind.Reg) (attr.Ea o) fits known whole homes = absurd fits
-  class_means (Some kind.Reg) (attr.Token l) fits known whole homes = absurd fits
-  class_means (Some kind.Reg) attr.Nothing fits known whole homes = absurd fits
-  class_means (Some (kind.Value z)) (attr.Reg r) fits known whole homes = absurd fits
-  class_means (Some (kind.Value z)) (attr.InSlot k) fits known whole homes = absurd fits
   class_means (Some (kind.Value z)) (attr.Value o) fits known whole homes = known whole
-  class_means (Some (kind.Value z)) (attr.Place o) fits known whole homes = absurd fits
-  class_means (Some (kind.Value z)) (attr.Con n) fits known whole homes = absurd fits
-  class_means (Some (kind.Value z)) (attr.Ea o) fits known whole homes = absurd fits
-  class_means (Some (kind.Value z)) (attr.Token l) fits known whole homes = absurd fits
-  class_means (Some (kind.Value z)) attr.Nothing fits known whole homes = absurd fits
-  class_means (Some (kind.Place z)) (attr.Reg r) fits known whole homes = absurd fits
-  class_means (Some (kind.Place z)) (attr.InSlot k) fits known whole homes = absurd fits
-  class_means (Some (kind.Place z)) (attr.Value o) fits known whole homes = absurd fits
   class_means (Some (kind.Place z)) (attr.Place o) fits known whole homes = (let x = the_number (names o z m) (homes o refl) in record { address = x.0; named_so = x.1; holds = known })
-  class_means (Some (kind.Place z)) (attr.Con n) fits known whole homes = absurd fits
-  class_means (Some (kind.Place z)) (attr.Ea o) fits known whole homes = absurd fits
-  class_means (Some (kind.Place z)) (attr.Token l) fits known whole homes = absurd fits
-  class_means (Some (kind.Place z)) attr.Nothing fits known whole homes = absurd fits
-  class_means (Some kind.Con) (attr.Reg r) fits known whole homes = absurd fits
-  class_means (Some kind.Con) (attr.InSlot k) fits known whole homes = absurd fits
-  class_means (Some kind.Con) (attr.Value o) fits known whole homes = absurd fits
-  class_means (Some kind.Con) (attr.Place o) fits known whole homes = absurd fits
   class_means (Some kind.Con) (attr.Con n) fits known whole homes = record { nameless = refl; is = same_Some n (worth c (Symbol i)) (known whole); low = worth_small c (Symbol i) }
-  class_means (Some kind.Con) (attr.Ea o) fits known whole homes = absurd fits
-  class_means (Some kind.Con) (attr.Token l) fits known whole homes = absurd fits
-  class_means (Some kind.Con) attr.Nothing fits known whole homes = absurd fits
-  class_means (Some kind.Ea) (attr.Reg r) fits known whole homes = absurd fits
-  class_means (Some kind.Ea) (attr.InSlot k) fits known whole homes = absurd fits
-  class_means (Some kind.Ea) (attr.Value o) fits known whole homes = absurd fits
-  class_means (Some kind.Ea) (attr.Place o) fits known whole homes = absurd fits
-  class_means (Some kind.Ea) (attr.Con n) fits known whole homes = absurd fits
   class_means (Some kind.Ea) (attr.Ea o) fits known whole homes = address_means o fits (known whole)
-  class_means (Some kind.Ea) (attr.Token l) fits known whole homes = absurd fits
-  class_means (Some kind.Ea) attr.Nothing fits known whole homes = absurd fits
   class_means (Some kind.Nothing) h fits known whole homes = tt
+  class_means _ _ fits known whole homes = absurd fits
 
   token_means : (t : Tok) (a : Att) → is_of_kind (attribute_of t) a ≡ true → InFrame a → KnowsToken t a → TokenIsWhole t a (c.view.symbol i) → HasTokenHome t a →
       Means c m (hole_of_token t) i (token t a)
@@ -267,13 +233,7 @@ module _ (c : Scene) (m : State) (i : ℕ) (labelled : AreLabelled c.program.obj
       by : (x : Tok) (a : Att) → x ≡ t → leaf_fits (record { tok = x; att = a }) ≡ true → InFrame a → KnowsToken x a → TokenIsWhole x a (c.view.symbol i) → HasTokenHome x a
           → Means c m (hole_of_token t) i (token x a)
       by x a same fits low known whole homes = subst (λ y. Means c m (hole_of_token y) i (token x a)) same (token_means x a fits low known whole homes)
-  symbol_means classes (grammar_symbol.Tok t) (attr.Reg r) fits known whole homes = absurd fits
-  symbol_means classes (grammar_symbol.Tok t) (attr.InSlot k) fits known whole homes = absurd fits
-  symbol_means classes (grammar_symbol.Tok t) (attr.Value o) fits known whole homes = absurd fits
-  symbol_means classes (grammar_symbol.Tok t) (attr.Place o) fits known whole homes = absurd fits
-  symbol_means classes (grammar_symbol.Tok t) (attr.Con n) fits known whole homes = absurd fits
-  symbol_means classes (grammar_symbol.Tok t) (attr.Ea o) fits known whole homes = absurd fits
-  symbol_means classes (grammar_symbol.Tok t) attr.Nothing fits known whole homes = absurd fits
+  symbol_means classes _ _ fits known whole homes = absurd fits
 
 -- ---- the holes of a rule
 
@@ -303,31 +263,11 @@ filling_is c j = ap (λ b. cond b c.own (unwrap_or (slice_get c.holes (suc j - 1
 -- what stands for `%0` is a register where it has a value
 pub register_result : (g : Give) (hs : List (Attr Operand)) (a : Attr Operand) → own_of g ≡ own.Register → IsResult vax g hs a → (n : ℕ) × (a ≡ attr.Reg n) × (n < 12)
 register_result give.Fresh hs (attr.Reg n) is r = (n, refl, r.0)
-register_result give.Fresh hs (attr.InSlot k) is r = absurd r
-register_result give.Fresh hs (attr.Value o) is r = absurd r
-register_result give.Fresh hs (attr.Place o) is r = absurd r
-register_result give.Fresh hs (attr.Con n) is r = absurd r
-register_result give.Fresh hs (attr.Ea o) is r = absurd r
-register_result give.Fresh hs (attr.Token l) is r = absurd r
-register_result give.Fresh hs attr.Nothing is r = absurd r
 register_result give.Reuse hs (attr.Reg n) is r = (n, refl, r)
-register_result give.Reuse hs (attr.InSlot k) is r = absurd r
-register_result give.Reuse hs (attr.Value o) is r = absurd r
-register_result give.Reuse hs (attr.Place o) is r = absurd r
-register_result give.Reuse hs (attr.Con n) is r = absurd r
-register_result give.Reuse hs (attr.Ea o) is r = absurd r
-register_result give.Reuse hs (attr.Token l) is r = absurd r
-register_result give.Reuse hs attr.Nothing is r = absurd r
 register_result give.Scratch hs (attr.Reg n) is r = (n, refl, r.0)
-register_result give.Scratch hs (attr.InSlot k) is r = absurd r
-register_result give.Scratch hs (attr.Value o) is r = absurd r
-register_result give.Scratch hs (attr.Place o) is r = absurd r
-register_result give.Scratch hs (attr.Con n) is r = absurd r
-register_result give.Scratch hs (attr.Ea o) is r = absurd r
-register_result give.Scratch hs (attr.Token l) is r = absurd r
-register_result give.Scratch hs attr.Nothing is r = absurd r
 register_result give.Nothing hs a is r = cc
 register_result (give.Shape l) hs a is r = cc
+register_result _ hs _ is r = absurd r
 
 module _ (every : Bool) (q : TreeProgram) (f : Extent) (fs : List Extent) (classes : List Class) (rule : Rule) (e : EffectShape) (hs : List (Attr Operand)) (res : Attr Operand) (v : View) (m : State)
     (inst : Instance vax every q f fs classes rule e hs v m) where

@@ -71,22 +71,9 @@ nothing_low : (g : Give) (hs : List (Attr Operand)) (a : Attr Operand) → IsRes
 nothing_low give.Fresh hs a r h = absurd (h refl)
 nothing_low give.Reuse hs a r h = absurd (h refl)
 nothing_low give.Scratch hs a r h = absurd (h refl)
-nothing_low give.Nothing hs (attr.Reg n) r h = absurd r
-nothing_low give.Nothing hs (attr.InSlot k) r h = absurd r
-nothing_low give.Nothing hs (attr.Value o) r h = absurd r
-nothing_low give.Nothing hs (attr.Place o) r h = absurd r
-nothing_low give.Nothing hs (attr.Con n) r h = absurd r
-nothing_low give.Nothing hs (attr.Ea o) r h = absurd r
-nothing_low give.Nothing hs (attr.Token l) r h = absurd r
 nothing_low give.Nothing hs attr.Nothing r h = refl
-nothing_low (give.Shape l) hs (attr.Reg n) r h = absurd r
-nothing_low (give.Shape l) hs (attr.InSlot k) r h = absurd r
-nothing_low (give.Shape l) hs (attr.Value o) r h = absurd r
-nothing_low (give.Shape l) hs (attr.Place o) r h = absurd r
-nothing_low (give.Shape l) hs (attr.Con n) r h = absurd r
-nothing_low (give.Shape l) hs (attr.Ea o) r h = absurd r
-nothing_low (give.Shape l) hs (attr.Token l') r h = absurd r
 nothing_low (give.Shape l) hs attr.Nothing r h = refl
+nothing_low _ hs _ r h = absurd r
 
 -- a rule that gives a register is no statement's
 reg_is_none : (k : Option Kind) (g : Give) → (g ≡ give.Fresh) ⊎ (g ≡ give.Reuse) → plain_fits k g ≡ true → is_nothing k ≡ false
@@ -216,11 +203,8 @@ module _ (q : TreeProgram) (f : Extent) (fs : List Extent) (classes : List Class
   -- ---- what a last line did
 
   last_is : (l : Last) (deed : ActShape) → last_deed l ≡ Ok deed → l ≡ Ended deed
-  last_is Plain deed h = absurd (err_ok _ deed h)
-  last_is (Compared a b) deed h = absurd (err_ok _ deed h)
-  last_is (Tested t) deed h = absurd (err_ok _ deed h)
-  last_is (Returning t) deed h = absurd (err_ok _ deed h)
   last_is (Ended x) deed h = ap Ended (ok_same x deed h)
+  last_is _ deed h = absurd (err_ok _ deed h)
 
   act_is : found_so.deed ≡ e.act
   act_is = ap (λ (x : EffectShape). x.act) found_so.is

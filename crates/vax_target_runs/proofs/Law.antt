@@ -141,11 +141,8 @@ module _ (c : Scene) where
   Leaves t n d did = (d.last ≡ Ended (Return t)) × (did ≡ ends (Returns n))
 
   returned_leaves : (t : Shape) (n : State) (i : Instruction) (d : Deed) → returned t i ≡ Ok d → Leaves t n d (performed (filled_instruction c.program c.holes c.own (Some i)) n)
-  returned_leaves t n (Relation i) d e = absurd (err_ok _ d e)
-  returned_leaves t n Jump d e = absurd (err_ok _ d e)
-  returned_leaves t n CallsLine d e = absurd (err_ok _ d e)
   returned_leaves t n Ret d e = (ap (λ (x : Deed). x.last) (sym (ok_same (leaves (Ended (Return t))) d e)), returns_so n)
-  returned_leaves t n (Operates op fs) d e = absurd (err_ok _ d e)
+  returned_leaves t n _ d e = absurd (err_ok _ d e)
 
   returning_leaves : (is_first : Bool) (held : Option Shape) (t : Shape) (n : State) (ps : List Piece) (d : Deed) → line_did c.setting c.roles is_first held (Returning t) ps ≡ Ok d →
       Leaves t n d (performed (filled_line c.program ps c.holes c.own) n)

@@ -52,10 +52,7 @@ module _ (s : Setting) (holes : List Hole) (l : Line) (e : EffectShape) where
   statement_by n d did (Ended deed) last is =
       kept_reads (λ y. StatementFound s holes l y) e (with_divisors (progressed l.line start d) deed) l.line d.reads is
       (λ all. record { line = record { deed = d; did = did; divisors = refl; reads = all }; act = last })
-  statement_by n d did Plain last is = absurd (err_ok _ e is)
-  statement_by n d did (Compared a b) last is = absurd (err_ok _ e is)
-  statement_by n d did (Tested t) last is = absurd (err_ok _ e is)
-  statement_by n d did (Returning t) last is = absurd (err_ok _ e is)
+  statement_by n d did _ last is = absurd (err_ok _ e is)
 
   pub statement_found : template_found s holes None (l ∷ []) give.Nothing ≡ Ok e → StatementFound s holes l e
   unfolding template_found ended

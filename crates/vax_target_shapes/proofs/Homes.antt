@@ -99,21 +99,11 @@ AllOwn q (h ∷ roles) (a ∷ hs) = Owns q h a × AllOwn q roles hs
 
 local_owns : (q : TreeProgram) (a : Att) → is_of_kind att_kind.Local a ≡ true → Owns q hole_kind.Local (attr.Token (record { tok = tok.Loc; att = a }))
 local_owns q (att.Slot k) f = refl
-local_owns q att.Nothing f = absurd (cc)
-local_owns q (att.Number n) f = absurd (cc)
-local_owns q (att.Object object offset) f = absurd (cc)
-local_owns q (att.Branch rel label) f = absurd (cc)
-local_owns q (att.Label label) f = absurd (cc)
-local_owns q (att.Callee function count) f = absurd (cc)
+local_owns q _ f = absurd (cc)
 
 argument_owns : (q : TreeProgram) (a : Att) → is_of_kind att_kind.Argument a ≡ true → Owns q hole_kind.Local (attr.Token (record { tok = tok.Arg; att = a }))
 argument_owns q (att.Slot k) f = refl
-argument_owns q att.Nothing f = absurd (cc)
-argument_owns q (att.Number n) f = absurd (cc)
-argument_owns q (att.Object object offset) f = absurd (cc)
-argument_owns q (att.Branch rel label) f = absurd (cc)
-argument_owns q (att.Label label) f = absurd (cc)
-argument_owns q (att.Callee function count) f = absurd (cc)
+argument_owns q _ f = absurd (cc)
 
 token_owns : (q : TreeProgram) (x : Tok) (a : Att) → is_of_kind (attribute_of x) a ≡ true → Owns q (hole_of_token x) (attr.Token (record { tok = x; att = a }))
 token_owns q tok.Loc a f = local_owns q a f

@@ -46,13 +46,7 @@ module _ (c : Scene) (m : State) (h : Sees c None m) where
         address_is q = cc
   place_so (Place z i) o size a n e safe = absurd (home_so size z i a e)
   place_so (Local i) o size a n e safe = absurd (home_so size Long i a e)
-  place_so (Immediate t) o size a n e safe = absurd (err_ok _ _ e)
-  place_so (Register t) o size a n e safe = absurd (err_ok _ _ e)
-  place_so OwnRegister o size a n e safe = absurd (err_ok _ _ e)
-  place_so RegisterZero o size a n e safe = absurd (err_ok _ _ e)
-  place_so (Value z i) o size a n e safe = absurd (err_ok _ _ e)
-  place_so (SavedPlace z i) o size a n e safe = absurd (err_ok _ _ e)
-  place_so (Saved i) o size a n e safe = absurd (err_ok _ _ e)
+  place_so _ o size a n e safe = absurd (err_ok _ _ e)
 
   address_so : (w : Where) (o : Operand) (size : Size) (a : Shape) → NamesAt c m h w o size → address_given w ≡ Ok (effects.Address a) → IsRead c.view a → names o size m ≡ Some (worth c a)
   address_so (At b p) o size a n e safe =
@@ -60,15 +54,7 @@ module _ (c : Scene) (m : State) (h : Sees c None m) where
       n (subst (IsRead c.view) (sym same) safe) ∙ ap (λ (x : Shape). Some (worth c x)) same where
         address_is : effects.Address b ≡ effects.Address a → b ≡ a
         address_is q = cc
-  address_so (Immediate t) o size a n e safe = absurd (err_ok _ _ e)
-  address_so (Register t) o size a n e safe = absurd (err_ok _ _ e)
-  address_so OwnRegister o size a n e safe = absurd (err_ok _ _ e)
-  address_so RegisterZero o size a n e safe = absurd (err_ok _ _ e)
-  address_so (Value z i) o size a n e safe = absurd (err_ok _ _ e)
-  address_so (Place z i) o size a n e safe = absurd (err_ok _ _ e)
-  address_so (Local i) o size a n e safe = absurd (err_ok _ _ e)
-  address_so (SavedPlace z i) o size a n e safe = absurd (err_ok _ _ e)
-  address_so (Saved i) o size a n e safe = absurd (err_ok _ _ e)
+  address_so _ o size a n e safe = absurd (err_ok _ _ e)
 
   by_index : (b : Base) (x : Option ℕ) (size : Size) (t : Shape) → BaseIsShort b →
       without_index (record { base = b; index = x }) (form_where c.setting c.roles None (record { base = b; index = x }) Byte >>= address_given) ≡ Ok (effects.Address t) →

@@ -95,11 +95,8 @@ module _ (c : Scene) (m : State) (h : Sees c None m) where
   hole_names hole_kind.Object i w k e =
       subst (λ x. Names x (operand_in c.program (filling_at c i))) (ok_same (At (Symbol i) None) w e)
       (subst (λ o. IsAt o (Symbol i)) (sym k.operand_is) (record { plain = refl; named_so = object_is (addr_in c.program (filling_at c i)) (Symbol i) k.address }))
-  hole_names hole_kind.Constant i w k e = absurd (err_ok _ w e)
-  hole_names (hole_kind.Literal n) i w k e = absurd (err_ok _ w e)
   hole_names hole_kind.Saved i w k e = subst (λ x. Names x (operand_in c.program (filling_at c i))) (ok_same (Saved i) w e) tt
-  hole_names hole_kind.Relation i w k e = absurd (err_ok _ w e)
-  hole_names hole_kind.Other i w k e = absurd (err_ok _ w e)
+  hole_names _ i w k e = absurd (err_ok _ w e)
 
   deferred_names : (r : Hole) (i : ℕ) (w : Where) → Means c m r i (filling_at c i) → where_deferred r i ≡ Ok w → Names w (deferred_in c.program (filling_at c i))
   deferred_names hole_kind.Local i w k e =
@@ -108,16 +105,7 @@ module _ (c : Scene) (m : State) (h : Sees c None m) where
       through_names (deferred_in c.program (filling_at c i)) (Symbol i) w e
       (λ safe. subst (λ o. IsAt o (Memory Long (Symbol i))) (sym k.deferred_is)
       (record { plain = refl; named_so = in_area Long (Symbol i) (resolved m.layout (addr_in c.program (filling_at c i))) k.address safe }))
-  deferred_names hole_kind.Register i w k e = absurd (err_ok _ w e)
-  deferred_names (hole_kind.Value z) i w k e = absurd (err_ok _ w e)
-  deferred_names (hole_kind.Place z) i w k e = absurd (err_ok _ w e)
-  deferred_names (hole_kind.SavedPlace z) i w k e = absurd (err_ok _ w e)
-  deferred_names hole_kind.Address i w k e = absurd (err_ok _ w e)
-  deferred_names hole_kind.Constant i w k e = absurd (err_ok _ w e)
-  deferred_names (hole_kind.Literal n) i w k e = absurd (err_ok _ w e)
-  deferred_names hole_kind.Saved i w k e = absurd (err_ok _ w e)
-  deferred_names hole_kind.Relation i w k e = absurd (err_ok _ w e)
-  deferred_names hole_kind.Other i w k e = absurd (err_ok _ w e)
+  deferred_names _ i w k e = absurd (err_ok _ w e)
 
   -- `%0` isn't written yet, so each hole means what it stands for
   pub all_mean : (i : ℕ) → Means c m (role_at c i) i (filling_at c i)
@@ -212,15 +200,7 @@ module _ (c : Scene) (m : State) (h : Sees c None m) where
   by_index : (u w : Where) (o : Operand) (r : Reg) (t : Shape) (size : Size) → Names u o → reg m r ≡ worth c t → moved size u t ≡ Ok w → NamesAt w (record o { index = Some r }) size
   by_index (At a p) w o r t size k e is =
       subst (λ x. NamesAt x (record o { index = Some r }) size) (ok_same (At (sum a (scaled size t)) p) w is) (λ safe. at_some o r size a t p k e safe)
-  by_index (Immediate x) w o r t size k e is = absurd (err_ok _ w is)
-  by_index (Register x) w o r t size k e is = absurd (err_ok _ w is)
-  by_index OwnRegister w o r t size k e is = absurd (err_ok _ w is)
-  by_index RegisterZero w o r t size k e is = absurd (err_ok _ w is)
-  by_index (Value z i) w o r t size k e is = absurd (err_ok _ w is)
-  by_index (Place z i) w o r t size k e is = absurd (err_ok _ w is)
-  by_index (Local i) w o r t size k e is = absurd (err_ok _ w is)
-  by_index (SavedPlace z i) w o r t size k e is = absurd (err_ok _ w is)
-  by_index (Saved i) w o r t size k e is = absurd (err_ok _ w is)
+  by_index _ w o r t size k e is = absurd (err_ok _ w is)
 
   names_by : (b : Base) (index : Option ℕ) (w : Where) (size : Size) → BaseIsShort b →
       (where_base c.setting c.roles None b >>= where_indexed c.setting c.roles None index size) ≡ Ok w → NamesAt w (with_index c.holes c.own index (F b)) size

@@ -99,11 +99,8 @@ module _ (c : Scene) (m : State) (h : Sees c None m) where
       (λ same. subst (λ y. names (operand_in c.program (filling_at c i)) y m ≡ Some (worth c (Symbol i))) same k)
   hole_reads hole_kind.Address i size w k e = subst (λ y. Reads y (operand_in c.program (filling_at c i)) size) (ok_same (At (Symbol i) None) w e) tt
   hole_reads hole_kind.Object i size w k e = subst (λ y. Reads y (operand_in c.program (filling_at c i)) size) (ok_same (At (Symbol i) None) w e) tt
-  hole_reads hole_kind.Constant i size w k e = absurd (err_ok _ w e)
-  hole_reads (hole_kind.Literal n) i size w k e = absurd (err_ok _ w e)
   hole_reads hole_kind.Saved i size w k e = subst (λ y. Reads y (operand_in c.program (filling_at c i)) size) (ok_same (Saved i) w e) tt
-  hole_reads hole_kind.Relation i size w k e = absurd (err_ok _ w e)
-  hole_reads hole_kind.Other i size w k e = absurd (err_ok _ w e)
+  hole_reads _ i size w k e = absurd (err_ok _ w e)
 
   alone_reads : (i : ℕ) (size : Size) (w : Where) → cond (i == 0) (where_own c.setting.own) (where_hole (role_at c i) i) ≡ Ok w → Reads w (operand_in c.program (filling_at c i)) size
   alone_reads i size w e = by (i == 0) e where
@@ -153,15 +150,7 @@ module _ (c : Scene) (m : State) (h : Sees c None m) where
 
   moved_reads : (u w : Where) (o : Operand) (t : Shape) (size : Size) → moved size u t ≡ Ok w → Reads w o size
   moved_reads (At a p) w o t size is = subst (λ y. Reads y o size) (ok_same _ w is) tt
-  moved_reads (Immediate x) w o t size is = absurd (err_ok _ w is)
-  moved_reads (Register x) w o t size is = absurd (err_ok _ w is)
-  moved_reads OwnRegister w o t size is = absurd (err_ok _ w is)
-  moved_reads RegisterZero w o t size is = absurd (err_ok _ w is)
-  moved_reads (Value z i) w o t size is = absurd (err_ok _ w is)
-  moved_reads (Place z i) w o t size is = absurd (err_ok _ w is)
-  moved_reads (Local i) w o t size is = absurd (err_ok _ w is)
-  moved_reads (SavedPlace z i) w o t size is = absurd (err_ok _ w is)
-  moved_reads (Saved i) w o t size is = absurd (err_ok _ w is)
+  moved_reads _ w o t size is = absurd (err_ok _ w is)
 
   reads_by_form : (b : Base) (index : Option ℕ) (size : Size) (w : Where) → BaseIsShort b →
       (where_base c.setting c.roles None b >>= where_indexed c.setting c.roles None index size) ≡ Ok w → Reads w (with_index c.holes c.own index (F b)) size

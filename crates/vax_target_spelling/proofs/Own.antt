@@ -44,9 +44,7 @@ register_bits (suc (suc (suc (suc (suc (suc (suc (suc (suc (suc (suc (suc n)))))
 
 by_tests : (a b c : Bool) (o : Option ℕ) → a ≡ true → b ≡ true → c ≡ true → cond (a && (b && c)) o None ≡ o
 by_tests true true true o e f g = refl
-by_tests true true false o e f g = absurd (cc)
-by_tests true false c o e f g = absurd (cc)
-by_tests false b c o e f g = absurd (cc)
+by_tests _ _ _ o e f g = absurd (cc)
 
 word_at : (w : ℕ) → w < 1024 → word_below (4 * (w + 1)) ≡ Some w
 word_at w lt =

@@ -167,34 +167,19 @@ number_tells q x a n is s e = absurd (imm_touches (addr_number n) s (ap (λ b. t
 own_tells : (q : TreeProgram) (x : Tok) (k : ℕ) (a : Att) → is_of_kind (att_kind.Own k) a ≡ true →
     TouchesAlike (operand_in q (attr.Token (record { tok = x; att = a }))) (attr.Token (record { tok = x; att = a }))
 own_tells q x k (att.Number n) f = number_tells q x (att.Number n) n refl
-own_tells q x k att.Nothing f = absurd (cc)
-own_tells q x k (att.Object object offset) f = absurd (cc)
-own_tells q x k (att.Slot n) f = absurd (cc)
-own_tells q x k (att.Branch rel label) f = absurd (cc)
-own_tells q x k (att.Label label) f = absurd (cc)
-own_tells q x k (att.Callee function count) f = absurd (cc)
+own_tells q x k _ f = absurd (cc)
 
 other_tells : (q : TreeProgram) (x : Tok) (a : Att) → is_of_kind att_kind.Other a ≡ true →
     TouchesAlike (operand_in q (attr.Token (record { tok = x; att = a }))) (attr.Token (record { tok = x; att = a }))
 other_tells q x (att.Number n) f = number_tells q x (att.Number n) n refl
-other_tells q x att.Nothing f = absurd (cc)
-other_tells q x (att.Object object offset) f = absurd (cc)
-other_tells q x (att.Slot n) f = absurd (cc)
-other_tells q x (att.Branch rel label) f = absurd (cc)
-other_tells q x (att.Label label) f = absurd (cc)
-other_tells q x (att.Callee function count) f = absurd (cc)
+other_tells q x _ f = absurd (cc)
 
 object_tells : (q : TreeProgram) (x : Tok) (a : Att) → is_of_kind att_kind.Object a ≡ true → IsPointer q (attr.Token (record { tok = x; att = a }))
 object_tells q x (att.Object object offset) f = record {
   place = λ s e. absurd (rel_touches (object_addr q object offset) s e);
   deferred = λ s e. absurd (reldef_touches (object_addr q object offset) s e);
 }
-object_tells q x att.Nothing f = absurd (cc)
-object_tells q x (att.Number n) f = absurd (cc)
-object_tells q x (att.Slot n) f = absurd (cc)
-object_tells q x (att.Branch rel label) f = absurd (cc)
-object_tells q x (att.Label label) f = absurd (cc)
-object_tells q x (att.Callee function count) f = absurd (cc)
+object_tells q x _ f = absurd (cc)
 
 at_home_touches : (k : ℕ) (s : Spot) → touches vax (at_home k) s ≡ true → touches vax (home k) s ≡ true
 at_home_touches k (RegAt n) e = e
@@ -218,21 +203,11 @@ argument_deferred_touches k s e = by (nat_le k 255) e where
 
 local_tells : (q : TreeProgram) (a : Att) → is_of_kind att_kind.Local a ≡ true → IsPointer q (attr.Token (record { tok = tok.Loc; att = a }))
 local_tells q (att.Slot k) f = record { place = λ s e. e; deferred = word_deferred_touches k }
-local_tells q att.Nothing f = absurd (cc)
-local_tells q (att.Number n) f = absurd (cc)
-local_tells q (att.Object object offset) f = absurd (cc)
-local_tells q (att.Branch rel label) f = absurd (cc)
-local_tells q (att.Label label) f = absurd (cc)
-local_tells q (att.Callee function count) f = absurd (cc)
+local_tells q _ f = absurd (cc)
 
 argument_tells : (q : TreeProgram) (a : Att) → is_of_kind att_kind.Argument a ≡ true → IsPointer q (attr.Token (record { tok = tok.Arg; att = a }))
 argument_tells q (att.Slot k) f = record { place = λ s e. e; deferred = argument_deferred_touches k }
-argument_tells q att.Nothing f = absurd (cc)
-argument_tells q (att.Number n) f = absurd (cc)
-argument_tells q (att.Object object offset) f = absurd (cc)
-argument_tells q (att.Branch rel label) f = absurd (cc)
-argument_tells q (att.Label label) f = absurd (cc)
-argument_tells q (att.Callee function count) f = absurd (cc)
+argument_tells q _ f = absurd (cc)
 
 token_tells : (q : TreeProgram) (x : Tok) (a : Att) → is_of_kind (attribute_of x) a ≡ true → Tells q (hole_of_token x) (attr.Token (record { tok = x; att = a }))
 token_tells q tok.Zero a f = own_tells q tok.Zero 0 a f

@@ -61,55 +61,26 @@ given_plain : (x a : ActShape) → (IsDeed x → ⊥) → ◌≡◌ {A = Result 
 given_plain x a h e d = h (subst IsDeed (sym (ok_same x a e)) d)
 
 register_plain : (w : Where) (a : ActShape) → register_given w ≡ Ok a → IsDeed a → ⊥
-register_plain (Immediate t) a e = absurd (err_ok _ a e)
 register_plain (Register t) a e = given_plain (Value t) a (λ x. x) e
-register_plain OwnRegister a e = absurd (err_ok _ a e)
-register_plain RegisterZero a e = absurd (err_ok _ a e)
-register_plain (ValueAt z i) a e = absurd (err_ok _ a e)
-register_plain (Place z i) a e = absurd (err_ok _ a e)
-register_plain (Local i) a e = absurd (err_ok _ a e)
-register_plain (SavedPlace z i) a e = absurd (err_ok _ a e)
-register_plain (Saved i) a e = absurd (err_ok _ a e)
-register_plain (At b p) a e = absurd (err_ok _ a e)
+register_plain _ a e = absurd (err_ok _ a e)
 
 address_plain : (w : Where) (a : ActShape) → address_given w ≡ Ok a → IsDeed a → ⊥
-address_plain (Immediate t) a e = absurd (err_ok _ a e)
-address_plain (Register t) a e = absurd (err_ok _ a e)
-address_plain OwnRegister a e = absurd (err_ok _ a e)
-address_plain RegisterZero a e = absurd (err_ok _ a e)
-address_plain (ValueAt z i) a e = absurd (err_ok _ a e)
-address_plain (Place z i) a e = absurd (err_ok _ a e)
-address_plain (Local i) a e = absurd (err_ok _ a e)
-address_plain (SavedPlace z i) a e = absurd (err_ok _ a e)
-address_plain (Saved i) a e = absurd (err_ok _ a e)
 address_plain (At b p) a e = given_plain (Address b) a (λ x. x) e
+address_plain _ a e = absurd (err_ok _ a e)
 
 cond_plain : (b : Bool) (x a : ActShape) → (IsDeed x → ⊥) → cond b (Ok x) (Err WrongSize) ≡ Ok a → IsDeed a → ⊥
 cond_plain true x a h e = given_plain x a h e
 cond_plain false x a h e = absurd (err_ok _ a e)
 
 place_plain : (size : Size) (w : Where) (a : ActShape) → place_given size w ≡ Ok a → IsDeed a → ⊥
-place_plain size (Immediate t) a e = absurd (err_ok _ a e)
-place_plain size (Register t) a e = absurd (err_ok _ a e)
-place_plain size OwnRegister a e = absurd (err_ok _ a e)
-place_plain size RegisterZero a e = absurd (err_ok _ a e)
-place_plain size (ValueAt z i) a e = absurd (err_ok _ a e)
 place_plain size (Place z i) a e = cond_plain _ (PlaceHome size i) a (λ x. x) e
 place_plain size (Local i) a e = cond_plain _ (PlaceHome size i) a (λ x. x) e
-place_plain size (SavedPlace z i) a e = absurd (err_ok _ a e)
-place_plain size (Saved i) a e = absurd (err_ok _ a e)
 place_plain size (At b p) a e = given_plain (PlaceAt size b) a (λ x. x) e
+place_plain size _ a e = absurd (err_ok _ a e)
 
 number_plain : (roles : List Hole) (b : Base) (a : ActShape) → base_number roles b ≡ Ok a → IsDeed a → ⊥
-number_plain roles base.RegisterZero a e = absurd (err_ok _ a e)
 number_plain roles (base.Hole i) a e = let d = chained (constant_of (hole_at roles i) i) number_given a e in given_plain (Number d.first) a (λ x. x) d.then_so
-number_plain roles (base.Immediate n) a e = absurd (err_ok _ a e)
-number_plain roles (base.Negative i) a e = absurd (err_ok _ a e)
-number_plain roles (base.RegisterDeferred i) a e = absurd (err_ok _ a e)
-number_plain roles (base.Displacement n i) a e = absurd (err_ok _ a e)
-number_plain roles (base.DisplacementDeferred n i) a e = absurd (err_ok _ a e)
-number_plain roles (base.Absolute n) a e = absurd (err_ok _ a e)
-number_plain roles (base.Deferred i) a e = absurd (err_ok _ a e)
+number_plain roles _ a e = absurd (err_ok _ a e)
 
 indexed_plain : (b : Bool) (x : Result ActShape TemplateKind) (a : ActShape) → cond b x (Err NotInstr) ≡ Ok a → x ≡ Ok a
 indexed_plain true x a e = e

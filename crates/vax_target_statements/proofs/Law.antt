@@ -45,96 +45,42 @@ module _ (q : TreeProgram) (f : Extent) (fs : List Extent) (classes : List Class
   store_home : (z : Size) (i : ℕ) (t : Shape) (d : Deed) → e.act ≡ (StoreHome z i t) → Act (StoreHome z i t) d → G d
   store_home z i t (Puts g y) is h = home_goes q f fs classes rule e hs res v m ready (subst IsDeed (sym is) tt) (ends (StoreHome z i t) is tt) (λ r. subst IsReturn is r) z i t g y
       (done (ends (StoreHome z i t) is tt) (StoreHome z i t) is) h.0 h.1
-  store_home z i t (Branches r label y z') is h = absurd h
-  store_home z i t (Pushes y) is h = absurd h
-  store_home z i t (Leaves y) is h = absurd h
-  store_home z i t (Enters g y) is h = absurd h
-  store_home z i t (Saves k) is h = absurd h
-  store_home z i t (Jumps label) is h = absurd h
-  store_home z i t Traps is h = absurd h
-  store_home z i t Strays is h = absurd h
+  store_home z i t _ is h = absurd h
 
   store_at : (z : Size) (a : Shape) (t : Shape) (d : Deed) → e.act ≡ (StoreAt z a t) → Act (StoreAt z a t) d → G d
   store_at z a t (Puts g y) is h = at_goes q f fs classes rule e hs res v m ready e.act (ends (StoreAt z a t) is tt) z a t g y (done (ends (StoreAt z a t) is tt) (StoreAt z a t) is) h.0 h.1
-  store_at z a t (Branches r label y z') is h = absurd h
-  store_at z a t (Pushes y) is h = absurd h
-  store_at z a t (Leaves y) is h = absurd h
-  store_at z a t (Enters g y) is h = absurd h
-  store_at z a t (Saves k) is h = absurd h
-  store_at z a t (Jumps label) is h = absurd h
-  store_at z a t Traps is h = absurd h
-  store_at z a t Strays is h = absurd h
+  store_at z a t _ is h = absurd h
 
   branch : (i : ℕ) (a : Shape) (b : Shape) (d : Deed) → e.act ≡ (Branch i a b) → Act (Branch i a b) d → G d
-  branch i a b (Puts g y) is h = absurd h
   branch i a b (Branches r label y z') is h = branches q f fs classes rule e hs res v m ready (ends (Branch i a b) is tt) i a b r label y z'
       (done (ends (Branch i a b) is tt) (Branch i a b) is) h.0 h.1 h.2 h.3
-  branch i a b (Pushes y) is h = absurd h
-  branch i a b (Leaves y) is h = absurd h
-  branch i a b (Enters g y) is h = absurd h
-  branch i a b (Saves k) is h = absurd h
-  branch i a b (Jumps label) is h = absurd h
-  branch i a b Traps is h = absurd h
-  branch i a b Strays is h = absurd h
+  branch i a b _ is h = absurd h
 
   push : (t : Shape) (d : Deed) → e.act ≡ (Push t) → Act (Push t) d → G d
-  push t (Puts g y) is h = absurd h
-  push t (Branches r label y z') is h = absurd h
   push t (Pushes y) is h = pushes q f fs classes rule e hs res v m ready e.act (ends (Push t) is tt) t y (done (ends (Push t) is tt) (Push t) is) h
-  push t (Leaves y) is h = absurd h
-  push t (Enters g y) is h = absurd h
-  push t (Saves k) is h = absurd h
-  push t (Jumps label) is h = absurd h
-  push t Traps is h = absurd h
-  push t Strays is h = absurd h
+  push t _ is h = absurd h
 
   return_ : (t : Shape) (d : Deed) → e.act ≡ (Return t) → Act (Return t) d → G d
-  return_ t (Puts g y) is h = absurd h
-  return_ t (Branches r label y z') is h = absurd h
-  return_ t (Pushes y) is h = absurd h
   return_ t (Leaves y) is h = (let x = done (ends (Return t) is tt) (Return t) is in leaves q f fs classes rule e hs res v m ready e.act (ends (Return t) is tt) t y x.0 x.1 h)
-  return_ t (Enters g y) is h = absurd h
-  return_ t (Saves k) is h = absurd h
-  return_ t (Jumps label) is h = absurd h
-  return_ t Traps is h = absurd h
-  return_ t Strays is h = absurd h
+  return_ t _ is h = absurd h
 
   jump : (d : Deed) → e.act ≡ Jump → Act Jump d → G d
-  jump (Puts g y) is h = absurd h
-  jump (Branches r label y z') is h = absurd h
-  jump (Pushes y) is h = absurd h
-  jump (Leaves y) is h = absurd h
-  jump (Enters g y) is h = absurd h
-  jump (Saves k) is h = absurd h
   jump (Jumps label) is h = jumps q f fs classes rule e hs res v m ready (ends Jump is tt) label (done (ends Jump is tt) Jump is) h
-  jump Traps is h = absurd h
-  jump Strays is h = absurd h
+  jump _ is h = absurd h
 
   save : (i : ℕ) (d : Deed) → e.act ≡ (Save i) → Act (Save i) d → G d
-  save i (Puts g y) is h = absurd h
-  save i (Branches r label y z') is h = absurd h
-  save i (Pushes y) is h = absurd h
-  save i (Leaves y) is h = absurd h
-  save i (Enters g y) is h = absurd h
   save i (Saves k) is h = saves q f fs classes rule e hs res v m ready (ends (Save i) is tt) i k is h.0 h.1 (done (ends (Save i) is tt) (Save i) is)
-  save i (Jumps label) is h = absurd h
-  save i Traps is h = absurd h
-  save i Strays is h = absurd h
+  save i _ is h = absurd h
 
   pub statement_does : (a : ActShape) (d : Deed) → e.act ≡ a → IsOrdinary a → Act a d → G d
-  statement_does (Value t) d is o h = absurd o
-  statement_does (Number t) d is o h = absurd o
-  statement_does (Address t) d is o h = absurd o
-  statement_does (PlaceHome z i) d is o h = absurd o
-  statement_does (PlaceAt z a) d is o h = absurd o
   statement_does (StoreHome z i t) d is o h = store_home z i t d is h
   statement_does (StoreAt z a t) d is o h = store_at z a t d is h
   statement_does (Branch i a b) d is o h = branch i a b d is h
   statement_does (Push t) d is o h = push t d is h
-  statement_does Call d is o h = absurd o
   statement_does (Save i) d is o h = save i d is h
   statement_does (Return t) d is o h = return_ t d is h
   statement_does Jump d is o h = jump d is h
+  statement_does _ d is o h = absurd o
 
 pub statements_do : StatementsDo
 statements_do q f fs classes rule e d hs res v m ready o h = statement_does q f fs classes rule e hs res v m ready e.act d refl o h

@@ -181,11 +181,8 @@ begins (s ∷ right) t e is = subst (λ x. begins_with_save (x ∷ right) ≡ tr
 
 -- the last line saves in that token's place
 last_saves : (s : Setting) (roles : List Hole) (l : Last) (i : ℕ) → last_deed l ≡ Ok (Save i) → LastIs s roles None l → hole_at roles i ≡ hole_kind.Saved
-last_saves s roles Plain i e h = absurd (err_ok _ _ e)
-last_saves s roles (Compared a b) i e h = absurd (err_ok _ _ e)
-last_saves s roles (Tested t) i e h = absurd (err_ok _ _ e)
-last_saves s roles (Returning t) i e h = absurd (err_ok _ _ e)
 last_saves s roles (Ended d) i e h = subst (λ (x : ActShape). LastIs s roles None (Ended x)) (ok_same d (Save i) e) h
+last_saves s roles _ i e h = absurd (err_ok _ _ e)
 
 module _ (q : TreeProgram) (f : Extent) (fs : List Extent) (classes : List Class) (rule : Rule) (e : EffectShape) (hs : List (Attr Operand)) (res : Attr Operand) (v : View) (m : State)
     (ready : Ready vax q f fs classes rule e hs res v m) (x : EndsIn (c q f fs classes rule e hs res v m ready) m e.act (did q f fs classes rule e hs res v m ready)) where

@@ -67,26 +67,14 @@ module _ (s : Setting) (roles : List Hole) (held : Option Shape) where
   hole_is hole_kind.Local i w same e = subst WhereIs (ok_same _ w e) tt
   hole_is (hole_kind.SavedPlace z) i w same e = subst WhereIs (ok_same _ w e) tt
   hole_is hole_kind.Address i w same e = subst WhereIs (ok_same _ w e) tt
-  hole_is hole_kind.Constant i w same e = absurd (err_ok _ w e)
-  hole_is (hole_kind.Literal n) i w same e = absurd (err_ok _ w e)
   hole_is hole_kind.Object i w same e = subst WhereIs (ok_same _ w e) tt
   hole_is hole_kind.Saved i w same e = subst WhereIs (ok_same (Saved i) w e) same
-  hole_is hole_kind.Relation i w same e = absurd (err_ok _ w e)
-  hole_is hole_kind.Other i w same e = absurd (err_ok _ w e)
+  hole_is _ i w same e = absurd (err_ok _ w e)
 
   deferred_is : (r : Hole) (i : ℕ) (w : Where) → where_deferred r i ≡ Ok w → WhereIs w
-  deferred_is hole_kind.Register i w e = absurd (err_ok _ w e)
-  deferred_is (hole_kind.Value z) i w e = absurd (err_ok _ w e)
-  deferred_is (hole_kind.Place z) i w e = absurd (err_ok _ w e)
   deferred_is hole_kind.Local i w e = subst WhereIs (ok_same _ w e) tt
-  deferred_is (hole_kind.SavedPlace z) i w e = absurd (err_ok _ w e)
-  deferred_is hole_kind.Address i w e = absurd (err_ok _ w e)
-  deferred_is hole_kind.Constant i w e = absurd (err_ok _ w e)
-  deferred_is (hole_kind.Literal n) i w e = absurd (err_ok _ w e)
   deferred_is hole_kind.Object i w e = subst WhereIs (ok_same _ w e) tt
-  deferred_is hole_kind.Saved i w e = absurd (err_ok _ w e)
-  deferred_is hole_kind.Relation i w e = absurd (err_ok _ w e)
-  deferred_is hole_kind.Other i w e = absurd (err_ok _ w e)
+  deferred_is _ i w e = absurd (err_ok _ w e)
 
   own_is : (o : Own) (w : Where) → where_own o ≡ Ok w → WhereIs w
   own_is own.Nothing w e = absurd (err_ok _ w e)
@@ -114,16 +102,8 @@ module _ (s : Setting) (roles : List Hole) (held : Option Shape) where
   base_is (base.Deferred i) w e = deferred_is (hole_at roles i) i w e
 
   moved_is : (size : Size) (u w : Where) (t : Shape) → moved size u t ≡ Ok w → WhereIs w
-  moved_is size (Immediate a) w t e = absurd (err_ok _ w e)
-  moved_is size (Register a) w t e = absurd (err_ok _ w e)
-  moved_is size OwnRegister w t e = absurd (err_ok _ w e)
-  moved_is size RegisterZero w t e = absurd (err_ok _ w e)
-  moved_is size (Value z i) w t e = absurd (err_ok _ w e)
-  moved_is size (Place z i) w t e = absurd (err_ok _ w e)
-  moved_is size (Local i) w t e = absurd (err_ok _ w e)
-  moved_is size (SavedPlace z i) w t e = absurd (err_ok _ w e)
-  moved_is size (Saved i) w t e = absurd (err_ok _ w e)
   moved_is size (At a q) w t e = subst WhereIs (ok_same (At (sum a (scaled size t)) q) w e) tt
+  moved_is size _ w t e = absurd (err_ok _ w e)
 
   form_by : (b : Base) (index : Option ℕ) (size : Size) (w : Where) → (where_base s roles held b >>= where_indexed s roles held index size) ≡ Ok w → WhereIs w
   form_by b None size w e = let d = chained (where_base s roles held b) (where_indexed s roles held None size) w e in base_is b w (d.is ∙ d.then_so)
@@ -149,11 +129,9 @@ module _ (s : Setting) (roles : List Hole) (held : Option Shape) where
   memory_aim (own.Slot z) a size x e = absurd (err_ok _ x e)
 
   own_aim : (o : Own) (size : Size) (x : Target × Bool) → own_target o size ≡ Ok x → AimsIs x
-  own_aim own.Nothing size x e = absurd (err_ok _ x e)
-  own_aim own.Register Byte x e = absurd (err_ok _ x e)
-  own_aim own.Register Word x e = absurd (err_ok _ x e)
   own_aim own.Register Long x e = subst AimsIs (ok_same _ x e) tt
   own_aim (own.Slot z) size x e = subst AimsIs (ok_same _ x e) tt
+  own_aim _ _ x e = absurd (err_ok _ x e)
 
   zero_aim : (o : Opening) (x : Target × Bool) → zero_target o ≡ Ok x → AimsIs x
   zero_aim opening.Return x e = subst AimsIs (ok_same _ x e) tt
@@ -162,22 +140,17 @@ module _ (s : Setting) (roles : List Hole) (held : Option Shape) where
 
   targeted_is : (w : Where) (size : Size) (x : Target × Bool) → WhereIs w → targeted s w size ≡ Ok x → AimsIs x
   unfolding targeted
-  targeted_is (Immediate a) size x p e = absurd (err_ok _ x (statement_of s.is_statement _ x e))
-  targeted_is (Register a) size x p e = absurd (err_ok _ x (statement_of s.is_statement _ x e))
   targeted_is OwnRegister size x p e = own_aim s.own size x e
   targeted_is RegisterZero size x p e = zero_aim s.opening x (statement_of s.is_statement _ x e)
-  targeted_is (Value z i) size x p e = absurd (err_ok _ x (statement_of s.is_statement _ x e))
   targeted_is (Place z i) size x p e = subst AimsIs (ok_same _ x (statement_of s.is_statement _ x e)) tt
   targeted_is (Local i) size x p e = subst AimsIs (ok_same _ x (statement_of s.is_statement _ x e)) tt
-  targeted_is (SavedPlace z i) size x p e = absurd (err_ok _ x (statement_of s.is_statement _ x e))
   targeted_is (Saved i) size x p e = subst AimsIs (ok_same _ x (statement_of s.is_statement _ x e)) p
   targeted_is (At a q) size x p e = memory_aim s.own a size x (statement_of s.is_statement _ x e)
+  targeted_is _ size x p e = absurd (err_ok _ x (statement_of s.is_statement _ x e))
 
   last_none : (o : Opening) (z : Option Shape) (size : Size) (t : Taken) → last_result o z size ≡ Ok t → t.target ≡ None
-  last_none opening.Return z size t e = absurd (err_ok _ t e)
   last_none opening.Save None size t e = ok_plain _ t refl e
-  last_none opening.Save (Some x) size t e = absurd (err_ok _ t e)
-  last_none opening.Other z size t e = absurd (err_ok _ t e)
+  last_none _ _ size t e = absurd (err_ok _ t e)
 
   fetched_none : (w : Where) (size : Size) (t : Taken) → fetched s held w size ≡ Ok t → t.target ≡ None
   unfolding fetched
@@ -263,9 +236,7 @@ module _ (s : Setting) (roles : List Hole) (held : Option Shape) where
   acted_is : (a : Action) (op : Op) (x : Arguments) (d : Deed) → AimIs x.target → acted s a op x ≡ Ok d → DeedIs d
   acted_is (action.Compute f) op x d h e = computed_is op x.target (given f x.first x.second) d h e
   acted_is action.Push op x d h e = statement_is s.is_statement (Push x.first) d tt e
-  acted_is (action.Branch t) op x d h e = absurd (err_ok _ d e)
-  acted_is action.Call op x d h e = absurd (err_ok _ d e)
-  acted_is action.Return op x d h e = absurd (err_ok _ d e)
+  acted_is _ op x d h e = absurd (err_ok _ d e)
 
   module _ (is_first : Bool) where
     operated_is : (op : Op) (fs : List Form) (d : Deed) → operated s roles is_first held op fs ≡ Ok d → DeedIs d
@@ -277,14 +248,12 @@ module _ (s : Setting) (roles : List Hole) (held : Option Shape) where
         (acted_is (action_of op) op x.first u.first (all_is (shape op).operands fs x.first x.is) u.is)
 
     branches_is : (i : ℕ) (before : Last) (d : Deed) → branches s i before ≡ Ok d → DeedIs d
-    branches_is i Plain d e = absurd (err_ok _ d e)
     branches_is i (Compared a b) d e = statement_is s.is_statement (Branch i a b) d tt e
     branches_is i (Tested t) d e = by s.is_signed e where
       by : (b : Bool) → cond b (ends_statement s (Branch i t (Constant 0))) (Err NotInstr) ≡ Ok d → DeedIs d
       by true e = statement_is s.is_statement (Branch i t (Constant 0)) d tt e
       by false e = absurd (err_ok _ d e)
-    branches_is i (Returning t) d e = absurd (err_ok _ d e)
-    branches_is i (Ended deed) d e = absurd (err_ok _ d e)
+    branches_is i _ d e = absurd (err_ok _ d e)
 
     instruction_is : (before : Last) (i : Instruction) (d : Deed) → instruction_did s roles is_first held before i ≡ Ok d → DeedIs d
     instruction_is before (Relation i) d e = by (is_relation (hole_at roles i)) e where
@@ -297,11 +266,8 @@ module _ (s : Setting) (roles : List Hole) (held : Option Shape) where
     instruction_is before (Operates op fs) d e = operated_is op fs d e
 
     returned_is : (t : Shape) (i : Instruction) (d : Deed) → returned t i ≡ Ok d → DeedIs d
-    returned_is t (Relation i) d e = absurd (err_ok _ d e)
-    returned_is t JumpLine d e = absurd (err_ok _ d e)
-    returned_is t CallsLine d e = absurd (err_ok _ d e)
     returned_is t Ret d e = of_deed (leaves (Ended (Return t))) d tt e
-    returned_is t (Operates op fs) d e = absurd (err_ok _ d e)
+    returned_is t _ d e = absurd (err_ok _ d e)
 
     behind_is : (before : Last) (i : Instruction) (d : Deed) → did_behind s roles is_first held before i ≡ Ok d → DeedIs d
     behind_is Plain i d e = instruction_is Plain i d e

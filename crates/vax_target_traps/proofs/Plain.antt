@@ -133,46 +133,19 @@ WherePlain (At a p) = NoDivision a × PlainIfAny p
 WherePlain w = Unit {0}
 
 constant_plain : (r : Hole) (i : ℕ) (t : Shape) → constant_of r i ≡ Ok t → NoDivision t
-constant_plain hole_kind.Register i t e = absurd (err_ok _ t e)
-constant_plain (hole_kind.Value z) i t e = absurd (err_ok _ t e)
-constant_plain (hole_kind.Place z) i t e = absurd (err_ok _ t e)
-constant_plain hole_kind.Local i t e = absurd (err_ok _ t e)
-constant_plain (hole_kind.SavedPlace z) i t e = absurd (err_ok _ t e)
-constant_plain hole_kind.Address i t e = absurd (err_ok _ t e)
 constant_plain hole_kind.Constant i t e = subst NoDivision (ok_same _ t e) tt
 constant_plain (hole_kind.Literal n) i t e = subst NoDivision (ok_same _ t e) tt
-constant_plain hole_kind.Object i t e = absurd (err_ok _ t e)
-constant_plain hole_kind.Saved i t e = absurd (err_ok _ t e)
-constant_plain hole_kind.Relation i t e = absurd (err_ok _ t e)
-constant_plain hole_kind.Other i t e = absurd (err_ok _ t e)
+constant_plain _ i t e = absurd (err_ok _ t e)
 
 address_plain : (r : Hole) (i : ℕ) (t : Shape) → address_of r i ≡ Ok t → NoDivision t
-address_plain hole_kind.Register i t e = absurd (err_ok _ t e)
-address_plain (hole_kind.Value z) i t e = absurd (err_ok _ t e)
-address_plain (hole_kind.Place z) i t e = absurd (err_ok _ t e)
-address_plain hole_kind.Local i t e = absurd (err_ok _ t e)
-address_plain (hole_kind.SavedPlace z) i t e = absurd (err_ok _ t e)
-address_plain hole_kind.Address i t e = absurd (err_ok _ t e)
 address_plain hole_kind.Constant i t e = subst NoDivision (ok_same _ t e) tt
 address_plain (hole_kind.Literal n) i t e = subst NoDivision (ok_same _ t e) tt
 address_plain hole_kind.Object i t e = subst NoDivision (ok_same _ t e) tt
-address_plain hole_kind.Saved i t e = absurd (err_ok _ t e)
-address_plain hole_kind.Relation i t e = absurd (err_ok _ t e)
-address_plain hole_kind.Other i t e = absurd (err_ok _ t e)
+address_plain _ i t e = absurd (err_ok _ t e)
 
 register_plain : (r : Hole) (i : ℕ) (t : Shape) → register_of r i ≡ Ok t → NoDivision t
 register_plain hole_kind.Register i t e = subst NoDivision (ok_same _ t e) tt
-register_plain (hole_kind.Value z) i t e = absurd (err_ok _ t e)
-register_plain (hole_kind.Place z) i t e = absurd (err_ok _ t e)
-register_plain hole_kind.Local i t e = absurd (err_ok _ t e)
-register_plain (hole_kind.SavedPlace z) i t e = absurd (err_ok _ t e)
-register_plain hole_kind.Address i t e = absurd (err_ok _ t e)
-register_plain hole_kind.Constant i t e = absurd (err_ok _ t e)
-register_plain (hole_kind.Literal n) i t e = absurd (err_ok _ t e)
-register_plain hole_kind.Object i t e = absurd (err_ok _ t e)
-register_plain hole_kind.Saved i t e = absurd (err_ok _ t e)
-register_plain hole_kind.Relation i t e = absurd (err_ok _ t e)
-register_plain hole_kind.Other i t e = absurd (err_ok _ t e)
+register_plain _ i t e = absurd (err_ok _ t e)
 
 hole_plain : (r : Hole) (i : ℕ) (w : Where) → where_hole r i ≡ Ok w → WherePlain w
 hole_plain hole_kind.Register i w e = subst WherePlain (ok_same _ w e) tt
@@ -181,26 +154,14 @@ hole_plain (hole_kind.Place z) i w e = subst WherePlain (ok_same _ w e) tt
 hole_plain hole_kind.Local i w e = subst WherePlain (ok_same _ w e) tt
 hole_plain (hole_kind.SavedPlace z) i w e = subst WherePlain (ok_same _ w e) tt
 hole_plain hole_kind.Address i w e = subst WherePlain (ok_same _ w e) (tt, tt)
-hole_plain hole_kind.Constant i w e = absurd (err_ok _ w e)
-hole_plain (hole_kind.Literal n) i w e = absurd (err_ok _ w e)
 hole_plain hole_kind.Object i w e = subst WherePlain (ok_same _ w e) (tt, tt)
 hole_plain hole_kind.Saved i w e = subst WherePlain (ok_same _ w e) tt
-hole_plain hole_kind.Relation i w e = absurd (err_ok _ w e)
-hole_plain hole_kind.Other i w e = absurd (err_ok _ w e)
+hole_plain _ i w e = absurd (err_ok _ w e)
 
 deferred_plain : (r : Hole) (i : ℕ) (w : Where) → where_deferred r i ≡ Ok w → WherePlain w
-deferred_plain hole_kind.Register i w e = absurd (err_ok _ w e)
-deferred_plain (hole_kind.Value z) i w e = absurd (err_ok _ w e)
-deferred_plain (hole_kind.Place z) i w e = absurd (err_ok _ w e)
 deferred_plain hole_kind.Local i w e = subst WherePlain (ok_same _ w e) (tt, tt)
-deferred_plain (hole_kind.SavedPlace z) i w e = absurd (err_ok _ w e)
-deferred_plain hole_kind.Address i w e = absurd (err_ok _ w e)
-deferred_plain hole_kind.Constant i w e = absurd (err_ok _ w e)
-deferred_plain (hole_kind.Literal n) i w e = absurd (err_ok _ w e)
 deferred_plain hole_kind.Object i w e = subst WherePlain (ok_same _ w e) (tt, tt)
-deferred_plain hole_kind.Saved i w e = absurd (err_ok _ w e)
-deferred_plain hole_kind.Relation i w e = absurd (err_ok _ w e)
-deferred_plain hole_kind.Other i w e = absurd (err_ok _ w e)
+deferred_plain _ i w e = absurd (err_ok _ w e)
 
 own_none : (o : Own) (t : Shape) → own_value o None ≡ Ok t → ⊥
 own_none own.Nothing t e = err_ok _ t e
@@ -259,16 +220,8 @@ module _ (s : Setting) (roles : List Hole) where
   base_plain (base.Deferred i) w e = deferred_plain (hole_at roles i) i w e
 
   moved_plain : (size : Size) (u w : Where) (t : Shape) → WherePlain u → NoDivision t → moved size u t ≡ Ok w → WherePlain w
-  moved_plain size (Immediate a) w t h p e = absurd (err_ok _ w e)
-  moved_plain size (Register a) w t h p e = absurd (err_ok _ w e)
-  moved_plain size OwnRegister w t h p e = absurd (err_ok _ w e)
-  moved_plain size RegisterZero w t h p e = absurd (err_ok _ w e)
-  moved_plain size (Value z i) w t h p e = absurd (err_ok _ w e)
-  moved_plain size (Place z i) w t h p e = absurd (err_ok _ w e)
-  moved_plain size (Local i) w t h p e = absurd (err_ok _ w e)
-  moved_plain size (SavedPlace z i) w t h p e = absurd (err_ok _ w e)
-  moved_plain size (Saved i) w t h p e = absurd (err_ok _ w e)
   moved_plain size (At a q) w t h p e = subst WherePlain (ok_same (At (sum a (scaled size t)) q) w e) ((refl, h.0, (refl, tt, p)), h.1)
+  moved_plain size _ w t h p e = absurd (err_ok _ w e)
 
   form_by : (b : Base) (index : Option ℕ) (size : Size) (w : Where) → (where_base s roles None b >>= where_indexed s roles None index size) ≡ Ok w → WherePlain w
   form_by b None size w e = let d = chained (where_base s roles None b) (where_indexed s roles None None size) w e in base_plain b w (d.is ∙ d.then_so)
@@ -330,16 +283,9 @@ module _ (s : Setting) (roles : List Hole) where
   pointer_plain (Some p) h = (plain_if p h, tt)
 
   addressed_plain : (w : Where) (size : Size) (t : Taken) → WherePlain w → addressed w size ≡ Ok t → TakenPlain t
-  addressed_plain (Immediate a) size t p e = absurd (err_ok _ t e)
-  addressed_plain (Register a) size t p e = absurd (err_ok _ t e)
-  addressed_plain OwnRegister size t p e = absurd (err_ok _ t e)
-  addressed_plain RegisterZero size t p e = absurd (err_ok _ t e)
-  addressed_plain (Value z i) size t p e = absurd (err_ok _ t e)
-  addressed_plain (Place z i) size t p e = absurd (err_ok _ t e)
-  addressed_plain (Local i) size t p e = absurd (err_ok _ t e)
   addressed_plain (SavedPlace z i) size t p e = sized_plain (same_size z size) _ t (plain_term (Symbol i) tt) e
-  addressed_plain (Saved i) size t p e = absurd (err_ok _ t e)
   addressed_plain (At a q) size t p e = subst TakenPlain (ok_same _ t e) (record { term_so = p.0; reads_so = pointer_plain q p.1; aim_so = tt })
+  addressed_plain _ size t p e = absurd (err_ok _ t e)
 
   abbrev AimsPlain : Target × Bool → Type 0
   AimsPlain x = AimPlain (Some x.0)
@@ -350,11 +296,9 @@ module _ (s : Setting) (roles : List Hole) where
   memory_plain (own.Slot z) a size x h e = absurd (err_ok _ x e)
 
   own_aim : (o : Own) (size : Size) (x : Target × Bool) → own_target o size ≡ Ok x → AimsPlain x
-  own_aim own.Nothing size x e = absurd (err_ok _ x e)
-  own_aim own.Register Byte x e = absurd (err_ok _ x e)
-  own_aim own.Register Word x e = absurd (err_ok _ x e)
   own_aim own.Register Long x e = subst AimsPlain (ok_same _ x e) tt
   own_aim (own.Slot z) size x e = subst AimsPlain (ok_same _ x e) tt
+  own_aim _ _ x e = absurd (err_ok _ x e)
 
   zero_aim : (o : Opening) (x : Target × Bool) → zero_target o ≡ Ok x → AimsPlain x
   zero_aim opening.Return x e = subst AimsPlain (ok_same _ x e) tt
@@ -363,16 +307,13 @@ module _ (s : Setting) (roles : List Hole) where
 
   targeted_plain : (w : Where) (size : Size) (x : Target × Bool) → WherePlain w → targeted s w size ≡ Ok x → AimsPlain x
   unfolding targeted
-  targeted_plain (Immediate a) size x p e = absurd (err_ok _ x (statement_of s.is_statement _ x e))
-  targeted_plain (Register a) size x p e = absurd (err_ok _ x (statement_of s.is_statement _ x e))
   targeted_plain OwnRegister size x p e = own_aim s.own size x e
   targeted_plain RegisterZero size x p e = zero_aim s.opening x (statement_of s.is_statement _ x e)
-  targeted_plain (Value z i) size x p e = absurd (err_ok _ x (statement_of s.is_statement _ x e))
   targeted_plain (Place z i) size x p e = subst AimsPlain (ok_same _ x (statement_of s.is_statement _ x e)) tt
   targeted_plain (Local i) size x p e = subst AimsPlain (ok_same _ x (statement_of s.is_statement _ x e)) tt
-  targeted_plain (SavedPlace z i) size x p e = absurd (err_ok _ x (statement_of s.is_statement _ x e))
   targeted_plain (Saved i) size x p e = subst AimsPlain (ok_same _ x (statement_of s.is_statement _ x e)) tt
   targeted_plain (At a q) size x p e = memory_plain s.own a size x p.0 (statement_of s.is_statement _ x e)
+  targeted_plain _ size x p e = absurd (err_ok _ x (statement_of s.is_statement _ x e))
 
   taken_plain : (kind : Access) (w : Where) (size : Size) (t : Taken) → WherePlain w → taken s None kind w size ≡ Ok t → TakenPlain t
   unfolding taken
@@ -494,9 +435,7 @@ module _ (s : Setting) (roles : List Hole) where
   acted_plain (action.Compute f) op x d h e =
       computed_plain op x.target (given f x.first x.second) d h.aim_so (given_plain f x.first x.second (plain_if x.first h.first_so) (plain_if x.second h.second_so)) e
   acted_plain action.Push op x d h e = statement_plain s.is_statement (Push x.first) d (plain_if x.first h.first_so, tt) e
-  acted_plain (action.Branch t) op x d h e = absurd (err_ok _ d e)
-  acted_plain action.Call op x d h e = absurd (err_ok _ d e)
-  acted_plain action.Return op x d h e = absurd (err_ok _ d e)
+  acted_plain _ op x d h e = absurd (err_ok _ d e)
 
   -- what a first line reads, and the terms of its deed
   pub record LinePlain (d : Deed) : Type 0 where

@@ -78,17 +78,13 @@ memory o e = by o.base o.index e where
   based b x e = first_true (is_base b) (is_index b x) e
 
   by : (b : Base) (x : Option Reg) → (is_memory b && (not (steps b) && (is_base b && is_index b x))) ≡ true → IsMemory (record { base = b; index = x })
-  by (bases.Imm a) x e = absurd (cc)
-  by (bases.Reg r) x e = absurd (cc)
   by (bases.Def r) x e = record { memory = refl; base = refl }
-  by (bases.Inc r) x e = absurd (cc)
-  by (bases.IncDef r) x e = absurd (cc)
-  by (bases.Dec r) x e = absurd (cc)
   by (bases.Disp a r) x e = record { memory = refl; base = based (bases.Disp a r) x e }
   by (bases.DispDef a r) x e = record { memory = refl; base = based (bases.DispDef a r) x e }
   by (bases.Abs n) x e = record { memory = refl; base = based (bases.Abs n) x e }
   by (bases.Rel a) x e = record { memory = refl; base = based (bases.Rel a) x e }
   by (bases.RelDef a) x e = record { memory = refl; base = based (bases.RelDef a) x e }
+  by _ x e = absurd (cc)
 
 pub plain : (o : Operand) → fits kind.Ea o ≡ true → IsPlain o
 plain o e = record { memory = memory o (second_true (is_none o.index) (is_place o) e); bare = first_true (is_none o.index) (is_place o) e }
@@ -98,21 +94,11 @@ plain o e = record { memory = memory o (second_true (is_none o.index) (is_place 
 module _ (q : TreeProgram) (can : CanWrite q) where
   own_number : (k : ℕ) (a : Att) → is_of_kind (att_kind.Own k) a ≡ true → IsSpelled q a → IsNumber (addr_of_att q a)
   own_number k (att.Number n) e lt = record { addr = lt-ltb n (2 ^ 32) lt; long = lt-ltb n (2 ^ 32) lt }
-  own_number k att.Nothing e lt = absurd (cc)
-  own_number k (att.Object object offset) e lt = absurd (cc)
-  own_number k (att.Slot n) e lt = absurd (cc)
-  own_number k (att.Branch rel label) e lt = absurd (cc)
-  own_number k (att.Label label) e lt = absurd (cc)
-  own_number k (att.Callee function count) e lt = absurd (cc)
+  own_number k _ e lt = absurd (cc)
 
   other_number : (a : Att) → is_of_kind att_kind.Other a ≡ true → IsSpelled q a → IsNumber (addr_of_att q a)
   other_number (att.Number n) e lt = record { addr = lt-ltb n (2 ^ 32) lt; long = lt-ltb n (2 ^ 32) lt }
-  other_number att.Nothing e lt = absurd (cc)
-  other_number (att.Object object offset) e lt = absurd (cc)
-  other_number (att.Slot n) e lt = absurd (cc)
-  other_number (att.Branch rel label) e lt = absurd (cc)
-  other_number (att.Label label) e lt = absurd (cc)
-  other_number (att.Callee function count) e lt = absurd (cc)
+  other_number _ e lt = absurd (cc)
 
   label_named : (objects : List Object) (object offset : ℕ) → AllByRecursion (λ (o : Object). is_name o.label ≡ true) objects → object < length objects →
       (is_long offset && not (offset == 2 ^ 31)) ≡ true → is_named_addr (label_of (slice_get objects object)) offset ≡ true
@@ -133,41 +119,21 @@ module _ (q : TreeProgram) (can : CanWrite q) where
         deferred = record { memory = record { memory = refl; base = n }; bare = refl };
         addr = named_is_addr (label_of (slice_get q.objects object)) offset n;
       }
-  object_spells att.Nothing e h = absurd (cc)
-  object_spells (att.Number n) e h = absurd (cc)
-  object_spells (att.Slot n) e h = absurd (cc)
-  object_spells (att.Branch rel label) e h = absurd (cc)
-  object_spells (att.Label label) e h = absurd (cc)
-  object_spells (att.Callee function count) e h = absurd (cc)
+  object_spells _ e h = absurd (cc)
 
   local_spells : (a : Att) → is_of_kind att_kind.Local a ≡ true → InFrame a → IsLocal q (attr.Token (record { tok = tok.Loc; att = a }))
   local_spells (att.Slot k) e lt = record { place = word_memory k lt; deferred = word_deferred k lt }
-  local_spells att.Nothing e lt = absurd (cc)
-  local_spells (att.Number n) e lt = absurd (cc)
-  local_spells (att.Object object offset) e lt = absurd (cc)
-  local_spells (att.Branch rel label) e lt = absurd (cc)
-  local_spells (att.Label label) e lt = absurd (cc)
-  local_spells (att.Callee function count) e lt = absurd (cc)
+  local_spells _ e lt = absurd (cc)
 
   argument_spells : (a : Att) → is_of_kind att_kind.Argument a ≡ true → IsLocal q (attr.Token (record { tok = tok.Arg; att = a }))
   argument_spells (att.Slot k) e =
       let few = second_true (nat_le 1 k) (nat_le k 255) e in
       record { place = argument_memory k few; deferred = argument_deferred k few }
-  argument_spells att.Nothing e = absurd (cc)
-  argument_spells (att.Number n) e = absurd (cc)
-  argument_spells (att.Object object offset) e = absurd (cc)
-  argument_spells (att.Branch rel label) e = absurd (cc)
-  argument_spells (att.Label label) e = absurd (cc)
-  argument_spells (att.Callee function count) e = absurd (cc)
+  argument_spells _ e = absurd (cc)
 
   saved_spells : (a : Att) → is_of_kind att_kind.Local a ≡ true → InFrame a → IsMemory (operand_in q (attr.Token (record { tok = tok.Save; att = a })))
   saved_spells (att.Slot k) e lt = word_memory k lt
-  saved_spells att.Nothing e lt = absurd (cc)
-  saved_spells (att.Number n) e lt = absurd (cc)
-  saved_spells (att.Object object offset) e lt = absurd (cc)
-  saved_spells (att.Branch rel label) e lt = absurd (cc)
-  saved_spells (att.Label label) e lt = absurd (cc)
-  saved_spells (att.Callee function count) e lt = absurd (cc)
+  saved_spells _ e lt = absurd (cc)
 
   token_spells : (x : Tok) (a : Att) → is_of_kind (attribute_of x) a ≡ true → InFrame a → IsSpelled q a →
       Spells q (hole_of_token x) (attr.Token (record { tok = x; att = a }))
@@ -184,60 +150,19 @@ module _ (q : TreeProgram) (can : CanWrite q) where
   token_spells x a e f h = tt
 
   class_spells : (k : Option Kind) (h : Attr Operand) → KindFits vax k h → Spells q (hole_of_kind k) h
-  class_spells None h f = absurd f
   class_spells (Some kind.Reg) (attr.Reg r) f = refl
-  class_spells (Some kind.Reg) (attr.InSlot w) f = absurd f
-  class_spells (Some kind.Reg) (attr.Value o) f = absurd f
-  class_spells (Some kind.Reg) (attr.Place o) f = absurd f
-  class_spells (Some kind.Reg) (attr.Con n) f = absurd f
-  class_spells (Some kind.Reg) (attr.Ea o) f = absurd f
-  class_spells (Some kind.Reg) (attr.Token l) f = absurd f
-  class_spells (Some kind.Reg) attr.Nothing f = absurd f
   class_spells (Some (kind.Value z)) (attr.Value o) f = f
-  class_spells (Some (kind.Value z)) (attr.Reg r) f = absurd f
-  class_spells (Some (kind.Value z)) (attr.InSlot w) f = absurd f
-  class_spells (Some (kind.Value z)) (attr.Place o) f = absurd f
-  class_spells (Some (kind.Value z)) (attr.Con n) f = absurd f
-  class_spells (Some (kind.Value z)) (attr.Ea o) f = absurd f
-  class_spells (Some (kind.Value z)) (attr.Token l) f = absurd f
-  class_spells (Some (kind.Value z)) attr.Nothing f = absurd f
   class_spells (Some (kind.Place z)) (attr.Place o) f = memory o f
-  class_spells (Some (kind.Place z)) (attr.Reg r) f = absurd f
-  class_spells (Some (kind.Place z)) (attr.InSlot w) f = absurd f
-  class_spells (Some (kind.Place z)) (attr.Value o) f = absurd f
-  class_spells (Some (kind.Place z)) (attr.Con n) f = absurd f
-  class_spells (Some (kind.Place z)) (attr.Ea o) f = absurd f
-  class_spells (Some (kind.Place z)) (attr.Token l) f = absurd f
-  class_spells (Some (kind.Place z)) attr.Nothing f = absurd f
   class_spells (Some kind.Con) (attr.Con n) f = record { addr = lt-ltb n (2 ^ 32) f; long = lt-ltb n (2 ^ 32) f }
-  class_spells (Some kind.Con) (attr.Reg r) f = absurd f
-  class_spells (Some kind.Con) (attr.InSlot w) f = absurd f
-  class_spells (Some kind.Con) (attr.Value o) f = absurd f
-  class_spells (Some kind.Con) (attr.Place o) f = absurd f
-  class_spells (Some kind.Con) (attr.Ea o) f = absurd f
-  class_spells (Some kind.Con) (attr.Token l) f = absurd f
-  class_spells (Some kind.Con) attr.Nothing f = absurd f
   class_spells (Some kind.Ea) (attr.Ea o) f = plain o f
-  class_spells (Some kind.Ea) (attr.Reg r) f = absurd f
-  class_spells (Some kind.Ea) (attr.InSlot w) f = absurd f
-  class_spells (Some kind.Ea) (attr.Value o) f = absurd f
-  class_spells (Some kind.Ea) (attr.Place o) f = absurd f
-  class_spells (Some kind.Ea) (attr.Con n) f = absurd f
-  class_spells (Some kind.Ea) (attr.Token l) f = absurd f
-  class_spells (Some kind.Ea) attr.Nothing f = absurd f
   class_spells (Some kind.Nothing) h f = tt
+  class_spells _ _ f = absurd f
 
   symbol_spells : (classes : List Class) (s : Sym) (h : Attr Operand) → SymFits vax classes s h → TokenIsSpelled q h → Spells q (hole_of classes s) h
   symbol_spells classes (grammar_symbol.Class c) h f sp = class_spells (kind_at classes c) h f
   symbol_spells classes (grammar_symbol.Tok x) (attr.Token l) f sp =
       subst (λ y. Spells q (hole_of_token y) (attr.Token l)) f.0 (token_spells l.tok l.att f.1 f.2 sp)
-  symbol_spells classes (grammar_symbol.Tok x) (attr.Reg r) f sp = absurd f
-  symbol_spells classes (grammar_symbol.Tok x) (attr.InSlot w) f sp = absurd f
-  symbol_spells classes (grammar_symbol.Tok x) (attr.Value o) f sp = absurd f
-  symbol_spells classes (grammar_symbol.Tok x) (attr.Place o) f sp = absurd f
-  symbol_spells classes (grammar_symbol.Tok x) (attr.Con n) f sp = absurd f
-  symbol_spells classes (grammar_symbol.Tok x) (attr.Ea o) f sp = absurd f
-  symbol_spells classes (grammar_symbol.Tok x) attr.Nothing f sp = absurd f
+  symbol_spells classes _ _ f sp = absurd f
 
   pub all_spell : (classes : List Class) (right : List Sym) (hs : List (Attr Operand)) → Fit vax classes right hs → AreSpelled q hs → AllSpell q (holes_of classes right) hs
   all_spell classes [] [] f sp = tt

@@ -61,12 +61,8 @@ IsWell ms Ret = Unit {0}
 IsWell ms (Operates op fs) = AreRead (length (shape op).operands) fs
 
 label_alone : (ms : List Mark) → is_label ms ≡ true → list_any is_label_mark ms ≡ true
-label_alone [] e = absurd (cc)
 label_alone (mark.Label ∷ ms) e = refl
-label_alone (mark.Byte b ∷ ms) e = absurd (cc)
-label_alone (mark.Hole i ∷ ms) e = absurd (cc)
-label_alone (mark.Callee ∷ ms) e = absurd (cc)
-label_alone (mark.Count ∷ ms) e = absurd (cc)
+label_alone _ e = absurd (cc)
 
 -- behind one byte
 in_rest : (p : Mark → Bool) (passes : List Mark → Bool) (ms : List Mark) → ((rest : List Mark) → passes rest ≡ true → list_any p rest ≡ true) →
@@ -78,12 +74,8 @@ in_rest p passes (m ∷ ms) h e = by (is_byte 32 m) e where
   by false f = absurd (cc)
 
 call_counts : (ms : List Mark) → is_call ms ≡ true → list_any is_count_mark ms ≡ true
-call_counts [] e = absurd (cc)
 call_counts (mark.Count ∷ ms) e = refl
-call_counts (mark.Byte b ∷ ms) e = absurd (cc)
-call_counts (mark.Hole i ∷ ms) e = absurd (cc)
-call_counts (mark.Callee ∷ ms) e = absurd (cc)
-call_counts (mark.Label ∷ ms) e = absurd (cc)
+call_counts _ e = absurd (cc)
 
 only_each : (P : Instruction → Type 0) (b : Bool) (i : Instruction) → (b ≡ true → P i) → Each P (only b i)
 only_each P b i h = if_each P b (Some i) None h (λ e. tt)

@@ -72,30 +72,15 @@ HasCallee h = (c : ℕ × ℕ) × (callee_in h ≡ Some c)
 
 branch_label : (a : Att) → is_of_kind att_kind.Branch a ≡ true → (n : ℕ) × (label_of_att a ≡ Some n)
 branch_label (att.Branch rel label) e = (label, refl)
-branch_label att.Nothing e = absurd (cc)
-branch_label (att.Number n) e = absurd (cc)
-branch_label (att.Object object offset) e = absurd (cc)
-branch_label (att.Slot k) e = absurd (cc)
-branch_label (att.Label label) e = absurd (cc)
-branch_label (att.Callee function count) e = absurd (cc)
+branch_label _ e = absurd (cc)
 
 jump_label : (a : Att) → is_of_kind att_kind.Label a ≡ true → (n : ℕ) × (label_of_att a ≡ Some n)
 jump_label (att.Label label) e = (label, refl)
-jump_label att.Nothing e = absurd (cc)
-jump_label (att.Number n) e = absurd (cc)
-jump_label (att.Object object offset) e = absurd (cc)
-jump_label (att.Slot k) e = absurd (cc)
-jump_label (att.Branch rel label) e = absurd (cc)
-jump_label (att.Callee function count) e = absurd (cc)
+jump_label _ e = absurd (cc)
 
 call_callee : (a : Att) → is_of_kind att_kind.Callee a ≡ true → (c : ℕ × ℕ) × (callee_of_att a ≡ Some c)
 call_callee (att.Callee function count) e = ((function, count), refl)
-call_callee att.Nothing e = absurd (cc)
-call_callee (att.Number n) e = absurd (cc)
-call_callee (att.Object object offset) e = absurd (cc)
-call_callee (att.Slot k) e = absurd (cc)
-call_callee (att.Branch rel label) e = absurd (cc)
-call_callee (att.Label label) e = absurd (cc)
+call_callee _ e = absurd (cc)
 
 -- what fits a token is a token with an attribute of its kind
 pub record IsToken (x : Tok) (h : Attr Operand) : Type 0 where
@@ -105,13 +90,7 @@ pub record IsToken (x : Tok) (h : Attr Operand) : Type 0 where
 
 token_is : (classes : List Class) (x : Tok) (h : Attr Operand) → SymFits vax classes (grammar_symbol.Tok x) h → IsToken x h
 token_is classes x (attr.Token l) f = record { leaf = l; is = refl; fits = subst (λ y. is_of_kind (attribute_of y) l.att ≡ true) f.0 f.1 }
-token_is classes x (attr.Reg r) f = absurd f
-token_is classes x (attr.InSlot w) f = absurd f
-token_is classes x (attr.Value o) f = absurd f
-token_is classes x (attr.Place o) f = absurd f
-token_is classes x (attr.Con n) f = absurd f
-token_is classes x (attr.Ea o) f = absurd f
-token_is classes x attr.Nothing f = absurd f
+token_is classes x _ f = absurd f
 
 label_of_token : (x : Tok) (h : Attr Operand) (t : IsToken x h) → (n : ℕ) × (label_of_att t.leaf.att ≡ Some n) → HasLabel h
 label_of_token x h t l = (l.0, ap label_in t.is ∙ l.1)
@@ -134,51 +113,22 @@ call_has classes s h f e = absurd (cc)
 att_small : (q : TreeProgram) (a : Att) (n : ℕ) → label_of_att a ≡ Some n → IsSpelled q a → n < 2 ^ 32
 att_small q (att.Branch rel label) n e sp = subst (λ k. k < 2 ^ 32) (same_Some label n e) sp
 att_small q (att.Label label) n e sp = subst (λ k. k < 2 ^ 32) (same_Some label n e) sp
-att_small q att.Nothing n e sp = absurd (none-some n e)
-att_small q (att.Number k) n e sp = absurd (none-some n e)
-att_small q (att.Object object offset) n e sp = absurd (none-some n e)
-att_small q (att.Slot k) n e sp = absurd (none-some n e)
-att_small q (att.Callee function count) n e sp = absurd (none-some n e)
+att_small q _ n e sp = absurd (none-some n e)
 
 attr_small : (q : TreeProgram) (h : Attr Operand) (n : ℕ) → label_in h ≡ Some n → TokenIsSpelled q h → n < 2 ^ 32
 attr_small q (attr.Token l) n e sp = att_small q l.att n e sp
-attr_small q (attr.Reg r) n e sp = absurd (none-some n e)
-attr_small q (attr.InSlot w) n e sp = absurd (none-some n e)
-attr_small q (attr.Value o) n e sp = absurd (none-some n e)
-attr_small q (attr.Place o) n e sp = absurd (none-some n e)
-attr_small q (attr.Con k) n e sp = absurd (none-some n e)
-attr_small q (attr.Ea o) n e sp = absurd (none-some n e)
-attr_small q attr.Nothing n e sp = absurd (none-some n e)
+attr_small q _ n e sp = absurd (none-some n e)
 
 count_few : (k : AttKind) (function count : ℕ) → is_of_kind k (att.Callee function count) ≡ true → count ≤ 255
 count_few att_kind.Callee function count e = grind (arith, nat_tests)
-count_few att_kind.Nothing function count e = absurd (cc)
-count_few (att_kind.Own n) function count e = absurd (cc)
-count_few att_kind.Other function count e = absurd (cc)
-count_few att_kind.Object function count e = absurd (cc)
-count_few att_kind.Local function count e = absurd (cc)
-count_few att_kind.Argument function count e = absurd (cc)
-count_few att_kind.Branch function count e = absurd (cc)
-count_few att_kind.Label function count e = absurd (cc)
+count_few _ function count e = absurd (cc)
 
 att_few : (k : AttKind) (a : Att) (c : ℕ × ℕ) → callee_of_att a ≡ Some c → is_of_kind k a ≡ true → c.1 ≤ 255
 att_few k (att.Callee function count) c e f = subst (λ (d : ℕ × ℕ). d.1 ≤ 255) (same_Some (function, count) c e) (count_few k function count f)
-att_few k (att.Branch rel label) c e f = absurd (none-some c e)
-att_few k (att.Label label) c e f = absurd (none-some c e)
-att_few k att.Nothing c e f = absurd (none-some c e)
-att_few k (att.Number n) c e f = absurd (none-some c e)
-att_few k (att.Object object offset) c e f = absurd (none-some c e)
-att_few k (att.Slot n) c e f = absurd (none-some c e)
+att_few k _ c e f = absurd (none-some c e)
 
 symbol_few : (classes : List Class) (s : Sym) (h : Attr Operand) (c : ℕ × ℕ) → SymFits vax classes s h → callee_in h ≡ Some c → c.1 ≤ 255
 symbol_few classes (grammar_symbol.Tok x) (attr.Token l) c f e = att_few (attribute_of l.tok) l.att c e f.1
-symbol_few classes (grammar_symbol.Tok x) (attr.Reg r) c f e = absurd f
-symbol_few classes (grammar_symbol.Tok x) (attr.InSlot w) c f e = absurd f
-symbol_few classes (grammar_symbol.Tok x) (attr.Value o) c f e = absurd f
-symbol_few classes (grammar_symbol.Tok x) (attr.Place o) c f e = absurd f
-symbol_few classes (grammar_symbol.Tok x) (attr.Con n) c f e = absurd f
-symbol_few classes (grammar_symbol.Tok x) (attr.Ea o) c f e = absurd f
-symbol_few classes (grammar_symbol.Tok x) attr.Nothing c f e = absurd f
 symbol_few classes (grammar_symbol.Class k) h c f e = class_few h f e where
   class_few : (h : Attr Operand) → SymFits vax classes (grammar_symbol.Class k) h → callee_in h ≡ Some c → c.1 ≤ 255
   class_few (attr.Token l) f e = absurd (no_token vax (kind_at classes k) l f)
@@ -189,6 +139,7 @@ symbol_few classes (grammar_symbol.Class k) h c f e = class_few h f e where
   class_few (attr.Con n) f e = absurd (none-some c e)
   class_few (attr.Ea o) f e = absurd (none-some c e)
   class_few attr.Nothing f e = absurd (none-some c e)
+symbol_few classes _ _ c f e = absurd f
 
 module _ (q : TreeProgram) (classes : List Class) where
   can_go : (p : Option Sym → Bool) → ((s : Sym) (h : Attr Operand) → SymFits vax classes s h → p (Some s) ≡ true → HasLabel h) →

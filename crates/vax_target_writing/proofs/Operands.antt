@@ -78,56 +78,40 @@ pub record IsWritable (o : Operand) : Type 0 where
 
 index_stands : (b : Base) (x : Option Reg) → is_steady_memory b ≡ true → is_index b x ≡ true
 index_stands b None e = refl
-index_stands (bases.Imm a) (Some x) e = absurd (cc)
-index_stands (bases.Reg r) (Some x) e = absurd (cc)
 index_stands (bases.Def r) (Some x) e = refl
-index_stands (bases.Inc r) (Some x) e = absurd (cc)
-index_stands (bases.IncDef r) (Some x) e = absurd (cc)
-index_stands (bases.Dec r) (Some x) e = absurd (cc)
 index_stands (bases.Disp a r) (Some x) e = refl
 index_stands (bases.DispDef a r) (Some x) e = refl
 index_stands (bases.Abs n) (Some x) e = refl
 index_stands (bases.Rel a) (Some x) e = refl
 index_stands (bases.RelDef a) (Some x) e = refl
+index_stands _ _ e = absurd (cc)
 
 place_of_memory : (b : Base) → is_steady_memory b ≡ true → is_place b ≡ true
-place_of_memory (bases.Imm a) e = absurd (cc)
-place_of_memory (bases.Reg r) e = absurd (cc)
 place_of_memory (bases.Def r) e = refl
-place_of_memory (bases.Inc r) e = absurd (cc)
-place_of_memory (bases.IncDef r) e = absurd (cc)
-place_of_memory (bases.Dec r) e = absurd (cc)
 place_of_memory (bases.Disp a r) e = refl
 place_of_memory (bases.DispDef a r) e = refl
 place_of_memory (bases.Abs n) e = refl
 place_of_memory (bases.Rel a) e = refl
 place_of_memory (bases.RelDef a) e = refl
+place_of_memory _ e = absurd (cc)
 
 pub memory_of_steady : (b : Base) → is_steady_memory b ≡ true → is_memory b ≡ true
-memory_of_steady (bases.Imm a) e = absurd (cc)
-memory_of_steady (bases.Reg r) e = absurd (cc)
 memory_of_steady (bases.Def r) e = refl
-memory_of_steady (bases.Inc r) e = absurd (cc)
-memory_of_steady (bases.IncDef r) e = absurd (cc)
-memory_of_steady (bases.Dec r) e = absurd (cc)
 memory_of_steady (bases.Disp a r) e = refl
 memory_of_steady (bases.DispDef a r) e = refl
 memory_of_steady (bases.Abs n) e = refl
 memory_of_steady (bases.Rel a) e = refl
 memory_of_steady (bases.RelDef a) e = refl
+memory_of_steady _ e = absurd (cc)
 
 no_step : (b : Base) → is_steady_memory b ≡ true → not (steps b) ≡ true
-no_step (bases.Imm a) e = absurd (cc)
-no_step (bases.Reg r) e = absurd (cc)
 no_step (bases.Def r) e = refl
-no_step (bases.Inc r) e = absurd (cc)
-no_step (bases.IncDef r) e = absurd (cc)
-no_step (bases.Dec r) e = absurd (cc)
 no_step (bases.Disp a r) e = refl
 no_step (bases.DispDef a r) e = refl
 no_step (bases.Abs n) e = refl
 no_step (bases.Rel a) e = refl
 no_step (bases.RelDef a) e = refl
+no_step _ e = absurd (cc)
 
 pub readable_memory : (o : Operand) → IsMemory o → IsReadable o
 readable_memory o h =

@@ -36,16 +36,9 @@ pub ok_plain : (x t : Taken) → x.target ≡ None → ◌≡◌ {A = Result Tak
 ok_plain x t none e = ap (λ (y : Taken). y.target) (sym (ok_same x t e)) ∙ none
 
 pub addressed_plain : (w : Where) (size : Size) (t : Taken) → addressed w size ≡ Ok t → t.target ≡ None
-addressed_plain (Immediate a) size t e = absurd (err_ok _ t e)
-addressed_plain (Register a) size t e = absurd (err_ok _ t e)
-addressed_plain OwnRegister size t e = absurd (err_ok _ t e)
-addressed_plain RegisterZero size t e = absurd (err_ok _ t e)
-addressed_plain (Value z i) size t e = absurd (err_ok _ t e)
-addressed_plain (Place z i) size t e = absurd (err_ok _ t e)
-addressed_plain (Local i) size t e = absurd (err_ok _ t e)
 addressed_plain (SavedPlace z i) size t e = sized_plain (same_size z size) _ t refl e
-addressed_plain (Saved i) size t e = absurd (err_ok _ t e)
 addressed_plain (At a p) size t e = ok_plain _ t refl e
+addressed_plain _ size t e = absurd (err_ok _ t e)
 
 pub in_order_is : (b : Bool) (u d : Deed) → in_order b u ≡ Ok d → u ≡ d
 in_order_is b u d e = by u.missized b e where
