@@ -21,8 +21,7 @@ pub record HasFunction (g : ARoutine) (f : TreeFn) : Type 0 where
   pub fits : FitsFrame (need_of g.locals g.body) f
 
 -- The functions and objects are the program's, in order. A function takes at most 32 arguments; the objects' labels
--- differ from each other and from those of functions and
--- services, and links hold addresses.
+-- differ from each other and from those of functions and services, and links hold addresses.
 pub record HasParts (p : AProgram) (q : TreeProgram) : Type 0 where
   pub count : length q.functions ≡ length p.routines
   pub functions : (n : ℕ) (g : ARoutine) (f : TreeFn) → slice_get p.routines n ≡ Some g → slice_get q.functions n ≡ Some f → HasFunction g f

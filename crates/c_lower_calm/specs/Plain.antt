@@ -61,8 +61,7 @@ unary_tree unaries.Complement w = Com w
 unary_tree unaries.Not w = w
 
 -- A number is its constant, a local or parameter its slot, memory is read at its address, and an operator stands over
--- its parts. Phrases that are not plain have no tree of their
--- own, and stand here as 0.
+-- its parts. Phrases that are not plain have no tree of their own, and stand here as 0.
 abbrev mutual
   pub place_at : APlace → Where
   place_at (VariableAt t v) = where_of v

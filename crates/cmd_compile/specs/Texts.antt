@@ -17,8 +17,8 @@ use Rattle.gg_compile.specs.Keeping.{Keeps}
 use Rattle.cmd_compile.specs.Lines.{name_at, frame_line}
 
 -- The bytes are the assembly text of one code, which is what `run` reads in them. That code is selected of the
--- program's trees by the description,
--- and it keeps the program: it loads, and on every input its run follows the program's. Each function fits its frame.
+-- program's trees by the description, and it keeps the program: it loads, and on every input its run follows the
+-- program's. Each function fits its frame.
 pub record IsTextOf (d : Content) (p : AProgram) (bytes : List ℕ) : Type 0 where
   pub fit : AllFit p
   pub code : Code

@@ -46,9 +46,9 @@ fn put_block(
     spell(alloc, objects, o, items)
 }
 
-/// The data area of these objects: each one's alignment, its label, and its bytes from the front. Of the bytes each link that comes
-/// in its turn is
-/// a `.long` of the linked object's label, each longest run of zeros a `.space`, and each other byte a `.byte`.
+/// The data area of these objects: each one's alignment, its label, and its bytes from the front. Of the bytes each
+/// link that comes in its turn is a `.long` of the linked object's label, each longest run of zeros a `.space`, and
+/// each other byte a `.byte`.
 pub fn area_items(alloc: Global, objects: &[Object]) -> Result<AreaItems, NoMemory>
     requires { All (λ o. length o.bytes ≤ 1048576) objects.now }
     ensures { IfOk result (λ a. a ≡ area_of objects.now) }

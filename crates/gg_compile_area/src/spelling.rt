@@ -9,9 +9,8 @@ use std::alloc::Global;
 use tree_core::{Link, Object};
 use vax_core::{Addr, AreaItem};
 
-/// How far the bytes of an object are spelled: so many bytes of a link are still passed over, so many zeros came before, and the
-/// links that are
-/// to come.
+/// How far the bytes of an object are spelled: so many bytes of a link are still passed over, so many zeros came
+/// before, and the links that are to come.
 #[derive(Clone, Copy)]
 pub struct Spelling<'a> {
     pub passed: u32,

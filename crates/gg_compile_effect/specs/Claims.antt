@@ -18,8 +18,7 @@ use Rattle.vax_target_meaning.specs.Vax.{vax}
 use Rattle.gg_compile_law.specs.Effects.{HasEffect}
 
 -- A tree of a function of the program: a typed statement whose leaves name what is there, with longwords for numbers;
--- in it no memory is read
--- behind a division.
+-- in it no memory is read behind a division.
 pub record IsTreeOf (q : TreeProgram) (g : TreeFn) (w : List Leaf) : Type 0 where
   pub stands : ItemStands q.functions (length q.objects) g (tree_item.Root w)
   pub spelled : AllByRecursion (λ (l : Leaf). IsSpelled q l.att) w

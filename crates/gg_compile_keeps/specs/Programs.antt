@@ -12,8 +12,8 @@ use Rattle.gg_compile_law.specs.Names.{HaveSmall}
 use Rattle.gg_compile_law.specs.Loaded.{AreApart}
 
 -- A tree program that code can be selected of: it is valid, in none of its trees is memory read behind a division, each
--- function's locals fit
--- its frame, and its objects have labels of their own, and bytes as contents, a link's being the linked address.
+-- function's locals fit its frame, and its objects have labels of their own, and bytes as contents, a link's being the
+-- linked address.
 pub record IsSelectable (q : TreeProgram) : Type 0 where
   pub valid : IsValid q
   pub calm : EachTree Calm q

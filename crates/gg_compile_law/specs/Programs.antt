@@ -44,8 +44,7 @@ abbrev pub stands_in : List TreeItem → ℕ → Bool
 stands_in items n = list_any (λ (item : TreeItem). is_label_of item n) items
 
 -- Pushes stand before calls, as many as the call takes and at most 255, a save directly behind a call: so many are
--- pushed so far, and a call
--- stands directly before, or not.
+-- pushed so far, and a call stands directly before, or not.
 abbrev pub InOrderBy : Role → ℕ → Bool → (ℕ → Bool → Type 0) → Type 0
 InOrderBy Pushes pushed is_behind rest = rest (pushed + 1) false
 InOrderBy (Calls function count) pushed is_behind rest = (pushed ≡ count) × (count ≤ 255) × rest 0 true

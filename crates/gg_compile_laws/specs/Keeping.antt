@@ -27,8 +27,7 @@ pub record Keeps (p : AProgram) (c : Code) : Type 0 where
   pub follows : (input : List ℕ) → AreBytes input → Follows (source p input) (run c input)
 
 -- What code for the trees asks besides what typing gives: functions' names can be spelled, numbers, offsets and labels
--- are longwords, and each
--- function's locals fit its frame.
+-- are longwords, and each function's locals fit its frame.
 pub record IsWithinLimits (q : TreeProgram) : Type 0 where
   pub names : AllByRecursion (λ (f : TreeFn). is_name (function_label f.name) ≡ true) q.functions
   pub longwords : TreesAreSpelled q

@@ -59,8 +59,7 @@ TextsAreTaken =
     → IsRefusedAs text_form code_runner statuses.AsmRefused call → ⊥
 
 -- At each end that a run of it comes to, the meaning of the program on the same input has this output and this end, or
--- a longer output where the
--- run is spent; or it makes a wild access or nests too deep.
+-- a longer output where the run is spent; or it makes a wild access or nests too deep.
 abbrev pub RunsTell : Type 0
 RunsTell =
     (d : Content) (p : AProgram) (text : List ℕ) (call : Call) (end : End) → IsTextOf d p text → HoldsText text call

@@ -1,6 +1,5 @@
 -- The generated source of k functions. Each works on its argument, its own number and a table; `main` calls them in
--- order, each with what the
--- one before answered, and writes the last answer as letters, four bits a letter.
+-- order, each with what the one before answered, and writes the last answer as letters, four bits a letter.
 use Rattle.std.specs.Prelude.{ℕ, zero, suc, ◌+◌, ◌*◌, List, [], ◌++◌, codes}
 use Rattle.std.specs.Fmt.{decimal}
 

@@ -9,8 +9,8 @@ use Rattle.md_reader.specs.declared.types.Sym.TheVariants as grammar_symbol
 use Rattle.lr_tables.specs.Candidates.{StandsBefore, AreReductions}
 
 -- Who answers. L is a leaf, which has a token, and X what is kept beside the stack of symbols: what a question about a
--- rule is answered, and what is
--- kept behind it; behind a shift; and behind a reduction by the rule with a number, unless that is refused.
+-- rule is answered, and what is kept behind it; behind a shift; and behind a reduction by the rule with a number,
+-- unless that is refused.
 pub record Answering (L X : Type 0) : Type 0 where
   pub token : L → Tok
   pub says : Rule → X → Bool
@@ -66,8 +66,7 @@ module _ {L X : Type 0} (of : Answering L X) (rules : List Rule) (stmt : ℕ) wh
     pub takes : taken of rules candidates x ≡ record { rule = n; kept = y }
 
   -- The parse from an offset, with the stacks since the last shift, the leaves to come, the stack of symbols, whose top
-  -- stands first, and what is kept
-  -- beside it: its moves, and how it ends.
+  -- stands first, and what is kept beside it: its moves, and how it ends.
   pub data Parses : ℕ → List (List Sym) → List L → List Sym → X → List (Move L) → Ending X → Type 0 where
     -- the same stack comes twice without a shift between
     loops : {at : ℕ} {before : List (List Sym)} {ws : List L} {a : List Sym} {x : X} →

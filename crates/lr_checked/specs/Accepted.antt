@@ -21,8 +21,8 @@ moves (reduces r new d e x) = suc (moves x)
 moves (blocks new d) = 0
 
 -- Whatever the answers that come with its tokens, the parse of each typed statement over the description's rules ends
--- with accepting, and in no
--- other way, within its tokens, the end counted, times the classes and two. The parse knows no table.
+-- with accepting, and in no other way, within its tokens, the end counted, times the classes and two. The parse knows
+-- no table.
 pub record NeverStops (d : Content) : Type 0 where
   pub accepts : (w : List Token) → IsStatement (tokens w) → Ends d.rules (stmt_of d.classes) 0 [] w [] outcome.Done
   pub only : (w : List Token) (o : Outcome) → IsStatement (tokens w) → Ends d.rules (stmt_of d.classes) 0 [] w [] o → o ≡ outcome.Done

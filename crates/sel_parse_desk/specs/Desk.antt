@@ -17,8 +17,7 @@ pub record Stack (O I : Type 0) : Type 0 where
   pub most : ℕ
 
 -- A reduction at work: the entries below the rule's symbols, the deepest first; those of the symbols, the first
--- symbol's first; and the frame
--- words that were let go since it began, which are given back behind it.
+-- symbol's first; and the frame words that were let go since it began, which are given back behind it.
 pub record Desk (O I : Type 0) : Type 0 where
   pub below : List (Entry O)
   pub symbols : List (Entry O)

@@ -15,8 +15,7 @@ use Rattle.sel_parse_selected.specs.Selected.{Selected}
 
 module _ {O I S F : Type 0} (of : Meaning O I S F) (q : TreeProgram) where
   -- A test of attributes lasts where each step of a selection keeps it: registers, words of the frame and numbers pass
-  -- it, and a shape passes it
-  -- whose holes do.
+  -- it, and a shape passes it whose holes do.
   pub record Lasts (good : Attr O → Bool) : Type 0 where
     pub register : (r : ℕ) → good (attr.Reg r) ≡ true
     pub in_slot : (w : ℕ) → good (attr.InSlot w) ≡ true

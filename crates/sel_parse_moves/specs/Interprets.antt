@@ -28,9 +28,8 @@ SenseFits (Some k) (OfNumber n) = Unit {0}
 SenseFits k v = ⊥
 
 -- A selection with a meaning. `Stands` is what it keeps of the stack: what the symbols stand for, the top first. Each
--- reduction makes of a rule's
--- symbols what the wanted effect of the rule's pattern makes of them, whatever numbers the symbols have that stand for these senses. Of the
--- restrictions it is told that they held.
+-- reduction makes of a rule's symbols what the wanted effect of the rule's pattern makes of them, whatever numbers the
+-- symbols have that stand for these senses. Of the restrictions it is told that they held.
 pub record Interprets {X A : Type 0} (of : Selecting X A) (classes : List Class) (rules : List Rule) (objects : List Object)
     (s : Sight) : Type 1 where
   -- the leaves that it takes: those that name what is in the program, say

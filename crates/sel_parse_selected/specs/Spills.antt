@@ -35,8 +35,7 @@ module _ {O I S F : Type 0} (of : Meaning O I S F) where
   may_go e = not (is_register e.attr) && holds_register e
 
   -- The deepest entry that holds a register: the last one below, or else the first of the symbols that may go. Symbols
-  -- whose registers were given
-  -- back hold none.
+  -- whose registers were given back hold none.
   abbrev pub deepest : Option ℕ → Option ℕ → Option Where
   deepest (Some i) o = Some (Below i)
   deepest None (Some i) = Some (Among i)

@@ -112,8 +112,7 @@ module _ {O I S F : Type 0} (of : Meaning O I S F) where
   lines_of q rule hs res = map (λ (l : Line). of.instr q l hs res) rule.lines
 
   -- A rule that the target takes: its holes are of the symbols' kinds and have the view's numbers, and no access to
-  -- memory breaks that its effect
-  -- makes, every one, or all but those whose address divides by zero.
+  -- memory breaks that its effect makes, every one, or all but those whose address divides by zero.
   pub record Instance (every : Bool) (q : TreeProgram) (f : Extent) (fs : List Extent) (classes : List Class) (rule : Rule)
       (e : EffectShape) (hs : List (Attr O)) (v : View) (m : S) : Type 0 where
     pub program : IsValid q

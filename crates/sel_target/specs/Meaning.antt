@@ -54,8 +54,7 @@ pub record Meaning (O I S F : Type 0) : Type 1 where
   pub live : S → F
   pub answer : S → ℕ
   -- The machine's state stands for a state of the program's trees, all but the last call's result: the live calls'
-  -- frames have these extents,
-  -- the innermost first.
+  -- frames have these extents, the innermost first.
   pub agrees : TreeProgram → Extent → List Extent → State → S → Type 0
   -- there is room for what one tree pushes and calls
   pub has_room : S → Type 0

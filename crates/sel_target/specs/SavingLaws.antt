@@ -47,8 +47,7 @@ module _ {O I S F : Type 0} (of : Meaning O I S F) where
     register : (r : ℕ) → size ≡ Long → r < 12 → IsValue size (attr.Reg r)
 
   -- The state in which symbol 1 is saved, or reloaded: it stands for the view's tree state, where the view's symbol 1
-  -- is n, and the accesses of
-  -- the line's term don't break.
+  -- is n, and the accesses of the line's term don't break.
   pub record IsSet (q : TreeProgram) (f : Extent) (fs : List Extent) (v : View) (n : ℕ) (t : Shape) (m : S) : Type 0 where
     pub agrees : of.agrees q f fs v.state m
     pub room : of.has_room m

@@ -37,8 +37,8 @@ module _ {O I S F : Type 0} (of : Meaning O I S F) where
     pub live : of.live n ≡ of.live m
 
   -- A course from m, which stands for t, is this step of the tree program. A branch taken, a call and a return end the
-  -- course in the state before
-  -- they are done: that state stands for the state before the step, and before a call or a return there is room.
+  -- course in the state before they are done: that state stands for the state before the step, and before a call or a
+  -- return there is room.
   abbrev pub IsStep : TreeProgram → Extent → List Extent → State → S → Course I S → Step → Type 0
   IsStep q f fs t m c (steps.Goes s) = (n : S) × (c ≡ comes n) × Stays q f fs s m n
   IsStep q f fs t m c (steps.Serves b s) = (n : S) × (c ≡ record { written = option_to_list b; ending = Comes n })
@@ -58,8 +58,7 @@ module _ {O I S F : Type 0} (of : Meaning O I S F) where
     pub place : PlaceIs of f t m size operand_is g
 
   -- The deed of an act, with these holes and numbers. A branch's relation compares as the rule's restrictions say; a
-  -- call names a function with its
-  -- number of arguments, which are what is pushed.
+  -- call names a function with its number of arguments, which are what is pushed.
   abbrev pub DoesAct : TreeProgram → Extent → List Restriction → List (Attr O) → View → S → ActShape → Deed → Type 0
   DoesAct q f rs hs v m (StoreHome size i t) (Puts g n) = HomeIs f v.state m hs i size g × (value v t ≡ n)
   DoesAct q f rs hs v m (StoreAt size a t) (Puts g n) = (g ≡ meaning.Memory size (value v a)) × (value v t ≡ n)

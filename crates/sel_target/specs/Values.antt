@@ -1,6 +1,5 @@
 -- What the symbols of a rule stand for, and what the terms of an effect are worth: by the value of terms, with the
--- symbols' values, and with
--- the memory and the last result of a tree state.
+-- symbols' values, and with the memory and the last result of a tree state.
 use Rattle.std.specs.Prelude.{◌≡◌, ℕ, ◌+◌, ◌-◌, ◌<◌, Bool, true, Option, Some, None, IsSome, unwrap_or, slice_get}
 use Rattle.std.specs.Prelude.{slice_index, length}
 use Rattle.gg_base.specs.declared.size.Size.{Size}
@@ -39,8 +38,7 @@ abbrev pub value : View → Shape → ℕ
 value v t = term.value (term_state v) t
 
 -- The symbols that a term names have numbers, and no access to memory that it makes breaks: every one, or all but those
--- whose address divides
--- by zero, which are never made.
+-- whose address divides by zero, which are never made.
 abbrev pub IsReadWhere : Bool → View → Shape → Type 0
 IsReadWhere every v t = Safe every (λ i. IsSome (v.symbol i)) v.state.area (term_state v) t
 

@@ -1,6 +1,5 @@
 -- How a pattern is read: from its end, with the parts that are read on a stack. Each symbol takes its kids from the
--- top, the left one first,
--- and leaves what it makes of them.
+-- top, the left one first, and leaves what it makes of them.
 use Rattle.std.specs.Prelude.{ℕ, ◌+◌, List, [], ◌∷◌}
 use Rattle.md_reader.specs.declared.types.Class.{Class}
 use Rattle.md_reader.specs.declared.types.Sym.{Sym}

@@ -1,6 +1,5 @@
 -- Normal terms built of nodes. They are read from the end: the terms that are built lie on a stack, and each node takes
--- its parts from the top,
--- the first part first.
+-- its parts from the top, the first part first.
 use Rattle.std.specs.Prelude.{List, [], ◌∷◌, map, reverse}
 use Rattle.term_core.specs.declared.facts.Fact.{Fact}
 use Rattle.term_core.specs.Facts.{same_as}

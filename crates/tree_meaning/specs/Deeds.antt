@@ -14,8 +14,7 @@ use Rattle.tree_meaning.specs.declared.value.Meaning.TheVariants.{Of, Local, Arg
 use Rattle.tree_meaning.specs.Values.{Sight, kid, meanings}
 
 -- A place gets a number, a branch compares two, an argument is pushed, a call is left with a value, a function is
--- called, a local gets the last
--- call's result, a label is jumped to; or a divisor is zero, or an access is wild.
+-- called, a local gets the last call's result, a label is jumped to; or a divisor is zero, or an access is wild.
 pub data Deed : Type 0 where
   Puts : (g : Meaning) (n : ℕ) → Deed
   Branches : (rel : Rel) (label : ℕ) (x y : ℕ) → Deed

@@ -79,8 +79,7 @@ GoesOn turns.Deep = ⊥
 GoesOn turns.Spent = ⊥
 
 -- One tree begins at most, and it is counted then, whatever is answered: one does where the run goes on behind the
--- answer, and none where it came to
--- its end before.
+-- answer, and none where it came to its end before.
 pub record AdvancesTrees (old : Remaining) (turn : SourceTurn) (new : Remaining) : Type 0 where
   pub trees : ℕ
   pub one_at_most : trees ≤ 1

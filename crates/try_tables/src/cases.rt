@@ -1,10 +1,10 @@
 // Cases: descriptions one after another, and what is found of each.
 //
-// A case is the lines before a line `=>`, which is written with what is found behind it. The lines before `=> front` stand before each
-// later case instead. A line `=> sets` is written with the item sets of the lines before it, and `=> stack` and a tree's tokens with the
-// stack where the tree's parse stops; the case goes on behind them. `* N A / B` stands for N times the lines A and B, and `^ N` for
-// N rules that share no item set behind their first
-// symbols: the ten unary tokens of each are the binary digits of its number.
+// A case is the lines before a line `=>`, which is written with what is found behind it. The lines before `=> front`
+// stand before each later case instead. A line `=> sets` is written with the item sets of the lines before it, and `=>
+// stack` and a tree's tokens with the stack where the tree's parse stops; the case goes on behind them. `* N A / B`
+// stands for N times the lines A and B, and `^ N` for N rules that share no item set behind their first symbols: the
+// ten unary tokens of each are the binary digits of its number.
 ghost use Rattle.std.specs.Prelude.{◌≤◌, length};
 
 use crate::examining::MAX_BYTES;

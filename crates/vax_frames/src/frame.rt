@@ -96,9 +96,9 @@ fn frame_head(alloc: Global, name: &Name, mask: u16, words: u32) -> Result<Vec<C
     Ok(head)
 }
 
-/// The code of a function with this body and so many frame words: `.globl` and label of its name with `_` in front, the mask of the
-/// registers
-/// among r2 to r11 that the body names, `subl2 $n,sp` with n four times the words where that isn't 0, the body, `clrl r0` and `ret`.
+/// The code of a function with this body and so many frame words: `.globl` and label of its name with `_` in front, the
+/// mask of the registers among r2 to r11 that the body names, `subl2 $n,sp` with n four times the words where that
+/// isn't 0, the body, `clrl r0` and `ret`.
 #[tactic(auto, using(crate::proofs::HeadLaws::is_frame))]
 pub fn frame_code(
     alloc: Global,

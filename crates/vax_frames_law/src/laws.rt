@@ -70,9 +70,8 @@ pub fn calls_note()
     ensures { CallsNote }
 {}
 
-/// The law: where a call's frame is the innermost again and the number of arguments stands as it was pushed, a return gives fp and
-/// ap back, and
-/// takes the arguments off the stack.
+/// The law: where a call's frame is the innermost again and the number of arguments stands as it was pushed, a return
+/// gives fp and ap back, and takes the arguments off the stack.
 pub fn returns_undo()
     ensures { ReturnsUndo }
 {}

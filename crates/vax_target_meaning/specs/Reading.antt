@@ -1,6 +1,5 @@
 -- What an operand reads and names: registers, the data area, and the word of the innermost frame or the argument that
--- it spells itself. All other
--- memory is no tree's, and there an operand reads nothing.
+-- it spells itself. All other memory is no tree's, and there an operand reads nothing.
 use Rattle.std.specs.Prelude.{ℕ, ◌%◌, ◌^◌, ◌==◌, ◌&&◌, nat_lt, nat_le, Bool, true, false, List, Option, Some, None}
 use Rattle.std.specs.Prelude.{is_none, is_some, Result, Ok, Err, cond}
 use Rattle.std.specs.Option.{option_and_then, option_map}

@@ -129,8 +129,7 @@ is_lost c None = false
 is_lost c (Some t) = c.setting.is_reused
 
 -- A state in which a line is run: the data area is the view's, each hole means what it stands for, unless `%0` took its
--- register, `%0` holds its
--- value, and before it has one, register 0 is the last call's result to a rule that saves it.
+-- register, `%0` holds its value, and before it has one, register 0 is the last call's result to a rule that saves it.
 pub record Sees (c : Scene) (zero : Option Shape) (m : State) : Type 0 where
   pub sound : IsSound m
   pub area : m.area ≡ c.view.state.area

@@ -20,8 +20,7 @@ use Rattle.vax_templates.specs.Taking.{Arguments}
 use Rattle.vax_templates.specs.Giving.{Given, Computes, Divides, Compares, Tests, given}
 
 -- what the last line left to the next: nothing, two numbers that were compared, one that was tested, a value in
--- register 0, or the deed that ends
--- the template
+-- register 0, or the deed that ends the template
 pub data Last : Type 0 where
   Plain : Last
   Compared : (a b : Shape) → Last

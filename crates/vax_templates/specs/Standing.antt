@@ -22,8 +22,7 @@ use Rattle.vax_templates.specs.Settings.{hole_at}
 use Rattle.vax_templates.specs.HoleTerms.{constant_of, absolute_term, number_term, register_term}
 
 -- a number, a symbol's register, `%0`, register 0, a symbol's value, a symbol's place, a local, a place whose address
--- is saved, the local of
--- the last call's result, or memory at an address, for which a pointer may have been read
+-- is saved, the local of the last call's result, or memory at an address, for which a pointer may have been read
 pub data Where : Type 0 where
   Immediate : (t : Shape) → Where
   Register : (t : Shape) → Where
