@@ -142,9 +142,18 @@ module _ (size count : ℕ) where
     goes_out : (scope : ℕ → Type 0) (inside : Bool) (a : AnAction) (lb lc to : ℕ) → FitsAct size scope inside a → Statements.going a lb lc ≡ Some to
         → (m : ℕ) → at to m ≤ leaving inside lb lc m
     goes_out scope true BreakOf lb lc to f e m = let same : at to m ≡ at lb m = cc in omega (arith, same)
+    goes_out scope false BreakOf lb lc to f e m = absurd (cc)
     goes_out scope true ContinueOf lb lc to f e m = let same : at to m ≡ at lc m = cc in omega (arith, same)
+    goes_out scope false ContinueOf lb lc to f e m = absurd (cc)
+    goes_out scope inside (DeclareOf ds) lb lc to f e m = absurd (cc)
     goes_out scope inside (BlockOf row) lb lc to f e m = alone_out scope inside row lb lc to f e m
-    goes_out scope _ _ lb lc to f e m = absurd (cc)
+    goes_out scope inside (EvaluateOf x) lb lc to f e m = absurd (cc)
+    goes_out scope inside (ReturnOf x) lb lc to f e m = absurd (cc)
+    goes_out scope inside (IfOf c a) lb lc to f e m = absurd (cc)
+    goes_out scope inside (IfElseOf c a b) lb lc to f e m = absurd (cc)
+    goes_out scope inside (WhileOf c a) lb lc to f e m = absurd (cc)
+    goes_out scope inside (DoOf a c) lb lc to f e m = absurd (cc)
+    goes_out scope inside (ForOf i c x a) lb lc to f e m = absurd (cc)
 
     alone_out : (scope : ℕ → Type 0) (inside : Bool) (row : SomeActions) (lb lc to : ℕ) → FitsActs size scope inside row → Statements.going_alone row lb lc ≡ Some to
         → (m : ℕ) → at to m ≤ leaving inside lb lc m

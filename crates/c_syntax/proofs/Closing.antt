@@ -137,8 +137,18 @@ set_class c.Compound = inr (λ h. h)
 set_class k = inl tt
 
 mark_unset : (m : Mark) → mark_strength m ≤ 2 → NoSet (mark_class m) → mark_strength m ≤ 1
+mark_unset marks.Assign q h = absurd h
+mark_unset marks.AddAssign q h = absurd h
+mark_unset marks.SubtractAssign q h = absurd h
+mark_unset marks.MultiplyAssign q h = absurd h
+mark_unset marks.DivideAssign q h = absurd h
+mark_unset marks.RemainderAssign q h = absurd h
+mark_unset marks.AndAssign q h = absurd h
+mark_unset marks.XorAssign q h = absurd h
+mark_unset marks.OrAssign q h = absurd h
+mark_unset marks.ShiftLeftAssign q h = absurd h
+mark_unset marks.ShiftRightAssign q h = absurd h
 mark_unset m q h = omega (arith, q)
-mark_unset _ q h = absurd h
 
 token_unset : (k : Token) → strength k ≤ 2 → NoSet (class_of k) → strength k ≤ 1
 token_unset (token.Mark m) q h = mark_unset m q h
@@ -524,8 +534,11 @@ no_simple_of k a b d e = tt
 
 simple_by : (k : Class) → NoSimple k → (t : Placed) (n : ℕ) (κ : AStatement → Stack) → Statements.simple_step k t n κ
     ≡ Expressions.expr_step k t n (λ e. Want (Back n) (λ x. Want WantSemi (λ y. κ (expression e))))
+simple_by c.Semicolon h t n κ = absurd h
+simple_by c.Break h t n κ = absurd h
+simple_by c.Continue h t n κ = absurd h
+simple_by c.Return h t n κ = absurd h
 simple_by k h t n κ = refl
-simple_by _ h t n _ = absurd h
 
 -- no word of a simple statement stands there
 pub record IsComputed (ts : List Placed) : Type 0 where
@@ -604,9 +617,15 @@ simple_err n ts f h d = fails_when (Want Statement) n ts f (λ r κ. expand_othe
 -- items
 local_or : (k : Class) → (LocalClass k → ⊥) → (k ≢ c.CloseBrace) → (t : Placed) (n : ℕ) (κ : SomeItems → Stack) → Statements.items_step k t n κ
     ≡ Statements.statement_step k t n (λ s. Want Items (λ is. κ (statement_item s is)))
+local_or c.Static h i t n κ = absurd (h tt)
+local_or c.Register h i t n κ = absurd (h tt)
+local_or c.Int h i t n κ = absurd (h tt)
+local_or c.Char h i t n κ = absurd (h tt)
+local_or c.Void h i t n κ = absurd (h tt)
+local_or c.Short h i t n κ = absurd (h tt)
+local_or c.Unsigned h i t n κ = absurd (h tt)
 local_or c.CloseBrace h i t n κ = absurd (i refl)
 local_or k h i t n κ = refl
-local_or _ h i t n _ = absurd (h tt)
 
 items_statement : (n : ℕ) (κ : SomeItems → Stack) (ts : List Placed) → NoLocal ts → IsNot (token.Mark marks.CloseBrace) ts → run limit (Want Items κ) n ts
     ≡ run limit (Want Statement (λ s. Want Items (λ is. κ (statement_item s is)))) n ts

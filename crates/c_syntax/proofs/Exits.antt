@@ -163,8 +163,18 @@ pub assign_unary_err : (n : ℕ) (ts : List Placed) (f : Fault) → NoCast ts �
 assign_unary_err n ts f b h = fails_when (Want Assign) n ts f (λ r κ. assign_plain limit n κ ts b ∙ real (Want Unary) n ts f h r _)
 
 no_set_mark : (m : Mark) → assign_of m ≡ None → NoSet (mark_class m)
+no_set_mark marks.Assign e = absurd (none-some _ (sym e))
+no_set_mark marks.AddAssign e = absurd (none-some _ (sym e))
+no_set_mark marks.SubtractAssign e = absurd (none-some _ (sym e))
+no_set_mark marks.MultiplyAssign e = absurd (none-some _ (sym e))
+no_set_mark marks.DivideAssign e = absurd (none-some _ (sym e))
+no_set_mark marks.RemainderAssign e = absurd (none-some _ (sym e))
+no_set_mark marks.AndAssign e = absurd (none-some _ (sym e))
+no_set_mark marks.XorAssign e = absurd (none-some _ (sym e))
+no_set_mark marks.OrAssign e = absurd (none-some _ (sym e))
+no_set_mark marks.ShiftLeftAssign e = absurd (none-some _ (sym e))
+no_set_mark marks.ShiftRightAssign e = absurd (none-some _ (sym e))
 no_set_mark m e = tt
-no_set_mark _ e = absurd (none-some _ (sym e))
 
 key_no_set : (k : Key) → NoSet (key_class k)
 key_no_set keys.Int = tt
@@ -300,8 +310,13 @@ NoStepClass k = Unit {0}
 
 -- unary
 no_operator_mark : (m : Mark) → prefix_of m ≡ None → NoOperator (mark_class m)
+no_operator_mark marks.Plus e = absurd (none-some _ (sym e))
+no_operator_mark marks.Minus e = absurd (none-some _ (sym e))
+no_operator_mark marks.Tilde e = absurd (none-some _ (sym e))
+no_operator_mark marks.Exclamation e = absurd (none-some _ (sym e))
+no_operator_mark marks.Star e = absurd (none-some _ (sym e))
+no_operator_mark marks.And e = absurd (none-some _ (sym e))
 no_operator_mark m e = tt
-no_operator_mark _ e = absurd (none-some _ (sym e))
 
 key_no_operator : (k : Key) → NoOperator (key_class k)
 key_no_operator keys.Int = tt
@@ -334,10 +349,12 @@ no_step_of token.End e = tt
 
 primary_by : (k : Class) → NoOperator k → NoStepClass k → (k ≢ c.Sizeof) → (t : Placed) (n : ℕ) (κ : AnExp → Stack) → Expressions.unary_step k t n κ
     ≡ Expressions.primary_step k t n (λ p. Want (PostTail p) κ)
+primary_by c.Sign h i j t n κ = absurd h
+primary_by c.Star h i j t n κ = absurd h
+primary_by c.Lone h i j t n κ = absurd h
 primary_by c.Step h i j t n κ = absurd i
 primary_by c.Sizeof h i j t n κ = absurd (j refl)
 primary_by k h i j t n κ = refl
-primary_by _ h i j t n _ = absurd h
 
 plain_unary : (n : ℕ) (ts : List Placed) (κ : AnExp → Stack) → NoPrefix ts → NoStep ts → IsNot (token.Key keys.Sizeof) ts → run limit (Want Unary κ) n ts
     ≡ run limit (Want Primary (λ p. Want (PostTail p) κ)) n ts
@@ -392,8 +409,10 @@ NoWord k = Unit {0}
 
 -- a primary
 no_word_by : (k : Class) → NoWord k → (t : Placed) (n : ℕ) (κ : AnExp → Stack) → Expressions.primary_step k t n κ ≡ Expressions.parens_step k t n κ
+no_word_by c.Name h t n κ = absurd h
+no_word_by c.Number h t n κ = absurd h
+no_word_by c.Str h t n κ = absurd h
 no_word_by k h t n κ = refl
-no_word_by _ h t n _ = absurd h
 
 pub primary_parens : (n : ℕ) (t : Placed) (ts : List Placed) (κ : AnExp → Stack) → NoWord (class_of t.kind) → run limit (Want Primary κ) n (t ∷ ts) ≡ run limit (Want Parens κ) n (t ∷ ts)
 primary_parens n t ts κ h = rw (no_word_by (class_of t.kind) h t n κ) refl

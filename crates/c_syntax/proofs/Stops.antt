@@ -48,8 +48,18 @@ quiet_of (t ∷ ts) h i e = token_quiet t.kind h i e
 -- ---- behind an operand where an operator of some kind doesn't stand
 
 mark_unassigned : (m : Mark) → mark_strength m ≤ 2 → assign_of m ≡ None → mark_strength m ≤ 1
+mark_unassigned marks.Assign h e = absurd (none-some _ (sym e))
+mark_unassigned marks.AddAssign h e = absurd (none-some _ (sym e))
+mark_unassigned marks.SubtractAssign h e = absurd (none-some _ (sym e))
+mark_unassigned marks.MultiplyAssign h e = absurd (none-some _ (sym e))
+mark_unassigned marks.DivideAssign h e = absurd (none-some _ (sym e))
+mark_unassigned marks.RemainderAssign h e = absurd (none-some _ (sym e))
+mark_unassigned marks.AndAssign h e = absurd (none-some _ (sym e))
+mark_unassigned marks.XorAssign h e = absurd (none-some _ (sym e))
+mark_unassigned marks.OrAssign h e = absurd (none-some _ (sym e))
+mark_unassigned marks.ShiftLeftAssign h e = absurd (none-some _ (sym e))
+mark_unassigned marks.ShiftRightAssign h e = absurd (none-some _ (sym e))
 mark_unassigned m h e = omega arith
-mark_unassigned _ h e = absurd (none-some _ (sym e))
 
 token_unassigned : (k : Token) → strength k ≤ 2 → NoAssignMark k → strength k ≤ 1
 token_unassigned (token.Mark m) h e = mark_unassigned m h e
@@ -80,8 +90,25 @@ quiet_unasked [] h e = tt
 quiet_unasked (t ∷ ts) h e = token_unasked t.kind h e
 
 mark_unjoined : (m : Mark) → mark_strength m ≤ 13 → binary_of m ≡ None → mark_strength m ≤ 3
+mark_unjoined marks.Star h e = absurd (none-some _ (sym e))
+mark_unjoined marks.Slash h e = absurd (none-some _ (sym e))
+mark_unjoined marks.Percent h e = absurd (none-some _ (sym e))
+mark_unjoined marks.Plus h e = absurd (none-some _ (sym e))
+mark_unjoined marks.Minus h e = absurd (none-some _ (sym e))
+mark_unjoined marks.ShiftLeft h e = absurd (none-some _ (sym e))
+mark_unjoined marks.ShiftRight h e = absurd (none-some _ (sym e))
+mark_unjoined marks.Less h e = absurd (none-some _ (sym e))
+mark_unjoined marks.LessEqual h e = absurd (none-some _ (sym e))
+mark_unjoined marks.Greater h e = absurd (none-some _ (sym e))
+mark_unjoined marks.GreaterEqual h e = absurd (none-some _ (sym e))
+mark_unjoined marks.Equal h e = absurd (none-some _ (sym e))
+mark_unjoined marks.NotEqual h e = absurd (none-some _ (sym e))
+mark_unjoined marks.And h e = absurd (none-some _ (sym e))
+mark_unjoined marks.Xor h e = absurd (none-some _ (sym e))
+mark_unjoined marks.Or h e = absurd (none-some _ (sym e))
+mark_unjoined marks.AndAnd h e = absurd (none-some _ (sym e))
+mark_unjoined marks.OrOr h e = absurd (none-some _ (sym e))
 mark_unjoined m h e = omega arith
-mark_unjoined _ h e = absurd (none-some _ (sym e))
 
 token_unjoined : (k : Token) → strength k ≤ 13 → NoBinaryMark k → strength k ≤ 3
 token_unjoined (token.Mark m) h e = mark_unjoined m h e

@@ -83,8 +83,12 @@ starts (assign p op at v) w = starts p _
 starts (comma l r) w = starts l _
 
 no_type_class : (k : Class) → StartClass k → NoTypeClass k
+no_type_class c.Int h = absurd h
+no_type_class c.Char h = absurd h
+no_type_class c.Short h = absurd h
+no_type_class c.Unsigned h = absurd h
+no_type_class c.Void h = absurd h
 no_type_class k h = tt
-no_type_class _ h = absurd h
 
 pub no_type : (ts : List Placed) → Starts ts → NoTypeWord ts
 no_type [] h = absurd h

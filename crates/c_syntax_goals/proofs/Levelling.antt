@@ -103,7 +103,9 @@ low_on (Goes r m) s t n pre post w d e ih = (
   subst (λ (x : Next). FirstAreLow (length pre) (marks_on x (λ r m. marks_of r m (pre ++ w)))) (sym (goes_freely s t n r m d)) (ih r m e),
 )
 low_on (Ends r) s t n [] post w d e ih = (low_end s t n r d, tt)
-low_on _ s t n _ post w d e ih = absurd (omega (arith, e, longer pre post))
+low_on (Ends r) s t n (p ∷ pre) post w d e ih = absurd (omega (arith, e, longer pre post))
+low_on Deep s t n pre post w d e ih = absurd (omega (arith, e, longer pre post))
+low_on Stuck s t n pre post w d e ih = absurd (omega (arith, e, longer pre post))
 
 pub low_before : (pre post w : List Placed) (s : Stack) (n : ℕ) → left_of (run limit s n (pre ++ post)) ≡ length post → FirstAreLow (length pre) (marks_of s n (pre ++ w))
 low_before [] post w s n e = tt

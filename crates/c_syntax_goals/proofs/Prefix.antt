@@ -71,8 +71,10 @@ module _ (L : ℕ → Bool) where
       → ((s : Stack) (m : ℕ) → left_of (run L s m (pre ++ bad ∷ post)) ≡ suc (length post) → run L s m (pre ++ bad ∷ w) ≡ moved (run L s m (pre ++ bad ∷ post)) (suc (length w)))
       → on x (pre ++ bad ∷ w) (λ s m. run L s m (pre ++ bad ∷ w)) ≡ moved (on x (pre ++ bad ∷ post) (λ s m. run L s m (pre ++ bad ∷ post))) (suc (length w))
   prefix_step (Goes s m) pre bad post w e ih = ih s m e
+  prefix_step Deep pre bad post w e ih = absurd (omega (arith, e, longer pre (bad ∷ post)))
+  prefix_step Stuck pre bad post w e ih = absurd (omega (arith, e, longer pre (bad ∷ post)))
   prefix_step (Ends s) [] bad post w e ih = refl
-  prefix_step _ _ bad post w e ih = absurd (omega (arith, e, longer pre (bad ∷ post)))
+  prefix_step (Ends s) (p ∷ pre) bad post w e ih = absurd (omega (arith, e, longer pre (bad ∷ post)))
 
   -- whatever stands behind the token of a fault, the fault is there
   pub prefix_law : (pre : List Placed) (bad : Placed) (post w : List Placed) (s : Stack) (n : ℕ) → left_of (run L s n (pre ++ bad ∷ post)) ≡ suc (length post) → run L s n (pre ++ bad ∷ w)

@@ -189,8 +189,16 @@ BeginClass c.Else = ⊥
 BeginClass k = Unit {0}
 
 start_begin : (k : Class) → StartClass k → BeginClass k
+start_begin c.Static h = absurd h
+start_begin c.Register h = absurd h
+start_begin c.Int h = absurd h
+start_begin c.Char h = absurd h
+start_begin c.Void h = absurd h
+start_begin c.Short h = absurd h
+start_begin c.Unsigned h = absurd h
+start_begin c.CloseBrace h = absurd h
+start_begin c.Else h = absurd h
 start_begin k h = tt
-start_begin _ h = absurd h
 
 abbrev pub Begins : List Placed → Type 0
 Begins [] = ⊥
@@ -214,13 +222,28 @@ begins (do_loop at s again o e) w = tt
 begins (for_loop at o a b d s) w = tt
 
 items_by : (k : Class) → BeginClass k → (t : Placed) (n : ℕ) (κ : SomeItems → Stack) → Statements.items_step k t n κ ≡ Statements.statement_step k t n (λ s. Want Items (λ is. κ (statement_item s is)))
+items_by c.Static h t n κ = absurd h
+items_by c.Register h t n κ = absurd h
+items_by c.Int h t n κ = absurd h
+items_by c.Char h t n κ = absurd h
+items_by c.Void h t n κ = absurd h
+items_by c.Short h t n κ = absurd h
+items_by c.Unsigned h t n κ = absurd h
+items_by c.CloseBrace h t n κ = absurd h
 items_by k h t n κ = refl
-items_by _ h t n _ = absurd h
 
 statement_by : (k : Class) → StartClass k → (t : Placed) (n : ℕ) (κ : AStatement → Stack) → Statements.statement_step k t n κ
     ≡ Expressions.expr_step k t n (λ e. Want (Back n) (λ x. Want WantSemi (λ y. κ (expression e))))
+statement_by c.OpenBrace h t n κ = absurd h
+statement_by c.If h t n κ = absurd h
+statement_by c.While h t n κ = absurd h
+statement_by c.Do h t n κ = absurd h
+statement_by c.For h t n κ = absurd h
+statement_by c.Semicolon h t n κ = absurd h
+statement_by c.Break h t n κ = absurd h
+statement_by c.Continue h t n κ = absurd h
+statement_by c.Return h t n κ = absurd h
 statement_by k h t n κ = refl
-statement_by _ h t n _ = absurd h
 
 items_local_by : (k : Class) → LocalClass k → (t : Placed) (n : ℕ) (κ : SomeItems → Stack) → Statements.items_step k t n κ ≡ Statements.local_step k t (item_local κ)
 items_local_by c.Static h t n κ = refl

@@ -100,16 +100,25 @@ commas_by c.Comma le n l κ = absurd (omega (arith, le))
 commas_by k le n l κ = refl
 
 tail_by : (k : Class) → floor k ≤ 1 → (t : Placed) (n : ℕ) (b : Bool) (l : AnExp) (κ : AnExp → Stack) → Expressions.tail_turn k t n b l κ ≡ Passes n l
+tail_by c.Equals le t n b l κ = absurd (omega (arith, le))
+tail_by c.Compound le t n b l κ = absurd (omega (arith, le))
+tail_by c.Question le t n b l κ = absurd (omega (arith, le))
+tail_by c.Infix le t n b l κ = absurd (omega (arith, le))
+tail_by c.Sign le t n b l κ = absurd (omega (arith, le))
+tail_by c.Star le t n b l κ = absurd (omega (arith, le))
 tail_by k le t n b l κ = refl
-tail_by _ le t n b l _ = absurd (omega (arith, le))
 
 post_by : (k : Class) → floor k ≤ 13 → (t : Placed) (n : ℕ) (l : AnExp) (κ : AnExp → Stack) → Expressions.post_turn k t n l κ ≡ Passes n l
+post_by c.OpenBracket le t n l κ = absurd (omega (arith, le))
+post_by c.OpenParen le t n l κ = absurd (omega (arith, le))
+post_by c.Step le t n l κ = absurd (omega (arith, le))
 post_by k le t n l κ = refl
-post_by _ le t n l _ = absurd (omega (arith, le))
 
 ended_by : (k : Class) → floor k ≤ 13 → (n : ℕ) → Expressions.ended_turn k n ≡ Passes n tt
+ended_by c.OpenBracket le n = absurd (omega (arith, le))
+ended_by c.OpenParen le n = absurd (omega (arith, le))
+ended_by c.Step le n = absurd (omega (arith, le))
 ended_by k le n = refl
-ended_by _ le n = absurd (omega (arith, le))
 
 call_by : (k : Class) → floor k ≤ 16 → (t : Placed) (n : ℕ) (f : List ℕ) (at : ℕ) (κ : AnExp → Stack) → Expressions.call_turn k t n f at κ ≡ Passes n (phrases.name f at)
 call_by c.OpenParen le t n f at κ = absurd (omega (arith, le))
@@ -139,17 +148,29 @@ tail_unset c.Compound h t n l κ = absurd h
 tail_unset k h t n l κ = refl
 
 group_by : (k : Class) → NoTypeClass k → (t : Placed) (o m n : ℕ) (κ : AnExp → Stack) → Groups.group_step k t o m n κ ≡ Expressions.expr_step k t n (paren_behind o m κ)
+group_by c.Int h t o m n κ = absurd h
+group_by c.Char h t o m n κ = absurd h
+group_by c.Void h t o m n κ = absurd h
+group_by c.Short h t o m n κ = absurd h
+group_by c.Unsigned h t o m n κ = absurd h
 group_by k h t o m n κ = refl
-group_by _ h t o m n _ = absurd h
 
 first_by : (k : Class) → NoTypeClass k → (t : Placed) (o m n : ℕ) (κ : AnExp → Stack) → Groups.first_step k t o m n κ ≡ Expressions.expr_step k t n (paren_behind o m (λ u. Want (Tail true u) κ))
+first_by c.Int h t o m n κ = absurd h
+first_by c.Char h t o m n κ = absurd h
+first_by c.Void h t o m n κ = absurd h
+first_by c.Short h t o m n κ = absurd h
+first_by c.Unsigned h t o m n κ = absurd h
 first_by k h t o m n κ = refl
-first_by _ h t o m n _ = absurd h
 
 sizeof_by : (k : Class) → NoTypeClass k → (t : Placed) (at o m n : ℕ) (κ : AnExp → Stack) → Groups.sizeof_group_step k t at o m n κ
     ≡ Expressions.expr_step k t n (paren_behind o m (λ u. κ (sizeof_exp at u)))
+sizeof_by c.Int h t at o m n κ = absurd h
+sizeof_by c.Char h t at o m n κ = absurd h
+sizeof_by c.Void h t at o m n κ = absurd h
+sizeof_by c.Short h t at o m n κ = absurd h
+sizeof_by c.Unsigned h t at o m n κ = absurd h
 sizeof_by k h t at o m n κ = refl
-sizeof_by _ h t at o m n _ = absurd h
 
 group_type_by : (k : Class) → TypeClass k → (t : Placed) (o m n : ℕ) (κ : AnExp → Stack) → Groups.group_step k t o m n κ ≡ Types.type_step k t (cast_behind o κ)
 group_type_by c.Int h t o m n κ = refl

@@ -190,8 +190,10 @@ module _ (t : Placed) (n : ℕ) (ts : List Opening) (u : AUnit) where
   back_post k e l κ h = alone 15 15 l n _ (By κ u) (omega arith) h
 
   back_ended : (k : Class) (κ : Unit {0} → Stack) → OfTurn (Expressions.ended_turn k n) κ k t n ts u → Yields (Want Ended κ) n (lead (Expressions.ended_turn k n) κ k t n ∷ ts) u
+  back_ended c.OpenBracket κ h = absurd h
+  back_ended c.Step κ h = absurd h
+  back_ended c.OpenParen κ h = absurd h
   back_ended k κ h = h
-  back_ended _ _ h = absurd h
 
   back_operator : (k : Class) → class_of t.kind ≡ k → InfixClass k → (l : AnExp) (κ : AnExp → Stack)
       → Yields (Want Cast (λ r. Want (Tail false (insert l (binary_in t.kind) t.at r)) κ)) (n + 1) ts u → Onto 3 2 l n (opens (n + 1) (spelled k t) ∷ ts) (By κ u)

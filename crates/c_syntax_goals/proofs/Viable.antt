@@ -108,7 +108,9 @@ module _ (L : ℕ → Bool) where
       → ((r : Stack) (m : ℕ) → left_of (run L r m (pre ++ post)) ≡ length post → Viable r m pre) → Viable s n (t ∷ pre)
   viable_on (Goes r m) s t n pre post d e ih = one_more s t n r m pre d (ih r m e)
   viable_on (Ends r) s t n [] post d e ih = last_one s t n r d
-  viable_on _ s t n _ post d e ih = absurd (omega (arith, e, longer pre post))
+  viable_on (Ends r) s t n (p ∷ pre) post d e ih = absurd (omega (arith, e, longer pre post))
+  viable_on Deep s t n pre post d e ih = absurd (omega (arith, e, longer pre post))
+  viable_on Stuck s t n pre post d e ih = absurd (omega (arith, e, longer pre post))
 
   -- the tokens before a fault
   pub viable : (pre post : List Placed) (s : Stack) (n : ℕ) → left_of (run L s n (pre ++ post)) ≡ length post → Viable s n pre

@@ -20,8 +20,10 @@ abbrev form_by : Bool → Bool → Bool → ℕ → Result (Unit {0}) Fault
 form_by taken fits scalar at = if taken then bad at Twice else if fits then (if scalar then Ok tt else bad at BadType) else bad at BadInit
 
 scalar_by : (taken fits scalar : Bool) (at : ℕ) → form_by taken fits scalar at ≡ Ok tt → scalar ≡ true
+scalar_by true fits scalar at h = absurd (cc)
+scalar_by false false scalar at h = absurd (cc)
 scalar_by false true true at h = refl
-scalar_by _ _ _ at h = absurd (cc)
+scalar_by false true false at h = absurd (cc)
 
 pub form_free : (d : ADeclarator) (t : CType) (s : Scope) → form_of d t s ≡ Ok tt → find s.here d.name ≡ None
 unfolding form_of is_taken

@@ -97,13 +97,19 @@ module _ (result : Status) (file : File) where
   long h (Memory is) = inr is
   long h (Refused (Long is longer)) = inl is
   long h (Refused (Wrong is line wrong)) = absurd (long_not_wrong description_form file line h wrong)
-  long h _ = absurd (long_no_item description_form file d h holds)
+  long h (Refused (Full is d holds many)) = absurd (long_no_item description_form file d h holds)
+  long h (Refused (Stops d fault is holds few real sums)) = absurd (long_no_item description_form file d h holds)
+  long h (Refused (Unshown d r is holds few sums never first)) = absurd (long_no_item description_form file d h holds)
+  long h (Accepted d holds accepted) = absurd (long_no_item description_form file d h holds)
 
   wrong_file : IsNoItem description_form file → Comes result file → IsAnswer statuses.DescRefused result
   wrong_file h (Memory is) = inr is
   wrong_file h (Refused (Long is longer)) = absurd (none_not_long description_form file h longer)
   wrong_file h (Refused (Wrong is line wrong)) = inl is
-  wrong_file h _ = absurd (none_no_item description_form file d h holds)
+  wrong_file h (Refused (Full is d holds many)) = absurd (none_no_item description_form file d h holds)
+  wrong_file h (Refused (Stops d fault is holds few real sums)) = absurd (none_no_item description_form file d h holds)
+  wrong_file h (Refused (Unshown d r is holds few sums never first)) = absurd (none_no_item description_form file d h holds)
+  wrong_file h (Accepted d holds accepted) = absurd (none_no_item description_form file d h holds)
 
   full : (d : Content) → IsItem description_form file d → HasTooManySets d → Comes result file → IsAnswer statuses.Full result
   full d h many (Memory is) = inr is

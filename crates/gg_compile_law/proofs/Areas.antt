@@ -152,8 +152,10 @@ not_double (areas.Label m) pre post n code e = by (is_service m) (has_area_label
 
     by : (b c d : Bool) → has_area_label (pre ++ areas.Label n ∷ post) m ≡ c → cond (b || (c || d)) (Some m) (double_area_label (pre ++ areas.Label n ∷ post) code) ≡ None
         → (bytes_eq m n ≡ false) × (double_area_label (pre ++ areas.Label n ∷ post) code ≡ None)
+    by true c d h e = absurd (some_none m e)
+    by false true d h e = absurd (some_none m e)
+    by false false true h e = absurd (some_none m e)
     by false false false h e = (other (bytes_eq m n) refl h, e)
-    by _ _ _ h e = absurd (some_none m e)
 
 pub first_address : (pre post : List AreaItem) (n : List ℕ) (code : List CodeItem) (at : ℕ) → double_area_label (pre ++ areas.Label n ∷ post) code ≡ None
     → address_from (pre ++ areas.Label n ∷ post) at n ≡ end_from pre at

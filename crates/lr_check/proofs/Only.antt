@@ -95,6 +95,10 @@ module _ (rules : List Rule) (stmt : ℕ) where
 
   pub ends_same : {at : ℕ} {before : List (List Sym)} {ws : List Token} {s : List Part} {o p : Outcome} → Ends rules stmt at before ws s o → Ends rules stmt at before ws s p → p ≡ o
   ends_same (loops h) (loops k) = refl
+  ends_same (loops h) (accepts n e f) = absurd (n h)
+  ends_same (loops h) (shifts n e b x) = absurd (n h)
+  ends_same (loops h) (reduces r n d e x) = absurd (n h)
+  ends_same (loops h) (blocks n d) = absurd (n h)
   ends_same (accepts n e f) (loops k) = absurd (n k)
   ends_same (accepts n e f) (accepts m g h) = refl
   ends_same (accepts n e f) (shifts m g b x) = absurd (g f)
@@ -120,7 +124,6 @@ module _ (rules : List Rule) (stmt : ℕ) where
   ends_same (blocks n d) (shifts m g b y) = absurd (d.no_shift b)
   ends_same (blocks {ws = ws} {s = s} {s' = u} n d) (reduces {n = i} {s' = v} r m c e y) = absurd (some_none i (sym (reduction_same ws s u v None (Some i) d c).0))
   ends_same (blocks n d) (blocks m c) = refl
-  ends_same _ _ = absurd (n h)
 
 unfolds_same : (nodes : List Node) {l : List ℕ} {w u : List Token} → Unfolds nodes l w → Unfolds nodes l u → w ≡ u
 unfolds_same nodes ends ends = refl

@@ -64,8 +64,12 @@ module _ {L X : Type 0} (of : Answering L X) (rules : List Rule) (stmt : ℕ) wh
   one_way (shifts n q b g) (loops k) = absurd (n k)
   one_way (shifts n q b g) (accepts m s f) = absurd (q f)
   one_way (shifts {l = l} {log = log} {e = e} n q b g) (shifts {log = log'} {e = e'} m p c h) = more_same (Shift l) log log' e e' (one_way g h)
+  one_way (shifts n q b g) (reduces r m c t red h) = absurd (c.no_shift b)
+  one_way (shifts n q b g) (refuses r m c t f) = absurd (c.no_shift b)
+  one_way (shifts n q b g) (blocks m c) = absurd (c.no_shift b)
   one_way (reduces r n c t red g) (loops k) = absurd (n k)
   one_way (reduces r n c t red g) (accepts m s f) = absurd (not_shifted c s f)
+  one_way (reduces r n c t red g) (shifts m q b h) = absurd (c.no_shift b)
   one_way (reduces {at = at} {n = i} {before = before} {ws = ws} {a = a} {x = x} {y = y} {z = z} {log = log} {e = e} r n c t red g)
       (reduces {n = j} {y = y'} {z = z'} {log = log'} {e = e'} q m d u blue h) =
       let b = both_reduced ws a x i j y y' r q (Some z) (Some z') c d t u red blue in
@@ -79,16 +83,17 @@ module _ {L X : Type 0} (of : Answering L X) (rules : List Rule) (stmt : ℕ) wh
   one_way (reduces {n = i} {ws = ws} {a = a} {x = x} {y = y} r n c t red g) (blocks {y = y'} m d) = absurd (some_none i (choice_same ws a x (Some i) None y y' c d))
   one_way (refuses r n c t f) (loops k) = absurd (n k)
   one_way (refuses r n c t f) (accepts m s g) = absurd (not_shifted c s g)
+  one_way (refuses r n c t f) (shifts m q b h) = absurd (c.no_shift b)
   one_way (refuses {n = i} {ws = ws} {a = a} {x = x} {y = y} r n c t f) (reduces {n = j} {y = y'} {z = z} q m d u red h) =
       absurd (some_none z (sym (both_reduced ws a x i j y y' r q None (Some z) c d t u f red).2))
   one_way (refuses r n c t f) (refuses q m d u g) = (refl, refl)
   one_way (refuses {n = i} {ws = ws} {a = a} {x = x} {y = y} r n c t f) (blocks {y = y'} m d) = absurd (some_none i (choice_same ws a x (Some i) None y y' c d))
   one_way (blocks n c) (loops k) = absurd (n k)
   one_way (blocks n c) (accepts m s f) = absurd (not_shifted c s f)
+  one_way (blocks n c) (shifts m q b h) = absurd (c.no_shift b)
   one_way (blocks {ws = ws} {a = a} {x = x} {y = y} n c) (reduces {n = i} {y = y'} r m d t red h) = absurd (some_none i (choice_same ws a x (Some i) None y' y d c))
   one_way (blocks {ws = ws} {a = a} {x = x} {y = y} n c) (refuses {n = i} {y = y'} r m d t f) = absurd (some_none i (choice_same ws a x (Some i) None y' y d c))
   one_way (blocks n c) (blocks m d) = (refl, refl)
-  one_way _ _ = absurd (c.no_shift b)
 
 pub parse_one_way : {L X : Type 0} (of : Answering L X) → IsOneWay of
 parse_one_way of rules stmt at before w a x log log' e e' g h = one_way of rules stmt g h

@@ -60,6 +60,9 @@ module _ {A : Automaton} {f : FoundView} {x : Place} where
   begun_first (second there h sum fit g) i y e at = absurd (cc)
 
   pub begun_second : {o : Origin} → Begun A f x o → (i n : ℕ) (y : Place) → o ≡ origin.Second i n → IsPlaceAt f i y → BegunSecond A f n x y
+  begun_second (root h) i n y e at = absurd (cc)
+  begun_second (only there h g) i n y e at = absurd (cc)
+  begun_second (first m there h g may) i n y e at = absurd (cc)
   begun_second (second {i = j} {n = k} {p = p} {j = q} {y = y'} {z = z} {w = w} {v = v} {s = s} there h sum fit g) i n y e at =
       let same : j ≡ i = cc in
       let number : k ≡ n = cc in
@@ -67,7 +70,6 @@ module _ {A : Automaton} {f : FoundView} {x : Place} where
       subst (λ l. BegunSecond A f l x y) number
       (subst (BegunSecond A f k x) place
       (record { sort = w; second_sort = v; state = p; last = q; kid = z; list = s; has = h; sum = sum; fits = fit; second_fits = g }))
-  begun_second _ i n y e at = absurd (cc)
 
 pub begun_so : (A : Automaton) (f : FoundView) → IsFound A f → (n : ℕ) (x : Place) (o : Origin) → IsPlaceAt f n x → IsOrigin f n o → Begun A f x o
 begun_so A f found n x o at is =

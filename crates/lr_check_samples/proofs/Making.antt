@@ -133,13 +133,17 @@ module _ {A : Automaton} {f : FoundView} {n : ℕ} {x : Place} where
   made_leaf _ e = absurd (cc)
 
   pub made_one : {h : How} {s : List Sym} → Made A f n x h s → (i : ℕ) → h ≡ how.One i → MadeOne A f i x s
+  made_one (leaf go none) i e = absurd (cc)
   made_one (one {i = j} {p = p} {j = q} {y = y} {w = w} {s = s} h sum g) i e =
       let same : j ≡ i = cc in
       subst (λ k. MadeOne A f k x (s ++ (grammar_symbol.Tok x.token ∷ []))) same
       (record { sort = w; state = p; has = h; kid = y; behind = q; kid_list = s; sum = sum; fits = g; list = refl })
-  made_one _ i e = absurd (cc)
+  made_one (two h sum g sum' g') i e = absurd (cc)
+  made_one (made_by_reduction d r at same list behind free size) i e = absurd (cc)
 
   pub made_two : {h : How} {s : List Sym} → Made A f n x h s → (i k : ℕ) → h ≡ how.Two i k → MadeTwo A f i k x s
+  made_two (leaf go none) i k e = absurd (cc)
+  made_two (one h sum g) i k e = absurd (cc)
   made_two (two {i = j} {k = l} {p = p} {j = q} {h = o} {y = y} {z = z} {w = w} {v = v} {s = s} {u = u} h sum g sum' g') i k e =
       let first : j ≡ i = cc in
       let second : l ≡ k = cc in
@@ -162,9 +166,12 @@ module _ {A : Automaton} {f : FoundView} {n : ℕ} {x : Place} where
         second_fits = g';
         list = refl;
       }))
-  made_two _ i k e = absurd (cc)
+  made_two (made_by_reduction d r at same list behind free size) i k e = absurd (cc)
 
   pub made_reduced : {h : How} {s : List Sym} → Made A f n x h s → (i c : ℕ) → h ≡ how.Reduced i c → MadeReduced A f n i c x s
+  made_reduced (leaf go none) i c e = absurd (cc)
+  made_reduced (one h sum g) i c e = absurd (cc)
+  made_reduced (two h sum g sum' g') i c e = absurd (cc)
   made_reduced (made_by_reduction {i = j} {p = p} {s = s} d r at same list behind free size) i c e =
       let first : j ≡ i = cc in
       let left : r.left ≡ c = cc in
@@ -182,4 +189,3 @@ module _ {A : Automaton} {f : FoundView} {n : ℕ} {x : Place} where
         left = left;
         list = ap (λ l. grammar_symbol.Class l ∷ []) left;
       }
-  made_reduced _ i c e = absurd (cc)

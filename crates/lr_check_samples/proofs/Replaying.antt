@@ -50,7 +50,10 @@ module _ (rules : List Rule) (stmt : ℕ) where
   -- a stack that came before
   came : {at : ℕ} {before : List (List Sym)} {ws : List Token} {s : List Part} {o : Outcome} → Ends rules stmt at before ws s o → Contains before (symbols s) → o ≡ outcome.Loops at
   came (loops h) c = refl
-  came _ c = absurd (n c)
+  came (accepts n e f) c = absurd (n c)
+  came (shifts n e b x) c = absurd (n c)
+  came (reduces r n d e x) c = absurd (n c)
+  came (blocks n d) c = absurd (n c)
 
   -- reductions back to a stack that came before
   turned : {at : ℕ} {before : List (List Sym)} {ws : List Token} {s : List Part} {o : Outcome} → Ends rules stmt at before ws s o → (b : List Part) → Turns rules stmt ws s b →

@@ -40,9 +40,11 @@ pushes-append (d ∷ ds) es z = ap (push_at d) (pushes-append ds es z)
 -- a push by a right side is a push at a depth
 pub push_is : (right : List Sym) (d : ℕ) (z : List Part) → length right ≡ suc d → push right false z ≡ push_at d z
 push_is right d [] e = refl
+push_is [] d (h ∷ a) e = absurd (omega arith)
 push_is (X ∷ []) zero (h ∷ a) e = refl
+push_is (X ∷ []) (suc d) (h ∷ a) e = absurd (omega arith)
+push_is (X ∷ Y ∷ right) zero (h ∷ a) e = absurd (omega arith)
 push_is (X ∷ Y ∷ right) (suc d) (h ∷ a) e = ap (λ l. h ∷ l) (push_is (Y ∷ right) d a (omega arith))
-push_is _ _ _ e = absurd (omega arith)
 
 -- at the root of a list, and below it
 pub push-root : (right s : List Sym) (x : Bool) (b : List Bool) (z : List Part) → length right ≡ length s → 0 < length s → push right x (hold s b ++ z) ≡ hold s (x ∷ b) ++ z
@@ -56,9 +58,11 @@ push-below (Y ∷ V ∷ right) (X ∷ W ∷ s) d b z e lt = ap (λ l. record { s
 push-below _ _ d b z e lt = absurd (omega arith)
 
 pub push_at-root : (s : List Sym) (d : ℕ) (b : List Bool) (z : List Part) → length s ≡ suc d → push_at d (hold s b ++ z) ≡ hold s (false ∷ b) ++ z
+push_at-root [] d b z e = absurd (omega arith)
 push_at-root (X ∷ []) zero b z e = refl
+push_at-root (X ∷ []) (suc d) b z e = absurd (omega arith)
+push_at-root (X ∷ W ∷ s) zero b z e = absurd (omega arith)
 push_at-root (X ∷ W ∷ s) (suc d) b z e = ap (λ l. record { symbol = X; answers = [] } ∷ l) (push_at-root (W ∷ s) d b z (omega arith))
-push_at-root _ _ b z e = absurd (omega arith)
 
 pub push_at-below : (s : List Sym) (d e : ℕ) (b : List Bool) (z : List Part) → d ≡ length s + e → push_at d (hold s b ++ z) ≡ hold s b ++ push_at e z
 push_at-below [] d e b z h = let same : d ≡ e = omega arith in ap (λ n. push_at n z) same

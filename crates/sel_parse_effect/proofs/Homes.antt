@@ -106,11 +106,15 @@ module _ {O I S F : Type 0} (of : Meaning O I S F) (law : IsLawful of) (q : Tree
 
   class_place : (m : S) (k : Option Kind) (a : Attr O) (v : Sense) (z : Size) (g : Place) → ClassIs of q d first f fs t s m0 m k a v
       → means q.objects s v ≡ g → IsPlace z g → Stood m z (own_operand of a) g × (size_of_entry k ≡ Some z)
+  class_place m k a v z g (stands.register r n lt is) e h = absurd (no_place (values.Number n) z g e h)
+  class_place m k a v z g (stands.in_slot w n le lt is) e h = absurd (no_place (values.Number n) z g e h)
+  class_place m k a v z g (stands.value y o n fits is) e h = absurd (no_place (values.Number n) z g e h)
   class_place m k a v z g (stands.place y o p fits is) e h =
       let place = subst (PlaceIs of f t m y o) e is in
       let same = size_of_place m z y o g place h in
       (record { operand = o; is = refl; place = subst (λ w. PlaceIs of f t m w o g) (sym same) place }, ap Some (sym same))
-  class_place m k a v z g _ e h = absurd (no_place (values.Number n) z g e h)
+  class_place m k a v z g (stands.number n lt) e h = absurd (no_place (values.Number n) z g e h)
+  class_place m k a v z g (stands.address o n fits is) e h = absurd (no_place (values.Number n) z g e h)
 
   -- a symbol that stands for a place has an operand that does
   symbol_place : (m : S) (x : Sym) (k : Option Kind) (a : Attr O) (v : Sense) (z : Size) (g : Place) → IsSymbol m x k a v

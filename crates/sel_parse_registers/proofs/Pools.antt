@@ -148,9 +148,11 @@ module _ {X : Type 0} (f : X → ℕ) where
 -- ---- what makes a register free: it is of the pool, no entry below holds it, and no symbol, unless theirs were given back
 
 pub free_parts : (p b g s : Bool) → (p && (not b && (g || not s))) ≡ true → (p ≡ true) × (b ≡ false) × (g ≡ false → s ≡ false)
+free_parts false b g s e = absurd (cc)
+free_parts true true g s e = absurd (cc)
 free_parts true false true s e = (refl, refl, λ f. absurd (cc))
+free_parts true false false true e = absurd (cc)
 free_parts true false false false e = (refl, refl, λ f. refl)
-free_parts _ _ _ _ e = absurd (cc)
 
 pub made_free : (p b g s : Bool) → p ≡ true → b ≡ false → (g ≡ false → s ≡ false) → (p && (not b && (g || not s))) ≡ true
 made_free false b g s e f h = absurd (cc)
@@ -161,5 +163,7 @@ made_free true false false false e f h = refl
 
 pub not_free : (p b g s : Bool) → (p && (not b && (g || not s))) ≡ false → b ≡ false → (g ≡ false → s ≡ false) → p ≡ false
 not_free false b g s e f h = refl
+not_free true true g s e f h = absurd (cc)
+not_free true false true s e f h = absurd (cc)
 not_free true false false true e f h = absurd (let k = h refl in true≢false k)
-not_free true _ _ _ e f h = absurd (cc)
+not_free true false false false e f h = absurd (cc)

@@ -228,9 +228,12 @@ module _ {O I S F : Type 0} (of : Meaning O I S F) (law : IsLawful of) (q : Tree
           subst (λ b. IsNumber (attr.Token (record { tok = x; att = b }))) (sym r.1) (record { number = r.0; small = low; own = refl })
 
       number_class : (k : Option Kind) (a : Attr O) → KindFits of k a → k ≡ Some kind.Con → IsNumber a
+      number_class (Some kind.Reg) (attr.Reg r) h e = absurd (cc)
+      number_class (Some (kind.Value z)) (attr.Value o) h e = absurd (cc)
+      number_class (Some (kind.Place z)) (attr.Place o) h e = absurd (cc)
       number_class (Some kind.Con) (attr.Con n) h e = record { number = n; small = h; own = refl }
+      number_class (Some kind.Ea) (attr.Ea o) h e = absurd (cc)
       number_class k a h e = absurd h
-      number_class _ _ h e = absurd (cc)
 
       number_symbol : (s : Sym) (a : Attr O) → IsFine of law q d first s a → IsLoaded a → (y : Sym) → IsNumeric d.classes y → s ≡ y → IsNumber a
       number_symbol s a (fine.token l fit own) k y (shapes.constant w c) e =

@@ -115,11 +115,14 @@ module _ (objects : List Object) (s : Sight) where
 
   two_down : (v w : Value) (f : ℕ → ℕ → Value) → Alive (Of (bind v (λ x. bind w (λ y. f x y)))) → HasNumber v × HasNumber w
   two_down (Number x) (Number y) f h = (record { number = x; is = refl }, record { number = y; is = refl })
+  two_down (Number x) ZeroDivisor f (inl h) = absurd (let e = h.is in cc)
+  two_down (Number x) Wild f (inl h) = absurd (let e = h.is in cc)
+  two_down ZeroDivisor w f (inl h) = absurd (let e = h.is in cc)
+  two_down Wild w f (inl h) = absurd (let e = h.is in cc)
   two_down (Number x) ZeroDivisor f (inr h) = absurd h
   two_down (Number x) Wild f (inr h) = absurd h
   two_down ZeroDivisor w f (inr h) = absurd h
   two_down Wild w f (inr h) = absurd h
-  two_down _ _ f _ = absurd (let e = h.is in cc)
 
   one_down : (v : Value) (f : ℕ → Value) → Alive (Of (bind v f)) → HasNumber v
   one_down (Number x) f h = record { number = x; is = refl }
@@ -182,17 +185,22 @@ module _ (objects : List Object) (s : Sight) where
   token_down tok.Zxw a gs h = (one_down (kid s (slice_get gs 0)) (converted tok.Zxw) h, tt)
   token_down tok.Ncb a gs h = (one_down (kid s (slice_get gs 0)) (converted tok.Ncb) h, tt)
   token_down tok.Ncw a gs h = (one_down (kid s (slice_get gs 0)) (converted tok.Ncw) h, tt)
+  token_down tok.AssignB a gs (inl h) = absurd (let e = h.is in cc)
   token_down tok.AssignB a gs (inr h) = absurd h
+  token_down tok.AssignW a gs (inl h) = absurd (let e = h.is in cc)
   token_down tok.AssignW a gs (inr h) = absurd h
+  token_down tok.AssignL a gs (inl h) = absurd (let e = h.is in cc)
   token_down tok.AssignL a gs (inr h) = absurd h
+  token_down tok.Cbr a gs (inl h) = absurd (let e = h.is in cc)
   token_down tok.Cbr a gs (inr h) = absurd h
+  token_down tok.Push a gs (inl h) = absurd (let e = h.is in cc)
   token_down tok.Push a gs (inr h) = absurd h
+  token_down tok.Ret a gs (inl h) = absurd (let e = h.is in cc)
   token_down tok.Ret a gs (inr h) = absurd h
   token_down tok.Call a gs h = tt
   token_down tok.Save a gs h = tt
   token_down tok.Jump a gs h = tt
   token_down tok.End a gs h = tt
-  token_down _ a gs _ = absurd (let e = h.is in cc)
 
   deed_down : (t : Tok) (a : Att) (gs : List Meaning) → IsDeed (deed_of s t a (slice_get gs 0) (slice_get gs 1)) → SettledAll (kids t) gs 0
   deed_down tok.AssignB a gs h = (let e = assigned_down (slice_get gs 0) (kid s (slice_get gs 1)) h in (e.0, (e.1, tt)))

@@ -153,11 +153,15 @@ module _ (m : State) (w : ℕ) (f : IsFrameWord m w) where
 
     all_three : (a b c : Bool) (o : ℕ) → is_some (cond (a && (b && c)) (Some o) None) ≡ true → (a ≡ true) × (b ≡ true) × (c ≡ true)
     all_three true true true o e = (refl, refl, refl)
-    all_three _ _ _ o e = absurd (false≢true e)
+    all_three true true false o e = absurd (false≢true e)
+    all_three true false c o e = absurd (false≢true e)
+    all_three false b c o e = absurd (false≢true e)
 
     two_more : (a b c : Bool) → (a && (b && c)) ≡ true → (a ≡ true) × (b ≡ true) × (c ≡ true)
     two_more true true true e = (refl, refl, refl)
-    two_more _ _ _ e = absurd (false≢true e)
+    two_more true true false e = absurd (false≢true e)
+    two_more true false c e = absurd (false≢true e)
+    two_more false b c e = absurd (false≢true e)
 
     by_word : (n : ℕ) → is_some (word_below n) ≡ true → is_word (word_below n) w ≡ false → (4 ≤ n) × (n ≤ 4096) × (n % 4 ≡ 0) × (n / 4 - 1 ≡ w → ⊥)
     by_word n some other =
