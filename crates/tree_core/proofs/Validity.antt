@@ -6,14 +6,15 @@ use Rattle.tree_core.specs.declared.program.TreeFn.{TreeFn}
 use Rattle.tree_core.specs.declared.program.Object.{Object}
 use Rattle.tree_core.specs.declared.program.TreeProgram.{TreeProgram}
 use Rattle.tree_core.specs.Labels.{LabelsOnce, TargetsStand}
-use Rattle.tree_core.specs.Valid.{NamesRight, ItemsStand, PushesStand, objects_lie, LinksLie, IsValid, rounded}
+use Rattle.tree_core.specs.Valid.{NamesRight, ItemsStand, WantedStand, PushesStand, objects_lie, LinksLie, IsValid, rounded}
 
 pub valid_so : (p : TreeProgram) (fs : List TreeFn) (os : List Object) (n : ℕ) (b : Bool) → fs ≡ p.functions → os ≡ p.objects → n ≡ length os → NamesRight fs → All (ItemsStand fs n) fs
-    → LabelsOnce fs → All TargetsStand fs → All PushesStand fs → objects_lie 65536 os ≡ true → (IsTrue b ↔ All (LinksLie (length os)) os) → IsTrue b ↔ IsValid p
-valid_so p fs os n b f o len names roots once targets calls objects links = (
+    → All WantedStand fs → LabelsOnce fs → All TargetsStand fs → All PushesStand fs → objects_lie 65536 os ≡ true → (IsTrue b ↔ All (LinksLie (length os)) os) → IsTrue b ↔ IsValid p
+valid_so p fs os n b f o len names roots wanted once targets calls objects links = (
   λ t. record {
     names = subst NamesRight f names;
     roots = subst (λ (gs : List TreeFn). All (ItemsStand gs (length p.objects)) gs) f (subst (λ (k : ℕ). All (ItemsStand fs k) fs) (len ∙ ap length o) roots);
+    wanted = subst (All WantedStand) f wanted;
     labels_once = subst LabelsOnce f once;
     targets = subst (All TargetsStand) f targets;
     calls = subst (All PushesStand) f calls;

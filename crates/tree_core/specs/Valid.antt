@@ -64,6 +64,17 @@ ItemStands fs objects f (tree_item.Root w) = IsTyped w sort.Stmt × AllPass (lea
 abbrev pub ItemsStand : List TreeFn → ℕ → TreeFn → Type 0
 ItemsStand fs objects f = All (ItemStands fs objects f) f.items
 
+-- no number stands twice
+abbrev pub NumbersDiffer : List ℕ → Type 0
+NumbersDiffer ns = (n : ℕ) → times n ns ≤ 1
+
+-- numbers of locals, of which there are so many, that differ
+abbrev pub LocalsStand : ℕ → List ℕ → Type 0
+LocalsStand locals ns = AllPass (λ n. nat_lt n locals) ns × NumbersDiffer ns
+
+abbrev pub WantedStand : TreeFn → Type 0
+WantedStand f = LocalsStand f.locals f.wanted
+
 abbrev pub PushesStand : TreeFn → Type 0
 PushesStand f = CallsInOrder f.items
 
@@ -132,6 +143,8 @@ pub record IsValid (p : TreeProgram) : Type 0 where
   pub names : NamesRight p.functions
   -- each root is a typed statement, and its leaves name what is there
   pub roots : All (ItemsStand p.functions (length p.objects)) p.functions
+  -- the numbers of the locals that a function wants in registers differ, and are below its locals
+  pub wanted : All WantedStand p.functions
   -- each label stands once in the whole program, and that of a branch or jump in the same function
   pub labels_once : LabelsOnce p.functions
   pub targets : All TargetsStand p.functions

@@ -5,6 +5,7 @@ pub mod area;
 mod items;
 mod labels;
 mod names;
+mod numbers;
 mod objects;
 mod program;
 pub mod spelling;
@@ -15,7 +16,8 @@ mod valid;
 mod window;
 
 pub use program::{
-    Leaves, Link, Links, Object, Objects, TreeFn, TreeFns, TreeItem, TreeItems, TreeProgram,
+    Leaves, Link, Links, LocalNumbers, Object, Objects, TreeFn, TreeFns, TreeItem, TreeItems,
+    TreeProgram,
 };
 pub use token::{AttKind, Sort, TOKENS, Tok, tokens};
 pub use tree::{Att, Leaf, Tree, linear, show_tree};

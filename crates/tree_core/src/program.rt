@@ -40,12 +40,17 @@ pub enum TreeItem {
 /// The labels and trees of a function, in order.
 pub type TreeItems = ListOf<TreeItem>;
 
-/// A function: how many arguments and locals it has, and what it does.
+/// Numbers of locals of a function.
+pub type LocalNumbers = ListOf<u32>;
+
+/// A function: how many arguments and locals it has, which of the locals the source wants in
+/// registers, and what it does.
 #[derive(Drop)]
 pub struct TreeFn {
     pub name: Name,
     pub args: u32,
     pub locals: u32,
+    pub wanted: LocalNumbers,
     pub items: TreeItems,
 }
 

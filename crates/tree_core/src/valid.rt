@@ -1,13 +1,14 @@
 // Which tree programs are valid.
 
-ghost use Rattle.std.specs.Prelude.{◌≡◌, ◌↔◌, ◌≤◌, ℕ, List, IsTrue, length};
+ghost use Rattle.std.specs.Prelude.{◌≡◌, ◌↔◌, ◌≤◌, ℕ, nat_lt, List, IsTrue, length};
 ghost use Rattle.std.specs.List.{All, AllPass, list_all};
 ghost use Rattle.tree_core.specs.Valid.{main_takes_nothing, args_of, leaf_names, names, ItemStands, ItemsStand, PushesStand};
-ghost use Rattle.tree_core.specs.Valid.{IsValid, NamesRight};
+ghost use Rattle.tree_core.specs.Valid.{IsValid, NamesRight, LocalsStand, WantedStand};
 
 use crate::items::calls_in_order;
 use crate::labels::{labels_stand_once, targets_stand};
 use crate::names::{count_named, names_differ};
+use crate::numbers::numbers_differ;
 use crate::objects::{links_lie, objects_lie};
 use crate::program::{TreeFn, TreeItem, TreeProgram};
 use crate::token::{AttKind, Sort};
@@ -15,8 +16,8 @@ use crate::tree::{Att, Leaf};
 use crate::typing::typed;
 
 impl TreeProgram {
-    /// Whether the program is valid: its names, trees, labels, calls, objects and links are as the
-    /// tree language has them.
+    /// Whether the program is valid: its names, trees, wanted locals, labels, calls, objects and
+    /// links are as the tree language has them.
     pub fn valid(&self) -> bool
         ensures { IsTrue result ↔ IsValid self.now }
     {
@@ -26,6 +27,9 @@ impl TreeProgram {
             return false;
         }
         if !roots_stand(functions, objects.len()) {
+            return false;
+        }
+        if !wanted_stand(functions) {
             return false;
         }
         if !labels_stand_once(functions) {
@@ -133,6 +137,25 @@ pub fn args_of(functions: &[TreeFn], number: u32) -> Option<u32>
         None if number - functions.len() == 1 => Some(0),
         None => None,
     }
+}
+
+fn wanted_stand(functions: &[TreeFn]) -> bool
+    ensures { IsTrue result ↔ All WantedStand functions.now }
+{
+    functions.iter().all(|function| locals_stand(function.locals, function.wanted.as_slice()))
+}
+
+// Whether the numbers are below how many locals there are, and differ.
+fn locals_stand(locals: u32, numbers: &[u32]) -> bool
+    ensures { IsTrue result ↔ LocalsStand locals numbers.now }
+{
+    are_locals(locals, numbers) && numbers_differ(numbers)
+}
+
+fn are_locals(locals: u32, numbers: &[u32]) -> bool
+    ensures { IsTrue result ↔ AllPass (λ n. nat_lt n locals) numbers.now }
+{
+    numbers.iter().all(|number| *number < locals)
 }
 
 fn pushes_stand(functions: &[TreeFn]) -> bool
