@@ -315,8 +315,15 @@ module _ (program : TreeProgram) (code : List TreeItem) (callers : List Activati
       goes_there ContinueOf lb lc to scope outer sub inside fit e k is κ h st d ag =
           let same : lc ≡ to = cc in
           subst (λ x. Leads k (κ Continued st) (at_items program code callers (behind code x) d)) same (h.continued fit st d (agree_less size (length callers) outer scope st d sub ag))
+      goes_there (DeclareOf ds) lb lc to scope outer sub inside fit e k is κ h st d ag = absurd (cc)
       goes_there (BlockOf row) lb lc to scope outer sub inside fit e k is κ h st d ag = alone_there row lb lc to scope outer sub inside fit e k is κ h st d ag
-      goes_there _ lb lc to scope outer sub inside fit e k is _ h st d ag = absurd (cc)
+      goes_there (EvaluateOf x) lb lc to scope outer sub inside fit e k is κ h st d ag = absurd (cc)
+      goes_there (ReturnOf x) lb lc to scope outer sub inside fit e k is κ h st d ag = absurd (cc)
+      goes_there (IfOf c a) lb lc to scope outer sub inside fit e k is κ h st d ag = absurd (cc)
+      goes_there (IfElseOf c a b) lb lc to scope outer sub inside fit e k is κ h st d ag = absurd (cc)
+      goes_there (WhileOf c a) lb lc to scope outer sub inside fit e k is κ h st d ag = absurd (cc)
+      goes_there (DoOf a c) lb lc to scope outer sub inside fit e k is κ h st d ag = absurd (cc)
+      goes_there (ForOf i c x a) lb lc to scope outer sub inside fit e k is κ h st d ag = absurd (cc)
 
       alone_there : (row : SomeActions) (lb lc to : ℕ) (scope outer : ℕ → Type 0) → ((x : ℕ) → outer x → scope x) → (inside : Bool) → FitsActs size scope inside row
           → going_alone row lb lc ≡ Some to → (k : ℕ) (is : List Item) (κ : Behind) → Lands k lb lc inside outer scope is κ → (st : State) (d : Desk) → fair scope st d

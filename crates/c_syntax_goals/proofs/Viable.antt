@@ -158,7 +158,9 @@ goes_freely (Done v) t n r m e = absurd (cc)
 goes_freely (Want g κ) t n r m e = turn_goes (turn g (class_of t.kind) t n κ) n r m _ _ e (λ i v q. goes_freely (κ v) t i r m q)
 
 pub no_deep : (s : Stack) (ts : List Placed) (k : ℕ) → at_end s ts ≡ Err (TooDeep k) → ⊥
-no_deep _ _ k e = absurd (cc)
+no_deep (Done u) [] k e = absurd (cc)
+no_deep (Want g κ) [] k e = absurd (cc)
+no_deep s (t ∷ ts) k e = absurd (cc)
 
 pub stuck_deep : (j k : ℕ) → ◌≡◌ {A = Result AUnit Fault} (Err (NotHere j)) (Err (TooDeep k)) → ⊥
 stuck_deep j k e = absurd (cc)

@@ -105,9 +105,11 @@ module _ (names : List (List ℕ × Entry)) (signatures : List Signature) (scope
   named_only at n t (NamesArray of v size found is) = rw (found, is) refl
 
   named_found : (at : ℕ) (n : List ℕ) (t : AnExpression) (o f : Option Entry) → lookup scope n ≡ o → named_by o f at ≡ Ok t → IsNamed names signatures scope n t
+  named_found at n t None None is e = absurd (cc)
+  named_found at n t None (Some g) is e = absurd (cc)
   named_found at n t (Some (entries.Variable of v)) f is e = NamesVariable of v is (cc)
   named_found at n t (Some (entries.Array of v size)) f is e = NamesArray of v size is (cc)
-  named_found at n t _ _ is e = absurd (cc)
+  named_found at n t (Some (entries.Function k)) f is e = absurd (cc)
 
   named_faults : (at : ℕ) (n : List ℕ) (g : Fault) (o f : Option Entry) → lookup scope n ≡ o → find names n ≡ f → named_by o f at ≡ Err g → NamedFault names signatures scope at n g
   named_faults at n g None None is also e = NamesNothing is also (cc)

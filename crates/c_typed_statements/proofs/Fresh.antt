@@ -10,7 +10,9 @@ use Rattle.c_typed_definition.specs.Headings.{earlier_by, parameter_form}
 
 pub earlier_none : (o : Option Entry) (at : ℕ) → earlier_by o at ≡ Ok None → o ≡ None
 earlier_none None at h = refl
-earlier_none _ at h = absurd (cc)
+earlier_none (Some (entries.Function n)) at h = absurd (cc)
+earlier_none (Some (entries.Variable t v)) at h = absurd (cc)
+earlier_none (Some (entries.Array t v n)) at h = absurd (cc)
 
 pub parameter_free : (o : Option Named) (n : Named) (defines : Bool) (at : ℕ) (p : AParam) (s : Scope) → o ≡ Some n → parameter_form o defines at p s ≡ Ok tt → find s.here n.name ≡ None
 unfolding is_taken

@@ -36,14 +36,20 @@ written whole out done b rest next e h = record {
 
 going : (m : State) (k : ℕ) (x : Next) → IsStep turns.Going m x → behind x (steps k) ≡ steps k m
 going m k (Goes n) step = ap (λ (s : State). steps k s) (sym step.1)
-going m k _ step = absurd (let e = step.0 in cc)
+going m k (Writes b n) step = absurd (let e = step.0 in cc)
+going m k (Stops (stops.Ended v)) step = absurd (let e = step.0 in cc)
+going m k (Stops stops.Trapped) step = absurd (let e = step.0 in cc)
+going m k (Stops (stops.Broken kind)) step = absurd (let e = step.0 in cc)
 
 wrote : (m : State) (k b : ℕ) (x : Next) → IsStep (turns.Wrote b) m x → behind x (steps k) ≡ byte_first b (steps k m)
+wrote m k b (Goes n) step = absurd (let e = step.0 in cc)
 wrote m k b (Writes c n) step =
     let e = step.0 in
     let byte : c ≡ b = cc in
     ap (λ (s : State). byte_first c (steps k s)) (sym step.1) ∙ ap (λ (d : ℕ). byte_first d (steps k m)) byte
-wrote m k b _ step = absurd (let e = step.0 in cc)
+wrote m k b (Stops (stops.Ended v)) step = absurd (let e = step.0 in cc)
+wrote m k b (Stops stops.Trapped) step = absurd (let e = step.0 in cc)
+wrote m k b (Stops (stops.Broken kind)) step = absurd (let e = step.0 in cc)
 
 -- so many steps of at most n are done
 abbrev pub Does : Outcome → ℕ → List ℕ → ℕ → State → Type 0

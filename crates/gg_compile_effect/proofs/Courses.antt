@@ -23,29 +23,49 @@ ends_comes (Comes m) n h = same m n h
   where
     same : (m n : State) → ◌≡◌ {A = target.Ending Instr State} (target.Comes m) (target.Comes n) → Comes m ≡ Comes n
     same m n h = cc
-ends_comes _ n h = absurd (cc)
+ends_comes (Goes l m) n h = absurd (cc)
+ends_comes (Calls name count m rest) n h = absurd (cc)
+ends_comes (Returns m) n h = absurd (cc)
+ends_comes (Stops (stops.Ended v)) n h = absurd (cc)
+ends_comes (Stops stops.Trapped) n h = absurd (cc)
+ends_comes (Stops (stops.Broken k)) n h = absurd (cc)
 
 ends_goes : (e : Ending) (label : List ℕ) (n : State) → ending_of e ≡ target.Goes label n → e ≡ Goes label n
+ends_goes (Comes m) label n h = absurd (cc)
 ends_goes (Goes l m) label n h = same l label m n h
   where
     same : (l label : List ℕ) (m n : State) → ◌≡◌ {A = target.Ending Instr State} (target.Goes l m) (target.Goes label n) → Goes l m ≡ Goes label n
     same l label m n h = cc
-ends_goes _ label n h = absurd (cc)
+ends_goes (Calls name count m rest) label n h = absurd (cc)
+ends_goes (Returns m) label n h = absurd (cc)
+ends_goes (Stops (stops.Ended v)) label n h = absurd (cc)
+ends_goes (Stops stops.Trapped) label n h = absurd (cc)
+ends_goes (Stops (stops.Broken k)) label n h = absurd (cc)
 
 ends_calls : (e : Ending) (name : List ℕ) (count : ℕ) (n : State) (rest : List Instr) → ending_of e ≡ target.Calls name count n rest → e ≡ Calls name count n rest
+ends_calls (Comes m) name count n rest h = absurd (cc)
+ends_calls (Goes l m) name count n rest h = absurd (cc)
 ends_calls (Calls a b m c) name count n rest h = same a b m c name count n rest h
   where
     same : (a : List ℕ) (b : ℕ) (m : State) (c : List Instr) (name : List ℕ) (count : ℕ) (n : State) (rest : List Instr)
         → ◌≡◌ {A = target.Ending Instr State} (target.Calls a b m c) (target.Calls name count n rest) → Calls a b m c ≡ Calls name count n rest
     same a b m c name count n rest h = cc
-ends_calls _ name count n rest h = absurd (cc)
+ends_calls (Returns m) name count n rest h = absurd (cc)
+ends_calls (Stops (stops.Ended v)) name count n rest h = absurd (cc)
+ends_calls (Stops stops.Trapped) name count n rest h = absurd (cc)
+ends_calls (Stops (stops.Broken k)) name count n rest h = absurd (cc)
 
 ends_returns : (e : Ending) (n : State) → ending_of e ≡ target.Returns n → e ≡ Returns n
+ends_returns (Comes m) n h = absurd (cc)
+ends_returns (Goes l m) n h = absurd (cc)
+ends_returns (Calls name count m rest) n h = absurd (cc)
 ends_returns (Returns m) n h = same m n h
   where
     same : (m n : State) → ◌≡◌ {A = target.Ending Instr State} (target.Returns m) (target.Returns n) → Returns m ≡ Returns n
     same m n h = cc
-ends_returns _ n h = absurd (cc)
+ends_returns (Stops (stops.Ended v)) n h = absurd (cc)
+ends_returns (Stops stops.Trapped) n h = absurd (cc)
+ends_returns (Stops (stops.Broken k)) n h = absurd (cc)
 
 ends_traps : (e : Ending) → ending_of e ≡ target.Traps → e ≡ Stops stops.Trapped
 ends_traps (Stops stops.Trapped) h = refl

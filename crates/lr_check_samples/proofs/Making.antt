@@ -130,7 +130,9 @@ pub record MadeReduced (A : Automaton) (f : FoundView) (n i c : ℕ) (x : Place)
 module _ {A : Automaton} {f : FoundView} {n : ℕ} {x : Place} where
   pub made_leaf : {h : How} {s : List Sym} → Made A f n x h s → h ≡ how.Leaf → MadeLeaf A x s
   made_leaf (leaf {p = p} go none) e = record { state = p; go = go; none = none; list = refl }
-  made_leaf _ e = absurd (cc)
+  made_leaf (one h sum g) e = absurd (cc)
+  made_leaf (two h sum g sum' g') e = absurd (cc)
+  made_leaf (made_by_reduction d r at same list behind free size) e = absurd (cc)
 
   pub made_one : {h : How} {s : List Sym} → Made A f n x h s → (i : ℕ) → h ≡ how.One i → MadeOne A f i x s
   made_one (leaf go none) i e = absurd (cc)

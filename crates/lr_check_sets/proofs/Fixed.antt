@@ -48,14 +48,19 @@ push_is (X ∷ Y ∷ right) (suc d) (h ∷ a) e = ap (λ l. h ∷ l) (push_is (Y
 
 -- at the root of a list, and below it
 pub push-root : (right s : List Sym) (x : Bool) (b : List Bool) (z : List Part) → length right ≡ length s → 0 < length s → push right x (hold s b ++ z) ≡ hold s (x ∷ b) ++ z
+push-root right [] x b z e lt = absurd (omega arith)
+push-root [] (X ∷ s) x b z e lt = absurd (omega arith)
 push-root (Y ∷ []) (X ∷ []) x b z e lt = refl
+push-root (Y ∷ V ∷ right) (X ∷ []) x b z e lt = absurd (omega arith)
+push-root (Y ∷ []) (X ∷ W ∷ s) x b z e lt = absurd (omega arith)
 push-root (Y ∷ V ∷ right) (X ∷ W ∷ s) x b z e lt = ap (λ l. record { symbol = X; answers = [] } ∷ l) (push-root (V ∷ right) (W ∷ s) x b z (omega arith) (omega arith))
-push-root _ _ x b z e lt = absurd (omega arith)
 
 pub push-below : (right s : List Sym) (d : ℕ) (b : List Bool) (z : List Part) → length right ≡ length s + suc d → 0 < length s → push right false (hold s b ++ z) ≡ hold s b ++ push_at d z
+push-below right [] d b z e lt = absurd (omega arith)
+push-below [] (X ∷ s) d b z e lt = absurd (omega arith)
+push-below (Y ∷ []) (X ∷ s) d b z e lt = absurd (omega arith)
 push-below (Y ∷ V ∷ right) (X ∷ []) d b z e lt = ap (λ l. record { symbol = X; answers = b } ∷ l) (push_is (V ∷ right) d z (omega arith))
 push-below (Y ∷ V ∷ right) (X ∷ W ∷ s) d b z e lt = ap (λ l. record { symbol = X; answers = [] } ∷ l) (push-below (V ∷ right) (W ∷ s) d b z (omega arith) (omega arith))
-push-below _ _ d b z e lt = absurd (omega arith)
 
 pub push_at-root : (s : List Sym) (d : ℕ) (b : List Bool) (z : List Part) → length s ≡ suc d → push_at d (hold s b ++ z) ≡ hold s (false ∷ b) ++ z
 push_at-root [] d b z e = absurd (omega arith)

@@ -152,9 +152,13 @@ module _ {O I S F : Type 0} (of : Meaning O I S F) (law : IsLawful of) (stores :
   leaf_in : (bs : List (Entry O)) (right : List Sym) (ws : List Sense) (j : ℕ) (l : Leaf) → Holds of q d first f fs t s m0 m bs right ws → slice_index_or ws j unknown ≡ OfLeaf l
       → (e : Entry O) × (slice_get bs j ≡ Some e) × (e.attr ≡ attr.Token l) × (leaf_fits l ≡ true) × Names of q d first f fs t s m0 l × (slice_get right j ≡ Some (grammar_symbol.Tok l.tok))
   leaf_in [] [] [] j l h e = absurd (cc)
+  leaf_in [] [] (w ∷ ws) j l h e = absurd h
+  leaf_in [] (x ∷ xs) ws j l h e = absurd h
+  leaf_in (b ∷ bs) [] [] j l h e = absurd h
+  leaf_in (b ∷ bs) [] (w ∷ ws) j l h e = absurd h
+  leaf_in (b ∷ bs) (x ∷ xs) [] j l h e = absurd h
   leaf_in (b ∷ bs) (x ∷ xs) (w ∷ ws) zero l h e = (let r = symbol_leaf x b.kind b.attr w l h.0 e in (b, refl, r.0, r.1, r.2, ap Some r.3))
   leaf_in (b ∷ bs) (x ∷ xs) (w ∷ ws) (suc j) l h e = leaf_in bs xs ws j l h.1 e
-  leaf_in _ _ _ j l h e = absurd h
 
   leaf_at : (j : ℕ) (l : Leaf) → slice_index_or vs j unknown ≡ OfLeaf l → LeafAt j l
   leaf_at j l e = (let r = leaf_in es rule.right vs j l standing e in record { entry = r.0; at = r.1; attr_is = r.2; fits = r.3; named = r.4; there = r.5 })

@@ -270,9 +270,11 @@ module _ {O I S F : Type 0} (of : Meaning O I S F) (law : IsLawful of) (q : Tree
   entered : (es : List (Entry O)) (right : List Sym) (vs : List Sense) (j : ℕ) (e : Entry O) → Hold of law q d first f fs t s m0 frame m sees es right vs → slice_get es j ≡ Some e
       → Entered es right j e
   entered [] right vs j e holds at = absurd (none-some e at)
+  entered (e' ∷ es) [] [] j e holds at = absurd holds
+  entered (e' ∷ es) [] (v ∷ vs) j e holds at = absurd holds
+  entered (e' ∷ es) (x ∷ xs) [] j e holds at = absurd holds
   entered (e' ∷ es) (x ∷ xs) (v ∷ vs) zero e holds at = subst (λ w. Entered (e' ∷ es) (x ∷ xs) zero w) (same_Some e' e at) (record { symbol = x; sense = v; is = holds.0; worth_is = refl })
   entered (e' ∷ es) (x ∷ xs) (v ∷ vs) (suc j) e holds at = (let r = entered es xs vs j e holds.1 at in record { symbol = r.symbol; sense = r.sense; is = r.is; worth_is = r.worth_is })
-  entered _ _ _ j e holds at = absurd holds
 
   record SpelledSame (a b : Option O) : Type 0 where
     operand : O

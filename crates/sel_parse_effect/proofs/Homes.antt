@@ -184,19 +184,25 @@ module _ {O I S F : Type 0} (of : Meaning O I S F) (law : IsLawful of) (q : Tree
   at_place : (m : S) (es : List (Entry O)) (right : List Sym) (vs : List Sense) (j : ℕ) (e : Entry O) → Holds of q d first f fs t s m0 m es right vs
       → slice_get es j ≡ Some e → AtPlace m right vs j e
   at_place m [] right vs j e holds at = absurd (none-some e at)
+  at_place m (b ∷ es) [] [] j e holds at = absurd holds
+  at_place m (b ∷ es) [] (v ∷ vs) j e holds at = absurd holds
+  at_place m (b ∷ es) (x ∷ xs) [] j e holds at = absurd holds
   at_place m (b ∷ es) (x ∷ xs) (v ∷ vs) zero e holds at =
       subst (AtPlace m (x ∷ xs) (v ∷ vs) zero) (same_Some b e at) (record { symbol = x; sense = v; there = refl; sensed = refl; is = holds.0 })
   at_place m (b ∷ es) (x ∷ xs) (v ∷ vs) (suc j) e holds at =
       let r = at_place m es xs vs j e holds.1 at in
       record { symbol = r.symbol; sense = r.sense; there = r.there; sensed = r.sensed; is = r.is }
-  at_place m _ _ _ j e holds at = absurd holds
 
   none_place : (m : S) (es : List (Entry O)) (right : List Sym) (vs : List Sense) (j : ℕ) → Holds of q d first f fs t s m0 m es right vs → slice_get es j ≡ None
       → slice_index_or vs j unknown ≡ unknown
   none_place m [] [] [] j holds at = refl
+  none_place m [] [] (v ∷ vs) j holds at = absurd holds
+  none_place m [] (x ∷ xs) vs j holds at = absurd holds
+  none_place m (b ∷ es) [] [] j holds at = absurd holds
+  none_place m (b ∷ es) [] (v ∷ vs) j holds at = absurd holds
+  none_place m (b ∷ es) (x ∷ xs) [] j holds at = absurd holds
   none_place m (b ∷ es) (x ∷ xs) (v ∷ vs) zero holds at = absurd (cc)
   none_place m (b ∷ es) (x ∷ xs) (v ∷ vs) (suc j) holds at = none_place m es xs vs j holds.1 at
-  none_place m _ _ _ j holds at = absurd holds
 
   -- at the choice, a symbol spells an operand that stands for the place
   pub record HomeFound (m : S) (es : List (Entry O)) (i : ℕ) (z : Size) (g : Place) : Type 0 where

@@ -200,10 +200,13 @@ module _ {O I S F : Type 0} (of : Meaning O I S F) (law : IsLawful of) (q : Tree
   at_right : (bs : List (Entry O)) (right : List Sym) (ws : List Sense) (j : ℕ) (x : Sym) → Holds of q d first f fs t s m0 m' bs right ws → AllLoaded bs → slice_get right j ≡ Some x
       → (e : Entry O) × (slice_get (attrs bs) j ≡ Some e.attr) × (u : Sense) × (slice_index_or ws j unknown ≡ u) × SymbolIs of q d first f fs t s m0 m' x e.kind e.attr u × IsLoaded e.attr
   at_right [] [] ws j x h k e = absurd (none-some x e)
+  at_right [] (y ∷ ys) ws j x h k e = absurd h
+  at_right (b ∷ bs) [] [] j x h k e = absurd h
+  at_right (b ∷ bs) [] (w ∷ ws) j x h k e = absurd h
+  at_right (b ∷ bs) (y ∷ ys) [] j x h k e = absurd h
   at_right (b ∷ bs) (y ∷ ys) (w ∷ ws) zero x h k e =
       (b, refl, w, refl, subst (λ z. SymbolIs of q d first f fs t s m0 m' z b.kind b.attr w) (same_Some y x e) h.0, k.0)
   at_right (b ∷ bs) (y ∷ ys) (w ∷ ws) (suc j) x h k e = at_right bs ys ws j x h.1 k.1 e
-  at_right _ _ _ j x h k e = absurd h
 
   found_at : (j : ℕ) (x : Sym) → slice_get rule.right j ≡ Some x → At j x
   found_at j x e =

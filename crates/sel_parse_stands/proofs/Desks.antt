@@ -159,6 +159,9 @@ module _ {O I S F : Type 0} (of : Meaning O I S F) (law : IsLawful of) (q : Tree
 
   picked : (m : S) (es : List (Entry O)) (xs : List Sym) (vs : List Sense) (i : ℕ) (e : Entry O) → Hold m es xs vs → slice_get es i ≡ Some e → Picked m es xs vs i e
   picked m [] xs vs i e holds at = absurd (none-some e at)
+  picked m (b ∷ es) [] [] i e holds at = absurd holds
+  picked m (b ∷ es) [] (v ∷ vs) i e holds at = absurd holds
+  picked m (b ∷ es) (x ∷ xs) [] i e holds at = absurd holds
   picked m (b ∷ es) (x ∷ xs) (v ∷ vs) zero e holds at = subst (Picked m (b ∷ es) (x ∷ xs) (v ∷ vs) zero) (same_Some b e at) (record {
     symbol = x;
     sense = v;
@@ -178,7 +181,6 @@ module _ {O I S F : Type 0} (of : Meaning O I S F) (law : IsLawful of) (q : Tree
     where
       first_kept : (m' : S) (spots : List Spot) → Keeps of spots m m' → Free spots (b ∷ es) → IsSymbol m' x b.kind b.attr v
       first_kept m' spots keeps free = (holds_kept of law q d first f fs t s m0 spots m m' (b ∷ []) (x ∷ []) (v ∷ []) keeps (free.0, tt) (holds.0, tt)).0
-  picked m _ _ _ i e holds at = absurd holds
 
   -- the same of what is carried on
   put_carried : (m m' m'' : S) (right : List Sym) (as_ es : List (Entry O)) (i : ℕ) (e : Entry O) (a : Attr O) (x : Sym) (spots : List Spot)
@@ -186,6 +188,9 @@ module _ {O I S F : Type 0} (of : Meaning O I S F) (law : IsLawful of) (q : Tree
       → Carried of q d f t m' m'' (size_of_symbol d.classes x) e.attr a
       → AllCarried of q d f t m m' right as_ es → AllCarried of q d f t m m'' right as_ (slice_set es i (record { kind = e.kind; attr = a }))
   put_carried m m' m'' right as_ [] i e a x spots keeps free at there new h = absurd (none-some e at)
+  put_carried m m' m'' [] [] (b ∷ es) i e a x spots keeps free at there new h = absurd h
+  put_carried m m' m'' [] (c ∷ as_) (b ∷ es) i e a x spots keeps free at there new h = absurd h
+  put_carried m m' m'' (y ∷ ys) [] (b ∷ es) i e a x spots keeps free at there new h = absurd h
   put_carried m m' m'' (y ∷ ys) (c ∷ as_) (b ∷ es) zero e a x spots keeps free at there new h = (
     on of q d f t m m' m'' (size_of_symbol d.classes y) c.attr b.attr a h.0
         (subst (λ (z : Entry O). Carried of q d f t m' m'' (size_of_symbol d.classes y) z.attr a) (sym (same_Some b e at))
@@ -196,7 +201,6 @@ module _ {O I S F : Type 0} (of : Meaning O I S F) (law : IsLawful of) (q : Tree
     on of q d f t m m' m'' (size_of_symbol d.classes y) c.attr b.attr b.attr h.0 (stays of q d f t spots m' m'' (size_of_symbol d.classes y) b.attr keeps free.0),
     put_carried m m' m'' ys as_ es i e a x spots keeps free.1 at there new h.1,
   )
-  put_carried m m' m'' _ _ _ i e a x spots keeps free at there new h = absurd h
 
   -- a frame word that no entry touches
   record Word (desk : Desk O I) (w : ℕ) : Type 0 where
@@ -572,5 +576,9 @@ module _ {O I S F : Type 0} (of : Meaning O I S F) (law : IsLawful of) (q : Tree
 
     pub holds_length : (m' : S) (bs : List (Entry O)) (xs : List Sym) (ws : List Sense) → Hold m' bs xs ws → length bs ≡ length xs
     holds_length m' [] [] [] h = refl
+    holds_length m' [] [] (w ∷ ws) h = absurd h
+    holds_length m' [] (x ∷ xs) ws h = absurd h
+    holds_length m' (b ∷ bs) [] [] h = absurd h
+    holds_length m' (b ∷ bs) [] (w ∷ ws) h = absurd h
+    holds_length m' (b ∷ bs) (x ∷ xs) [] h = absurd h
     holds_length m' (b ∷ bs) (x ∷ xs) (w ∷ ws) h = ap suc (holds_length m' bs xs ws h.1)
-    holds_length m' _ _ _ h = absurd h

@@ -58,17 +58,23 @@ module _ {O I S F : Type 0} (of : Meaning O I S F) (law : IsLawful of) (q : Tree
 
   pub found : (es : List (Entry O)) (right : List Sym) (vs : List Sense) (j : ℕ) (h : Attr O) → Hold es right vs → slice_get (hs_of es) j ≡ Some h → At es right vs j h
   found [] right vs j h holds at = absurd (cc)
+  found (e ∷ es) [] [] j h holds at = absurd holds
+  found (e ∷ es) [] (v ∷ vs) j h holds at = absurd holds
+  found (e ∷ es) (x ∷ xs) [] j h holds at = absurd holds
   found (e ∷ es) (x ∷ xs) (v ∷ vs) zero h holds at =
       record { symbol = x; kind = e.kind; sense = v; there = refl; sensed = refl; is = subst (λ a. SymbolIs of q d first f fs t s m0 m x e.kind a v) (same_Some e.attr h at) holds.0 }
   found (e ∷ es) (x ∷ xs) (v ∷ vs) (suc j) h holds at =
       (let r = found es xs vs j h holds.1 at in record { symbol = r.symbol; kind = r.kind; sense = r.sense; there = r.there; sensed = r.sensed; is = r.is })
-  found _ _ _ j h holds at = absurd holds
 
   missing : (es : List (Entry O)) (right : List Sym) (vs : List Sense) (j : ℕ) → Hold es right vs → slice_get (hs_of es) j ≡ None → slice_index_or vs j unknown ≡ unknown
   missing [] [] [] j holds at = refl
+  missing [] [] (v ∷ vs) j holds at = absurd holds
+  missing [] (x ∷ xs) vs j holds at = absurd holds
+  missing (e ∷ es) [] [] j holds at = absurd holds
+  missing (e ∷ es) [] (v ∷ vs) j holds at = absurd holds
+  missing (e ∷ es) (x ∷ xs) [] j holds at = absurd holds
   missing (e ∷ es) (x ∷ xs) (v ∷ vs) zero holds at = absurd (cc)
   missing (e ∷ es) (x ∷ xs) (v ∷ vs) (suc j) holds at = missing es xs vs j holds.1 at
-  missing _ _ _ j holds at = absurd holds
 
   -- the value of the symbol at index j
   abbrev pub symbol_by : List (Entry O) → List Sym → ℕ → Option ℕ
@@ -128,9 +134,13 @@ module _ {O I S F : Type 0} (of : Meaning O I S F) (law : IsLawful of) (q : Tree
 
     pub spelled_now : (es : List (Entry O)) (right : List Sym) (vs : List Sense) → HoldNow es right vs → AreSpelled q (attrs es)
     spelled_now [] [] [] holds = tt
+    spelled_now [] [] (v ∷ vs) holds = absurd holds
+    spelled_now [] (x ∷ xs) vs holds = absurd holds
+    spelled_now (e ∷ es) [] [] holds = absurd holds
+    spelled_now (e ∷ es) [] (v ∷ vs) holds = absurd holds
+    spelled_now (e ∷ es) (x ∷ xs) [] holds = absurd holds
     spelled_now (e ∷ es) (x ∷ xs) (v ∷ vs) holds =
         (symbol_spells of law q d first f fs t s m0 frame m' sees' x e.kind e.attr v holds.0, spelled_now es xs vs holds.1)
-    spelled_now _ _ _ holds = absurd holds
 
     pub instance : (every : Bool) (es es' : List (Entry O)) (rule : Rule) (vs : List Sense) (e : EffectShape)
         → IsValid q → IsRule d.classes rule → of.effect d.classes rule ≡ Ok e → AllLoaded es' → Hold es rule.right vs → HoldNow es' rule.right vs
@@ -184,10 +194,12 @@ module _ {O I S F : Type 0} (of : Meaning O I S F) (law : IsLawful of) (q : Tree
       found_now : (es : List (Entry O)) (right : List Sym) (vs : List Sense) (j : ℕ) (h : Attr O) → HoldNow es right vs → slice_get (attrs es) j ≡ Some h
           → (x : Sym) × (k : Option Kind) × (v : Sense) × (slice_get right j ≡ Some x) × SymbolIs of q d first f fs t s m0 m' x k h v
       found_now [] right vs j h holds at = absurd (cc)
+      found_now (e ∷ es) [] [] j h holds at = absurd holds
+      found_now (e ∷ es) [] (v ∷ vs) j h holds at = absurd holds
+      found_now (e ∷ es) (x ∷ xs) [] j h holds at = absurd holds
       found_now (e ∷ es) (x ∷ xs) (v ∷ vs) zero h holds at =
           (x, e.kind, v, refl, subst (λ a. SymbolIs of q d first f fs t s m0 m' x e.kind a v) (same_Some e.attr h at) holds.0)
       found_now (e ∷ es) (x ∷ xs) (v ∷ vs) (suc j) h holds at = found_now es xs vs j h holds.1 at
-      found_now _ _ _ j h holds at = absurd holds
 
       homes_at : (i : ℕ) (h : Attr O) (o : O) → hole (attrs es') i ≡ Some h → own_operand of h ≡ Some o → IsSome (of.names o (size_at d.classes rule.right i) m')
       homes_at zero h o at e' = absurd (none-some h at)

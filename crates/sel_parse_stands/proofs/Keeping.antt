@@ -47,8 +47,12 @@ module _ {O I S F : Type 0} (of : Meaning O I S F) (law : IsLawful of) (q : Tree
   pub holds_kept : (spots : List Spot) (m m' : S) (es : List (Entry O)) (a : List Sym) (us : List Sense) → Keeps of spots m m' → AllUntouched of q d f t spots es
       → Holds of q d first f fs t s m0 m es a us → Holds of q d first f fs t s m0 m' es a us
   holds_kept spots m m' [] [] [] keeps free h = tt
+  holds_kept spots m m' [] [] (v ∷ vs) keeps free h = absurd h
+  holds_kept spots m m' [] (x ∷ xs) vs keeps free h = absurd h
+  holds_kept spots m m' (e ∷ es) [] [] keeps free h = absurd h
+  holds_kept spots m m' (e ∷ es) [] (v ∷ vs) keeps free h = absurd h
+  holds_kept spots m m' (e ∷ es) (x ∷ xs) [] keeps free h = absurd h
   holds_kept spots m m' (e ∷ es) (x ∷ xs) (v ∷ vs) keeps free h = (symbol_kept spots m m' x e.kind e.attr v keeps free.0 h.0, holds_kept spots m m' es xs vs keeps free.1 h.1)
-  holds_kept spots m m' _ _ _ keeps free h = absurd h
 
   -- nothing touches no spot
   pub none_touched : (es : List (Entry O)) → AllUntouched of q d f t [] es

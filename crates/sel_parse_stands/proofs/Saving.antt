@@ -83,7 +83,9 @@ saved_respects k x t lt = record { bytes = bytes; words = words; counts = counts
   words (suc (suc i)) e = omega arith
 
   counts : (i : ℕ) → is_count (saved_facts k) i ≡ true → numbers x i < 32
-  counts _ e = absurd (cc)
+  counts zero e = absurd (cc)
+  counts (suc zero) e = absurd (cc)
+  counts (suc (suc i)) e = absurd (cc)
 
   alike : (i : ℕ) → numbers x (same_as (saved_facts k) i) ≡ numbers x i
   alike zero = refl

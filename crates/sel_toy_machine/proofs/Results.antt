@@ -89,13 +89,20 @@ no_quotient x y e = ap (div32 x) e
 
 -- a shape divides by nothing
 undivided_shape : (classes : List Class) (rule : Rule) (k : Option Kind) (g : ShapeForm) (e : EffectShape) → found_shape classes rule.right k g ≡ Some e → e.divisors ≡ []
+undivided_shape classes rule None (shape_form.Alone i) e h = absurd (none-some e h)
+undivided_shape classes rule None (shape_form.Based i) e h = absurd (none-some e h)
 undivided_shape classes rule (Some kind.Reg) (shape_form.Alone i) e h = sym (ap (λ (x : EffectShape). x.divisors) (where_is _ _ e h).1)
+undivided_shape classes rule (Some kind.Reg) (shape_form.Based i) e h = absurd (none-some e h)
 undivided_shape classes rule (Some kind.Con) (shape_form.Alone i) e h = sym (ap (λ (x : EffectShape). x.divisors) (where_is _ _ e h).1)
+undivided_shape classes rule (Some kind.Con) (shape_form.Based i) e h = absurd (none-some e h)
+undivided_shape classes rule (Some kind.Ea) (shape_form.Alone i) e h = absurd (none-some e h)
 undivided_shape classes rule (Some kind.Ea) (shape_form.Based i) e h = sym (ap (λ (x : EffectShape). x.divisors) (where_is _ _ e h).1)
+undivided_shape classes rule (Some kind.Nothing) (shape_form.Alone i) e h = absurd (none-some e h)
+undivided_shape classes rule (Some kind.Nothing) (shape_form.Based i) e h = absurd (none-some e h)
+undivided_shape classes rule (Some (kind.Value size)) (shape_form.Alone i) e h = absurd (none-some e h)
 undivided_shape classes rule (Some (kind.Value size)) (shape_form.Based i) e h = sym (ap (λ (x : EffectShape). x.divisors) (where_is _ _ e h).1)
 undivided_shape classes rule (Some (kind.Place size)) (shape_form.Alone i) e h = sym (ap (λ (x : EffectShape). x.divisors) (where_is _ _ e h).1)
 undivided_shape classes rule (Some (kind.Place size)) (shape_form.Based i) e h = sym (ap (λ (x : EffectShape). x.divisors) (where_is _ _ e h).1)
-undivided_shape classes rule _ _ e h = absurd (none-some e h)
 
 module _ (q : TreeProgram) (f : Extent) (fs : List Extent) (classes : List Class) (rule : Rule) (hs : List (Attr Operand)) (v : View) (m : Machine) where
   abbrev I : Bool → EffectShape → Type 0
@@ -258,13 +265,20 @@ form_narrow classes rule (form.Return i) e h = subst IsNarrowEffect (where_is _ 
 form_narrow classes rule (form.Save i) e h = subst IsNarrowEffect (where_is _ (undivided (Save i)) e h).1 (tt, tt)
 
 shape_narrow : (classes : List Class) (rule : Rule) (k : Option Kind) (g : ShapeForm) (e : EffectShape) → found_shape classes rule.right k g ≡ Some e → IsNarrowEffect e
+shape_narrow classes rule None (shape_form.Alone i) e h = absurd (none-some e h)
+shape_narrow classes rule None (shape_form.Based i) e h = absurd (none-some e h)
 shape_narrow classes rule (Some kind.Reg) (shape_form.Alone i) e h = subst IsNarrowEffect (where_is _ (undivided (Value (Symbol i))) e h).1 (tt, tt)
+shape_narrow classes rule (Some kind.Reg) (shape_form.Based i) e h = absurd (none-some e h)
 shape_narrow classes rule (Some kind.Con) (shape_form.Alone i) e h = subst IsNarrowEffect (where_is _ (undivided (Number (Symbol i))) e h).1 (tt, tt)
+shape_narrow classes rule (Some kind.Con) (shape_form.Based i) e h = absurd (none-some e h)
+shape_narrow classes rule (Some kind.Ea) (shape_form.Alone i) e h = absurd (none-some e h)
 shape_narrow classes rule (Some kind.Ea) (shape_form.Based i) e h = subst IsNarrowEffect (where_is _ (undivided (Address (Symbol i))) e h).1 (tt, tt)
+shape_narrow classes rule (Some kind.Nothing) (shape_form.Alone i) e h = absurd (none-some e h)
+shape_narrow classes rule (Some kind.Nothing) (shape_form.Based i) e h = absurd (none-some e h)
+shape_narrow classes rule (Some (kind.Value size)) (shape_form.Alone i) e h = absurd (none-some e h)
 shape_narrow classes rule (Some (kind.Value size)) (shape_form.Based i) e h = subst IsNarrowEffect (where_is _ (undivided (Value (Memory size (Symbol i)))) e h).1 (tt, tt)
 shape_narrow classes rule (Some (kind.Place size)) (shape_form.Alone i) e h = subst IsNarrowEffect (where_is _ (undivided (PlaceHome size i)) e h).1 (tt, tt)
 shape_narrow classes rule (Some (kind.Place size)) (shape_form.Based i) e h = subst IsNarrowEffect (where_is _ (undivided (PlaceAt size (Symbol i))) e h).1 (tt, tt)
-shape_narrow classes rule _ _ e h = absurd (none-some e h)
 
 is_narrow : (classes : List Class) (rule : Rule) (e : EffectShape) → Taken classes rule e → IsNarrowEffect e
 is_narrow classes rule e (by_line l g lines is found) = form_narrow classes rule g e found

@@ -307,12 +307,20 @@ other a size i e is act h = no_home a size i (act_of (undivided a) e is ∙ act)
 
 home_own : (q : TreeProgram) (classes : List Class) (rule : Rule) (e : EffectShape) (size : Size) (i : ℕ) (hs : List (Attr Operand)) (h : Attr Operand) (k : Option Kind) (g : ShapeForm) →
     found_shape classes rule.right k g ≡ Some e → e.act ≡ PlaceHome size i → Fit toy classes rule.right hs → hole hs i ≡ Some h → own_operand toy h ≡ Some (shaped q g hs)
+home_own q classes rule e size i hs h None (shape_form.Alone j) found act fit at = absurd (none-some e found)
+home_own q classes rule e size i hs h None (shape_form.Based j) found act fit at = absurd (none-some e found)
 home_own q classes rule e size i hs h (Some kind.Reg) (shape_form.Alone j) found act fit at =
     absurd (other (Value (Symbol j)) size i e (where_is _ (undivided (Value (Symbol j))) e found).1 act tt)
+home_own q classes rule e size i hs h (Some kind.Reg) (shape_form.Based j) found act fit at = absurd (none-some e found)
 home_own q classes rule e size i hs h (Some kind.Con) (shape_form.Alone j) found act fit at =
     absurd (other (Number (Symbol j)) size i e (where_is _ (undivided (Number (Symbol j))) e found).1 act tt)
+home_own q classes rule e size i hs h (Some kind.Con) (shape_form.Based j) found act fit at = absurd (none-some e found)
+home_own q classes rule e size i hs h (Some kind.Ea) (shape_form.Alone j) found act fit at = absurd (none-some e found)
 home_own q classes rule e size i hs h (Some kind.Ea) (shape_form.Based j) found act fit at =
     absurd (other (Address (Symbol j)) size i e (where_is _ (undivided (Address (Symbol j))) e found).1 act tt)
+home_own q classes rule e size i hs h (Some kind.Nothing) (shape_form.Alone j) found act fit at = absurd (none-some e found)
+home_own q classes rule e size i hs h (Some kind.Nothing) (shape_form.Based j) found act fit at = absurd (none-some e found)
+home_own q classes rule e size i hs h (Some (kind.Value z)) (shape_form.Alone j) found act fit at = absurd (none-some e found)
 home_own q classes rule e size i hs h (Some (kind.Value z)) (shape_form.Based j) found act fit at =
     absurd (other (Value (Memory z (Symbol j))) size i e (where_is _ (undivided (Value (Memory z (Symbol j)))) e found).1 act tt)
 home_own q classes rule e size i hs h (Some (kind.Place z)) (shape_form.Alone j) found act fit at =
@@ -323,7 +331,6 @@ home_own q classes rule e size i hs h (Some (kind.Place z)) (shape_form.Alone j)
     subst (λ x. own_operand toy x ≡ Some (shaped q (shape_form.Alone j) hs)) h_is (p.own ∙ ap Some (sym (alone_is classes rule.right hs fit q z j w.0)))
 home_own q classes rule e size i hs h (Some (kind.Place z)) (shape_form.Based j) found act fit at =
     absurd (other (PlaceAt z (Symbol j)) size i e (where_is _ (undivided (PlaceAt z (Symbol j))) e found).1 act tt)
-home_own q classes rule e size i hs h _ _ found act fit at = absurd (none-some e found)
 
 register_own : (classes : List Class) (rule : Rule) (e : EffectShape) (i : ℕ) → found_shape classes rule.right (Some kind.Reg) (shape_form.Alone i) ≡ Some e → e.act ≡ Value (Symbol i)
 register_own classes rule e i found = sym (act_of (undivided (Value (Symbol i))) e (where_is (holds_register classes (hole rule.right i)) (undivided (Value (Symbol i))) e found).1)

@@ -31,6 +31,11 @@ on_to code p h =
 module _ (code : List CodeItem) where
   -- what is said of an instruction among the items
   closed_at : (k : ℕ) (list : List CodeItem) → AreClosed code k list → (p : ℕ) (i : Instr) → slice_get list p ≡ Some (item_kind.Instr i) → IsClosedAt code (mask_from k list p) i (drop (suc p) list)
+  closed_at k [] h zero i e = absurd cc
+  closed_at k [] h (suc p) i e = absurd cc
+  closed_at k (item_kind.Label l ∷ rest) h zero i e = absurd cc
+  closed_at k (item_kind.Globl l ∷ rest) h zero i e = absurd cc
+  closed_at k (item_kind.Mask mask ∷ rest) h zero i e = absurd cc
   closed_at k (item_kind.Instr j ∷ rest) h zero i e = subst (λ (x : Instr). IsClosedAt code k x rest) (same j i e) h.0
     where
       same : (j i : Instr) → ◌≡◌ {A = Option CodeItem} (Some (item_kind.Instr j)) (Some (item_kind.Instr i)) → j ≡ i
@@ -39,10 +44,14 @@ module _ (code : List CodeItem) where
   closed_at k (item_kind.Globl l ∷ rest) h (suc p) i e = closed_at k rest h p i e
   closed_at k (item_kind.Mask mask ∷ rest) h (suc p) i e = closed_at mask rest h.1 p i e
   closed_at k (item_kind.Instr j ∷ rest) h (suc p) i e = closed_at k rest h.1 p i e
-  closed_at k _ h _ i e = absurd cc
 
   -- and of a mask
   mask_at_is : (k : ℕ) (list : List CodeItem) → AreClosed code k list → (p mask : ℕ) → slice_get list p ≡ Some (item_kind.Mask mask) → RunsOn (drop (suc p) list) × (mask_from k list p ≡ mask)
+  mask_at_is k [] h zero mask e = absurd cc
+  mask_at_is k [] h (suc p) mask e = absurd cc
+  mask_at_is k (item_kind.Label l ∷ rest) h zero mask e = absurd cc
+  mask_at_is k (item_kind.Globl l ∷ rest) h zero mask e = absurd cc
+  mask_at_is k (item_kind.Instr j ∷ rest) h zero mask e = absurd cc
   mask_at_is k (item_kind.Mask n ∷ rest) h zero mask e = (h.0, same n mask e)
     where
       same : (n mask : ℕ) → ◌≡◌ {A = Option CodeItem} (Some (item_kind.Mask n)) (Some (item_kind.Mask mask)) → n ≡ mask
@@ -51,7 +60,6 @@ module _ (code : List CodeItem) where
   mask_at_is k (item_kind.Globl l ∷ rest) h (suc p) mask e = mask_at_is k rest h p mask e
   mask_at_is k (item_kind.Mask n ∷ rest) h (suc p) mask e = mask_at_is n rest h.1 p mask e
   mask_at_is k (item_kind.Instr j ∷ rest) h (suc p) mask e = mask_at_is k rest h.1 p mask e
-  mask_at_is k _ h _ mask e = absurd cc
 
 pub closed_is_guarded : ClosedIsGuarded
 closed_is_guarded code h = record {
