@@ -139,7 +139,9 @@ tab_before : (kinds : List OperandKind) (target : Bool) (os : List Operand) (lab
 tab_before kinds target [] (Some label) l h t = refl
 tab_before kinds target (o ∷ os) None l h t = refl
 tab_before kinds target (o ∷ os) (Some label) l h t = refl
-tab_before _ _ _ _ l h t = absurd (cc)
+tab_before [] true [] None l h t = absurd (cc)
+tab_before [] false [] None l h t = absurd (cc)
+tab_before (kind ∷ kinds) target [] None l h t = absurd (cc)
 
 bare_valid : (kinds : List OperandKind) (target : Bool) → is_last kinds target ≡ true → (are_operands kinds [] && is_target target None) ≡ true
 bare_valid [] true h = absurd (cc)
