@@ -13,7 +13,9 @@ use Rattle.vax_machine.specs.Loading.{start, SameFrom, Stands}
 use Rattle.vax_machine.specs.Running.{end_of, behind, steps, state_run, run}
 
 not_spent : (e : Stop) → end_of e ≡ Spent → ⊥
-not_spent _ h = absurd cc
+not_spent (stops.Ended v) h = absurd cc
+not_spent stops.Trapped h = absurd cc
+not_spent (stops.Broken k) h = absurd cc
 
 counts_behind : (n : ℕ) (x : Next) → ((k : State) → (steps n k).number ≤ n) → suc (behind x (steps n)).number ≤ suc n
 counts_behind n (Goes k) h = omega (arith, h k)
