@@ -18,7 +18,7 @@ use Rattle.cmd_run.specs.Texts.{text_limit, text_form, code_runner}
 use Rattle.cmd_compile.specs.Texts.{IsTextOf}
 use Rattle.cmd_compile.specs.Outcome.{Files, IsCompiled, Leaves}
 
--- The statuses with which `compile` refuses: none of them says that a tree blocks or turns, or that a frame's words don't last.
+-- The statuses with which `compile` refuses. What each of them finds, `Leaves` says.
 abbrev pub IsRefusal : Status → Type 0
 IsRefusal statuses.Done = ⊥
 IsRefusal statuses.Usage = ⊥
@@ -52,7 +52,7 @@ CompileEnds =
 abbrev pub HoldsText : List ℕ → Call → Type 0
 HoldsText text call = call.at.folder.holds call.name ≡ Stored text
 
--- Such a text is not refused.
+-- Such a text is not refused for what it holds.
 abbrev pub TextsAreTaken : Type 0
 TextsAreTaken =
     (d : Content) (p : AProgram) (text : List ℕ) (call : Call) → IsTextOf d p text → HoldsText text call

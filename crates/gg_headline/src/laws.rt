@@ -1,13 +1,12 @@
 // The laws. The functions do nothing; their clauses are the laws.
 ghost use Rattle.gg_headline.specs.Claims.{CompileEnds, TextsAreTaken, RunsTell, RunsEnd};
 
-/// The law: what `compile` leaves at status 0 is a text of the source's code, and with each other status it refuses; none of them
-/// is that a tree blocks or turns.
+/// The law: what `compile` leaves at status 0 is a text of the source's code, and each other status is one of those that refuse.
 pub fn compile_ends()
     ensures { CompileEnds }
 {}
 
-/// The law: `run` doesn't refuse a text that `compile` wrote.
+/// The law: `run` doesn't refuse a text that `compile` wrote for what it holds: it is a code's text, and the code loads.
 pub fn texts_are_taken()
     ensures { TextsAreTaken }
 {}
@@ -18,7 +17,7 @@ pub fn runs_tell()
     ensures { RunsTell }
 {}
 
-/// The law: where the source ends with a value, `run` of the text answers 0 with some number of steps, with the same output and value.
+/// The law: where the source ends with a value, `run` of the text answers 0 with some number of steps, if the text is within its limit.
 pub fn runs_end()
     ensures { RunsEnd }
 {}
