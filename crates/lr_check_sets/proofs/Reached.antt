@@ -176,9 +176,12 @@ length-hold (X ∷ []) b = refl
 length-hold (X ∷ Y ∷ s) b = ap suc (length-hold (Y ∷ s) b)
 
 pub owner-hold : (right s : List Sym) (b : List Bool) (y : List Part) → length right ≡ length s → 0 < length right → owner right (hold s b ++ y) ≡ b
+owner-hold [] s b y e lt = absurd (omega arith)
+owner-hold (Z ∷ right) [] b y e lt = absurd (omega arith)
 owner-hold (Z ∷ []) (X ∷ []) b y e lt = refl
+owner-hold (Z ∷ []) (X ∷ Y ∷ s) b y e lt = absurd (omega arith)
+owner-hold (Z ∷ V ∷ right) (X ∷ []) b y e lt = absurd (omega arith)
 owner-hold (Z ∷ V ∷ right) (X ∷ Y ∷ s) b y e lt = owner-hold (V ∷ right) (Y ∷ s) b y (omega arith) (omega arith)
-owner-hold _ _ b y e lt = absurd (omega arith)
 
 pub symbols-append : (a b : List Part) → symbols (a ++ b) ≡ symbols a ++ symbols b
 symbols-append [] b = refl

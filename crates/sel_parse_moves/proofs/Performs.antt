@@ -64,8 +64,17 @@ pushed_is no_tree w a = refl
 pushed_is (node s passes below beside) w a = pushed_is below (onto beside w) (s ∷ a) ∙ pushed_is beside w (pushed below (s ∷ a))
 
 nothing_there : (o : Option Kind) → sort_fits (option_map sort_of_kind o) sort.Stmt ≡ true → is_nothing o ≡ true
+nothing_there None e = absurd (cc)
+nothing_there (Some kind.Reg) e = absurd (cc)
+nothing_there (Some kind.Con) e = absurd (cc)
+nothing_there (Some kind.Ea) e = absurd (cc)
 nothing_there (Some kind.Nothing) e = refl
-nothing_there _ e = absurd (cc)
+nothing_there (Some (kind.Value sizes.Byte)) e = absurd (cc)
+nothing_there (Some (kind.Value sizes.Word)) e = absurd (cc)
+nothing_there (Some (kind.Value sizes.Long)) e = absurd (cc)
+nothing_there (Some (kind.Place sizes.Byte)) e = absurd (cc)
+nothing_there (Some (kind.Place sizes.Word)) e = absurd (cc)
+nothing_there (Some (kind.Place sizes.Long)) e = absurd (cc)
 
 kind_there : (o : Option Kind) (y : Sort) → option_map sort_of_kind o ≡ Some y → (k : Kind) × (o ≡ Some k) × (y ≡ sort_of_kind k)
 kind_there None y e = absurd (cc)

@@ -95,12 +95,9 @@ module _ {O I S F : Type 0} (of : Meaning O I S F) (law : IsLawful of) (q : Tree
   joined : (ss : List Sym) (old new : List (Entry O)) (ps : List Part) → Held ss old ps → AllFine of law q d first ss new → Within of law q d first new (map gamma ps) → Held ss new ps
   joined [] [] [] [] h f w = tt
   joined [] [] (e ∷ new) [] h f w = absurd f
-  joined [] [] new (p ∷ ps) h f w = absurd h
-  joined [] (e ∷ old) new ps h f w = absurd h
-  joined (s ∷ ss) [] new ps h f w = absurd h
-  joined (s ∷ ss) (e ∷ old) new [] h f w = absurd h
   joined (s ∷ ss) (e ∷ old) [] (p ∷ ps) h f w = absurd f
   joined (s ∷ ss) (e ∷ old) (b ∷ new) (p ∷ ps) h f w = ((f.0, w.0, h.0.2), joined ss old new ps h.1 f.1 w.1)
+  joined _ _ new _ h f w = absurd h
 
   pub record Split (right b : List Sym) (es : List (Entry O)) (ps : List Part) : Type 0 where
     pub symbols : List (Entry O)

@@ -200,10 +200,36 @@ module _ (objects : List Object) (s : Sight) where
 
   class_fact : (z : Size) (k : Option Kind) (g : Meaning) (v : Sense) → sort_fits (option_map sort_of_kind k) (sort_of_kind (kind.Place z)) ≡ true → IsSense objects s k g v → PlaceFact z g
   class_fact z None g v e h = absurd h
+  class_fact sizes.Byte (Some kind.Reg) g v e h = absurd (cc)
+  class_fact sizes.Byte (Some kind.Con) g v e h = absurd (cc)
+  class_fact sizes.Byte (Some kind.Ea) g v e h = absurd (cc)
+  class_fact sizes.Byte (Some kind.Nothing) g v e h = absurd (cc)
+  class_fact sizes.Byte (Some (kind.Value sizes.Byte)) g v e h = absurd (cc)
+  class_fact sizes.Byte (Some (kind.Value sizes.Word)) g v e h = absurd (cc)
+  class_fact sizes.Byte (Some (kind.Value sizes.Long)) g v e h = absurd (cc)
   class_fact sizes.Byte (Some (kind.Place sizes.Byte)) g v e h = inl h.1
+  class_fact sizes.Byte (Some (kind.Place sizes.Word)) g v e h = absurd (cc)
+  class_fact sizes.Byte (Some (kind.Place sizes.Long)) g v e h = absurd (cc)
+  class_fact sizes.Word (Some kind.Reg) g v e h = absurd (cc)
+  class_fact sizes.Word (Some kind.Con) g v e h = absurd (cc)
+  class_fact sizes.Word (Some kind.Ea) g v e h = absurd (cc)
+  class_fact sizes.Word (Some kind.Nothing) g v e h = absurd (cc)
+  class_fact sizes.Word (Some (kind.Value sizes.Byte)) g v e h = absurd (cc)
+  class_fact sizes.Word (Some (kind.Value sizes.Word)) g v e h = absurd (cc)
+  class_fact sizes.Word (Some (kind.Value sizes.Long)) g v e h = absurd (cc)
+  class_fact sizes.Word (Some (kind.Place sizes.Byte)) g v e h = absurd (cc)
   class_fact sizes.Word (Some (kind.Place sizes.Word)) g v e h = inl h.1
+  class_fact sizes.Word (Some (kind.Place sizes.Long)) g v e h = absurd (cc)
+  class_fact sizes.Long (Some kind.Reg) g v e h = absurd (cc)
+  class_fact sizes.Long (Some kind.Con) g v e h = absurd (cc)
+  class_fact sizes.Long (Some kind.Ea) g v e h = absurd (cc)
+  class_fact sizes.Long (Some kind.Nothing) g v e h = absurd (cc)
+  class_fact sizes.Long (Some (kind.Value sizes.Byte)) g v e h = absurd (cc)
+  class_fact sizes.Long (Some (kind.Value sizes.Word)) g v e h = absurd (cc)
+  class_fact sizes.Long (Some (kind.Value sizes.Long)) g v e h = absurd (cc)
+  class_fact sizes.Long (Some (kind.Place sizes.Byte)) g v e h = absurd (cc)
+  class_fact sizes.Long (Some (kind.Place sizes.Word)) g v e h = absurd (cc)
   class_fact sizes.Long (Some (kind.Place sizes.Long)) g v e h = inl h.1
-  class_fact _ _ g v e h = absurd (cc)
 
   place_fact : (classes : List Class) (z : Size) {y : Sort} {pattern : Trees (sorted_test classes) (y ∷ [])} {l : Leaf} {f : Forest} {us : List Sense} → y ≡ sort_of_kind (kind.Place z)
       → Sensed objects s classes (y ∷ []) pattern (tree l f none) us → Tame objects s (kids l.tok) f → PlaceFact z (tree_means objects s l f)

@@ -83,14 +83,18 @@ rule_is = record {
 }
 
 values_are : (i x : ℕ) (h : Attr Operand) → hole holes i ≡ Some h → numbers i ≡ Some x → worth toy program (size_at classes rule.right i) h machine ≡ Some x
+values_are zero x h at e = absurd (none-some x e)
+values_are (suc zero) x h at e = absurd (none-some x e)
 values_are (suc (suc zero)) x h at e = subst (λ g. worth toy program (size_at classes rule.right 2) g machine ≡ Some x) (same_Some _ h at) e
 values_are (suc (suc (suc zero))) x h at e = subst (λ g. worth toy program (size_at classes rule.right 3) g machine ≡ Some x) (same_Some _ h at) e
-values_are _ x h at e = absurd (none-some x e)
+values_are (suc (suc (suc (suc i)))) x h at e = absurd (none-some x e)
 
 small_are : (i x : ℕ) → numbers i ≡ Some x → x < 2 ^ (8 * bytes_of (size_at classes rule.right i))
+small_are zero x e = absurd (none-some x e)
+small_are (suc zero) x e = absurd (none-some x e)
 small_are (suc (suc zero)) x e = subst (λ n. n < 2 ^ 32) (same_Some 5 x e) (omega arith)
 small_are (suc (suc (suc zero))) x e = subst (λ n. n < 2 ^ 32) (same_Some 7 x e) (omega arith)
-small_are _ x e = absurd (none-some x e)
+small_are (suc (suc (suc (suc i)))) x e = absurd (none-some x e)
 
 whole_are : (i : ℕ) (h : Attr Operand) → hole holes i ≡ Some h → IsWhole h (numbers i)
 whole_are zero h at = absurd (none-some h at)

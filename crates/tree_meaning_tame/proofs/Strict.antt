@@ -144,10 +144,13 @@ module _ (objects : List Object) (s : Sight) where
   given_down Wild f h = absurd h
 
   assigned_down : (o : Option Meaning) (v : Value) → IsDeed (assigned o v) → SpotSome o × HasNumber v
+  assigned_down None v h = absurd h
+  assigned_down (Some (Of (Number n))) v h = absurd h
+  assigned_down (Some (Of ZeroDivisor)) v h = absurd h
+  assigned_down (Some (Of Wild)) v h = absurd h
   assigned_down (Some (Local k)) v h = (tt, given_down v (Puts (Local k)) h)
   assigned_down (Some (Argument k)) v h = (tt, given_down v (Puts (Argument k)) h)
   assigned_down (Some (Memory z a)) v h = (tt, given_down v (Puts (Memory z a)) h)
-  assigned_down _ v h = absurd h
 
   branched_down : (a : Att) (v w : Value) → IsDeed (branched a v w) → HasNumber v × HasNumber w
   branched_down (att.Branch r n) (Number x) w h = (record { number = x; is = refl }, given_down w (λ y. Branches r n x y) h)

@@ -170,16 +170,13 @@ number_there Long bytes place v le lt = number-with bytes place v le lt
 -- ---- as a longword
 
 four_over : (p bytes : List ℕ) → length p ≤ 4 → 4 ≤ length bytes → over p bytes ≡ over (take 4 (over p bytes)) bytes
-four_over p [] few le = absurd (omega (arith, le))
-four_over p (a ∷ []) few le = absurd (omega (arith, le))
-four_over p (a ∷ b ∷ []) few le = absurd (omega (arith, le))
-four_over p (a ∷ b ∷ c ∷ []) few le = absurd (omega (arith, le))
 four_over [] (a ∷ b ∷ c ∷ d ∷ bytes) few le = refl
 four_over (w ∷ []) (a ∷ b ∷ c ∷ d ∷ bytes) few le = refl
 four_over (w ∷ x ∷ []) (a ∷ b ∷ c ∷ d ∷ bytes) few le = refl
 four_over (w ∷ x ∷ y ∷ []) (a ∷ b ∷ c ∷ d ∷ bytes) few le = refl
 four_over (w ∷ x ∷ y ∷ z ∷ []) (a ∷ b ∷ c ∷ d ∷ bytes) few le = refl
 four_over (w ∷ x ∷ y ∷ z ∷ u ∷ p) (a ∷ b ∷ c ∷ d ∷ bytes) few le = absurd (omega (arith, few))
+four_over p _ few le = absurd (omega (arith, le))
 
 four_patched : (place : ℕ) (p bytes : List ℕ) → length p ≤ 4 → place + 4 ≤ length bytes → patched place p bytes ≡ patched place (take 4 (drop place (patched place p bytes))) bytes
 four_patched zero p bytes few le = four_over p bytes few (omega (arith, le))
