@@ -1,0 +1,2 @@
+pub mod ExpandLaws
+pub mod BadLaws

@@ -1,0 +1,4 @@
+pub mod Forms
+pub mod Copies
+pub mod Expand
+pub mod Bad
