@@ -6,6 +6,7 @@ use Rattle.md_reader.specs.declared.faults.DescKind.TheVariants as kinds
 use Rattle.lr_tables.specs.View.{TableView}
 
 abbrev pub kind_name : DescKind → List ℕ
+kind_name kinds.BadEach = codes "BadEach"
 kind_name kinds.BadWord = codes "BadWord"
 kind_name kinds.Limit = codes "Limit"
 kind_name kinds.Twice = codes "Twice"

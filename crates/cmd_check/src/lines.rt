@@ -10,6 +10,7 @@ fn kind_name(kind: DescKind) -> &'static str
     ensures { result.now ≡ kind_name kind }
 {
     match kind {
+        DescKind::BadEach => "BadEach",
         DescKind::BadWord => "BadWord",
         DescKind::Limit => "Limit",
         DescKind::Twice => "Twice",

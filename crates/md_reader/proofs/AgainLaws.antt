@@ -9,7 +9,6 @@ use Rattle.std.specs.Option.{option_map}
 use Rattle.std.proofs.lemmas.Option.{none-some, slice_get_within}
 use Rattle.std.proofs.lemmas.Bool.{ne_eqb, le-leb, lt-leb, leb-true, and_parts, false≢true}
 use Rattle.std.proofs.lemmas.List.{append-nil, length-map}
-use Rattle.md_reader_text.specs.Lines.{lines}
 use Rattle.md_reader_text.specs.Words.{same, words}
 use Rattle.md_reader_pieces.specs.declared.piece.Line.{Line}
 use Rattle.gg_base.specs.declared.size.Size.{Size}
@@ -38,61 +37,65 @@ use Rattle.md_reader.specs.declared.reading.Stage.{Stage}
 use Rattle.md_reader.specs.declared.reading.Stage.TheVariants as stage
 use Rattle.md_reader.specs.Patterns.{kids_of, sort_of_kind, sort_of_symbol, sorted_test, walk, count}
 use Rattle.md_reader.specs.Symbols.{token_among, tree_tokens, token_of, class_from, class_of, symbol_of, symbols_of}
-use Rattle.md_reader.specs.Forms.{is_skipped, is_name, kind_form, class_form, spill_form, saved_number}
+use Rattle.md_types.specs.declared.types.ExpandedLine.{ExpandedLine}
+use Rattle.md_types.specs.Copies.{letter}
+use Rattle.md_types.specs.Forms.{is_skipped}
+use Rattle.md_types.specs.Expand.{expand}
+use Rattle.md_reader.specs.Forms.{is_name, kind_form, class_form, spill_form, saved_number}
 use Rattle.md_reader.specs.RuleForms.{rule_form, give_form, plain_give, has_register, gives_register, is_passed}
 use Rattle.md_reader.specs.RuleForms.{register_behind}
 use Rattle.md_reader.specs.State.{State, Content}
 use Rattle.md_reader.specs.HeadSteps.{line_at, has_stmt, stage_behind, spill_line}
 use Rattle.md_reader.specs.RuleSteps.{rule_step, ended_rule, give_line}
 use Rattle.md_reader.specs.Steps.{step_at, step}
-use Rattle.md_reader.specs.Reads.{start, content_of, taken, read_from, read, Answers}
+use Rattle.md_reader.specs.Reads.{start, content_of, taken, read_from, line_behind, read, Answers}
 use Rattle.md_reader.specs.Valid.{Away, Apart, IsNamed, AreClasses, IsSpill, AreSides, MayRestrict, MayWrite, MayGive, IsRule, IsValid}
-use Rattle.md_reader.specs.Desc.{Form, Version, Target, Pool, Declares, Saves, Head, Restricts, Writes, Gives, size_word, kind_words, saved_words, IsSaved, GiveWord, IsGive, Says}
-use Rattle.md_reader.specs.Desc.{name_at, symbol_word, saving, ruling, telling, numbered, Tell, Desc, Refused}
+use Rattle.md_reader.specs.Desc.{Form, Version, Target, Pool, Declares, Saves, Head, Restricts, Writes, Gives, kind_words, saved_words, IsSaved, GiveWord, IsGive, Says}
+use Rattle.md_reader.specs.Desc.{name_at, symbol_word, saving, ruling, telling, not_skipped, Tell, Desc, Refused}
 use Rattle.md_reader.proofs.PatternLaws.{tree_exactly, sorted_back}
 use Rattle.md_reader.proofs.Inversion.{ok_same, same_refl, not_same}
 
 -- whatever lines say these forms, the content is read
 Runs : State → List Form → Content → Type 0
-Runs s fs d = (n : ℕ) (ls : List (List ℕ)) → Tell (numbered n ls) fs → read_from n s ls ≡ Ok d
+Runs s fs d = (n : ℕ) (ls : List ExpandedLine) → Tell (not_skipped ls) fs → read_from None n s ls ≡ Ok d
 
 runs_nil : (s : State) (d : Content) → s.stage ≡ stage.Rules → 1 ≤ length s.rules → content_of s ≡ d → Runs s [] d
 unfolding Runs
 runs_nil s d g some e = λ n ls c. go n ls c
   where
-    go : (n : ℕ) (ls : List (List ℕ)) → Tell (numbered n ls) [] → read_from n s ls ≡ Ok d
+    go : (n : ℕ) (ls : List ExpandedLine) → Tell (not_skipped ls) [] → read_from None n s ls ≡ Ok d
     go n [] c = let k = le-leb 1 (length s.rules) some in rw (g, k, ← e) refl
-    go n (l ∷ ls) c = at (is_skipped (words l)) c (go (n + 1) ls)
+    go n (l ∷ ls) c = at (is_skipped (words l.bytes)) c (go n ls)
       where
-        at : (b : Bool) → Tell (cond b (numbered (n + 1) ls) ((n, words l) ∷ numbered (n + 1) ls)) [] → (Tell (numbered (n + 1) ls) [] → read_from (n + 1) s ls ≡ Ok d)
-            → taken n (cond b (Ok s) (step_at s.stage s n (words l) (register_behind ls))) (λ (t : State). read_from (n + 1) t ls) ≡ Ok d
+        at : (b : Bool) → Tell (cond b (not_skipped ls) ((l.from, words l.bytes) ∷ not_skipped ls)) [] → (Tell (not_skipped ls) [] → read_from None n s ls ≡ Ok d)
+            → taken l.from (cond b (Ok s) (step_at s.stage s l.from (words l.bytes) (register_behind ls))) (λ (t : State). read_from None n t ls) ≡ Ok d
         at true c k = k c
         at false c k = absurd c
 
 -- what a line comes to that says this, in front of lines that say those
 abbrev Steps : State → Form → List Form → State → Type 0
-Steps s f fs t = (n : ℕ) (ws : List (List ℕ)) (ls : List (List ℕ)) → Tell (numbered (n + 1) ls) fs → Says n ws f → step s n ws (register_behind ls) ≡ Ok t
+Steps s f fs t = (n : ℕ) (ws : List (List ℕ)) (ls : List ExpandedLine) → Tell (not_skipped ls) fs → Says n ws f → step s n ws (register_behind ls) ≡ Ok t
 
 runs_cons : (s t : State) (f : Form) (fs : List Form) (d : Content) → Steps s f fs t → Runs t fs d → Runs s (f ∷ fs) d
 unfolding Runs
 runs_cons s t f fs d e h = λ n ls c. go n ls c
   where
-    go : (n : ℕ) (ls : List (List ℕ)) → Tell (numbered n ls) (f ∷ fs) → read_from n s ls ≡ Ok d
+    go : (n : ℕ) (ls : List ExpandedLine) → Tell (not_skipped ls) (f ∷ fs) → read_from None n s ls ≡ Ok d
     go n [] c = absurd c
-    go n (l ∷ ls) c = at (is_skipped (words l)) c (go (n + 1) ls)
+    go n (l ∷ ls) c = at (is_skipped (words l.bytes)) c (go n ls)
       where
-        at : (b : Bool) → Tell (cond b (numbered (n + 1) ls) ((n, words l) ∷ numbered (n + 1) ls)) (f ∷ fs) → (Tell (numbered (n + 1) ls) (f ∷ fs) → read_from (n + 1) s ls ≡ Ok d)
-            → taken n (cond b (Ok s) (step_at s.stage s n (words l) (register_behind ls))) (λ (t : State). read_from (n + 1) t ls) ≡ Ok d
+        at : (b : Bool) → Tell (cond b (not_skipped ls) ((l.from, words l.bytes) ∷ not_skipped ls)) (f ∷ fs) → (Tell (not_skipped ls) (f ∷ fs) → read_from None n s ls ≡ Ok d)
+            → taken l.from (cond b (Ok s) (step_at s.stage s l.from (words l.bytes) (register_behind ls))) (λ (t : State). read_from None n t ls) ≡ Ok d
         at true c k = k c
-        at false c k = rw (e n (words l) ls c.1 c.0) (h (n + 1) ls c.1)
+        at false c k = rw (e l.from (words l.bytes) ls c.1 c.0) (h n ls c.1)
 
 -- the words of classes
-size_again : (z : Size) → kind_form (codes "Value" ∷ size_word z ∷ []) ≡ Some (kind.Value z)
+size_again : (z : Size) → kind_form (codes "Value" ∷ letter z ∷ []) ≡ Some (kind.Value z)
 size_again sizes.Byte = refl
 size_again sizes.Word = refl
 size_again sizes.Long = refl
 
-place_again : (z : Size) → kind_form (codes "Place" ∷ size_word z ∷ []) ≡ Some (kind.Place z)
+place_again : (z : Size) → kind_form (codes "Place" ∷ letter z ∷ []) ≡ Some (kind.Place z)
 place_again sizes.Byte = refl
 place_again sizes.Word = refl
 place_again sizes.Long = refl
@@ -377,24 +380,24 @@ passed_skip (a ∷ ws) x y e = rw e refl
 given_here : (n : ℕ) (ws : List (List ℕ)) (g : Give) (x : Bool) → IsGive n ws g → cond (is_passed ws) x (gives_register (give_form ws)) ≡ has_register (Some g)
 given_here n ws g x k = rw k.stands (has_register_word n k.word g k.says)
 
-flagged : (n : ℕ) (ls : List (List ℕ)) (rs : List Restriction) (ws : List Line) (g : Give) (fs : List Form) → Tell (numbered n ls) (map Restricts rs ++ (map Writes ws ++ Gives g ∷ fs))
+flagged : (ls : List ExpandedLine) (rs : List Restriction) (ws : List Line) (g : Give) (fs : List Form) → Tell (not_skipped ls) (map Restricts rs ++ (map Writes ws ++ Gives g ∷ fs))
     → register_behind ls ≡ has_register (Some g)
-flagged n [] [] [] g fs c = absurd c
-flagged n [] [] (w ∷ ws) g fs c = absurd c
-flagged n [] (r ∷ rs) ws g fs c = absurd c
-flagged n (l ∷ ls) rs ws g fs c = at (is_skipped (words l)) refl c (λ rs ws k. flagged (n + 1) ls rs ws g fs k)
+flagged [] [] [] g fs c = absurd c
+flagged [] [] (w ∷ ws) g fs c = absurd c
+flagged [] (r ∷ rs) ws g fs c = absurd c
+flagged (l ∷ ls) rs ws g fs c = at (is_skipped (words l.bytes)) refl c (λ rs ws k. flagged ls rs ws g fs k)
   where
-    here : (rs : List Restriction) (ws : List Line) → Tell ((n, words l) ∷ numbered (n + 1) ls) (map Restricts rs ++ (map Writes ws ++ Gives g ∷ fs))
-        → ((rs : List Restriction) (ws : List Line) → Tell (numbered (n + 1) ls) (map Restricts rs ++ (map Writes ws ++ Gives g ∷ fs)) → register_behind ls ≡ has_register (Some g))
+    here : (rs : List Restriction) (ws : List Line) → Tell ((l.from, words l.bytes) ∷ not_skipped ls) (map Restricts rs ++ (map Writes ws ++ Gives g ∷ fs))
+        → ((rs : List Restriction) (ws : List Line) → Tell (not_skipped ls) (map Restricts rs ++ (map Writes ws ++ Gives g ∷ fs)) → register_behind ls ≡ has_register (Some g))
         → register_behind (l ∷ ls) ≡ has_register (Some g)
-    here [] [] c k = given_here n (words l) g (register_behind ls) c.0
-    here [] (w ∷ ws) c k = passed_do (words l) c.0.words _ _ c.0.stands ∙ k [] ws c.1
-    here (r ∷ rs) ws c k = passed_if (words l) c.0.words _ _ c.0.stands ∙ k rs ws c.1
+    here [] [] c k = given_here l.from (words l.bytes) g (register_behind ls) c.0
+    here [] (w ∷ ws) c k = passed_do (words l.bytes) c.0.words _ _ c.0.stands ∙ k [] ws c.1
+    here (r ∷ rs) ws c k = passed_if (words l.bytes) c.0.words _ _ c.0.stands ∙ k rs ws c.1
 
-    at : (b : Bool) → is_skipped (words l) ≡ b → Tell (cond b (numbered (n + 1) ls) ((n, words l) ∷ numbered (n + 1) ls)) (map Restricts rs ++ (map Writes ws ++ Gives g ∷ fs))
-        → ((rs : List Restriction) (ws : List Line) → Tell (numbered (n + 1) ls) (map Restricts rs ++ (map Writes ws ++ Gives g ∷ fs)) → register_behind ls ≡ has_register (Some g))
+    at : (b : Bool) → is_skipped (words l.bytes) ≡ b → Tell (cond b (not_skipped ls) ((l.from, words l.bytes) ∷ not_skipped ls)) (map Restricts rs ++ (map Writes ws ++ Gives g ∷ fs))
+        → ((rs : List Restriction) (ws : List Line) → Tell (not_skipped ls) (map Restricts rs ++ (map Writes ws ++ Gives g ∷ fs)) → register_behind ls ≡ has_register (Some g))
         → register_behind (l ∷ ls) ≡ has_register (Some g)
-    at true f c k = passed_skip (words l) _ _ f ∙ k rs ws c
+    at true f c k = passed_skip (words l.bytes) _ _ f ∙ k rs ws c
     at false f c k = here rs ws c k
 
 -- the states in a rule, and behind it
@@ -446,7 +449,7 @@ head_form class ss cs (x ∷ xs) e c = rw e refl
 head_again : (s : State) (r : Rule) (fs : List Form) → s.stage ≡ stage.Rules → AreClasses s.classes → AreSides s.classes r.left r.right → length s.rules ≤ 999
     → Steps s (Head (name_at s.classes r.left) (map (symbol_word s.classes) r.right)) (map Restricts r.restrictions ++ (map Writes r.lines ++ Gives r.give ∷ fs)) (inside s r [] [])
 head_again s r fs g h k few n ws ls c e =
-    let q = flagged (n + 1) ls r.restrictions r.lines r.give fs c in
+    let q = flagged ls r.restrictions r.lines r.give fs c in
     let t = (tree_exactly r.right (count 1 r.right) refl).1 k.tree in
     rw (g, e, head_form (name_at s.classes r.left) (map (symbol_word s.classes) r.right) s.classes r.right refl t) (head_taken s r (register_behind ls) h k few q)
 
@@ -541,12 +544,14 @@ all_run d v =
     runs_cons start at_target Version _ d (version_again _) (runs_cons at_target at_pool Target _ d (target_again _)
     (runs_cons at_pool (declaring d.pool []) (Pool d.pool) _ d (pool_again d.pool _) classes))
 
-apply : (s : State) (fs : List Form) (d : Content) → Runs s fs d → (n : ℕ) (ls : List (List ℕ)) → Tell (numbered n ls) fs → read_from n s ls ≡ Ok d
+apply : (s : State) (fs : List Form) (d : Content) → Runs s fs d → (n : ℕ) (ls : List ExpandedLine) → Tell (not_skipped ls) fs → read_from None n s ls ≡ Ok d
 unfolding Runs
 apply s fs d h n ls e = h n ls e
 
 pub desc_reads : (bytes : List ℕ) (d : Content) → Desc bytes d → read bytes ≡ Ok d
-desc_reads bytes d h = apply start (telling d) d (all_run d h.valid) 1 (lines bytes) h.text
+desc_reads bytes d h =
+    ap (λ (b : Option ℕ). read_from b (line_behind bytes) start (expand bytes).lines) h.good
+    ∙ apply start (telling d) d (all_run d h.valid) (line_behind bytes) (expand bytes).lines h.text
 
 pub refusal : (r : Result Content DescFault) (bytes : List ℕ) → Answers r (read bytes) → IfErr r (Refused bytes)
 refusal (Ok d) bytes e = tt

@@ -19,12 +19,14 @@ use Rattle.md_reader.specs.declared.types.Give.{Give}
 use Rattle.md_reader.specs.declared.types.Give.TheVariants as give
 use Rattle.md_reader.specs.declared.forms.Saved.{Saved}
 use Rattle.md_reader.specs.declared.forms.Saved.TheVariants as saved
-use Rattle.md_reader.specs.Forms.{are_both, register_numbered, register_of, with_register, pool_from, pool_form}
-use Rattle.md_reader.specs.Forms.{is_name, size_of, sized_kind, kind_form, class_form, sized_form, spill_words}
+use Rattle.md_types.specs.Copies.{letter}
+use Rattle.md_types.specs.Forms.{are_both, size_of}
+use Rattle.md_reader.specs.Forms.{register_numbered, register_of, with_register, pool_from, pool_form}
+use Rattle.md_reader.specs.Forms.{is_name, sized_kind, kind_form, class_form, sized_form, spill_words}
 use Rattle.md_reader.specs.Forms.{spill_form}
 use Rattle.md_reader.specs.RuleForms.{rule_form, restriction_form, if_form, do_form, give_form, plain_give}
 use Rattle.md_reader.specs.Valid.{IsPool}
-use Rattle.md_reader.specs.Desc.{size_word, kind_words, saved_words, IsRestriction, GiveWord}
+use Rattle.md_reader.specs.Desc.{kind_words, saved_words, IsRestriction, GiveWord}
 use Rattle.md_reader.proofs.Inversion.{same_true}
 
 -- one arm of a chain of tests on a word
@@ -38,11 +40,11 @@ both_words (a ∷ b ∷ []) v w e =
     rw (same_true a v p.0, same_true b w p.1) refl
 both_words _ v w e = absurd cc
 
-size_spelled : (w : List ℕ) (z : Size) → size_of w ≡ Some z → w ≡ size_word z
+size_spelled : (w : List ℕ) (z : Size) → size_of w ≡ Some z → w ≡ letter z
 size_spelled w z e =
-    pick (same w (codes "b")) sizes.Byte z _ (λ z. w ≡ size_word z) e (same_true w (codes "b")) (λ e.
-    pick (same w (codes "w")) sizes.Word z _ (λ z. w ≡ size_word z) e (same_true w (codes "w")) (λ e.
-    pick (same w (codes "l")) sizes.Long z _ (λ z. w ≡ size_word z) e (same_true w (codes "l")) (λ e. absurd (none-some z e))))
+    pick (same w (codes "b")) sizes.Byte z _ (λ z. w ≡ letter z) e (same_true w (codes "b")) (λ e.
+    pick (same w (codes "w")) sizes.Word z _ (λ z. w ≡ letter z) e (same_true w (codes "w")) (λ e.
+    pick (same w (codes "l")) sizes.Long z _ (λ z. w ≡ letter z) e (same_true w (codes "l")) (λ e. absurd (none-some z e))))
 
 kind_spelled : (ws : List (List ℕ)) (k : Kind) → kind_form ws ≡ Some k → ws ≡ kind_words k
 kind_spelled [] k e = absurd (none-some k e)
@@ -56,7 +58,7 @@ kind_spelled (w ∷ []) k e =
     one v f = ap (λ (x : List ℕ). x ∷ []) (same_true w v f)
 kind_spelled (w ∷ s ∷ []) k e = option_and_then_some (sized_kind w) (size_of s) k e (λ z f g. at z (size_spelled s z f) g)
   where
-    at : (z : Size) → s ≡ size_word z → sized_kind w z ≡ Some k → (w ∷ s ∷ []) ≡ kind_words k
+    at : (z : Size) → s ≡ letter z → sized_kind w z ≡ Some k → (w ∷ s ∷ []) ≡ kind_words k
     at z f g =
         pick (same w (codes "Value")) (kind.Value z) k _ (λ k. (w ∷ s ∷ []) ≡ kind_words k) g (λ h. rw (same_true w (codes "Value") h, f) refl) (λ g.
         pick (same w (codes "Place")) (kind.Place z) k _ (λ k. (w ∷ s ∷ []) ≡ kind_words k) g (λ h. rw (same_true w (codes "Place") h, f) refl) (λ g. absurd (none-some k g)))
@@ -79,10 +81,10 @@ class_line_is (a ∷ name ∷ ws) x e =
     at None f e g h = absurd (none-some x e)
     at (Some k) f e g h = rw (← same_Some (name, k) x e) (record { stands = rw (g, kind_spelled ws k f) refl; named = h })
 
-sized_spelled : (a : List ℕ) (ws : List (List ℕ)) (z : Size) (x : Saved × List (List ℕ)) → sized_form a ws z ≡ Some x → (codes "spill" ∷ a ∷ size_word z ∷ ws) ≡ saved_words x.0 ++ x.1
+sized_spelled : (a : List ℕ) (ws : List (List ℕ)) (z : Size) (x : Saved × List (List ℕ)) → sized_form a ws z ≡ Some x → (codes "spill" ∷ a ∷ letter z ∷ ws) ≡ saved_words x.0 ++ x.1
 sized_spelled a ws z x e =
-    pick (same a (codes "value")) (saved.Value z, ws) x _ (λ x. (codes "spill" ∷ a ∷ size_word z ∷ ws) ≡ saved_words x.0 ++ x.1) e (λ f. rw (same_true a (codes "value") f) refl) (λ e.
-    pick (same a (codes "place")) (saved.Place z, ws) x _ (λ x. (codes "spill" ∷ a ∷ size_word z ∷ ws) ≡ saved_words x.0 ++ x.1) e (λ f. rw (same_true a (codes "place") f) refl)
+    pick (same a (codes "value")) (saved.Value z, ws) x _ (λ x. (codes "spill" ∷ a ∷ letter z ∷ ws) ≡ saved_words x.0 ++ x.1) e (λ f. rw (same_true a (codes "value") f) refl) (λ e.
+    pick (same a (codes "place")) (saved.Place z, ws) x _ (λ x. (codes "spill" ∷ a ∷ letter z ∷ ws) ≡ saved_words x.0 ++ x.1) e (λ f. rw (same_true a (codes "place") f) refl)
     (λ e. absurd (none-some x e)))
 
 spill_words_are : (ws : List (List ℕ)) (x : Saved × List (List ℕ)) → spill_words ws ≡ Some x → (codes "spill" ∷ ws) ≡ saved_words x.0 ++ x.1

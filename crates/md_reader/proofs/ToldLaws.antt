@@ -8,7 +8,6 @@ use Rattle.std.proofs.lemmas.Option.{none-some, same_Some, option_and_then_some}
 use Rattle.std.proofs.lemmas.Bool.{eqb-true, leb-true}
 use Rattle.std.proofs.lemmas.List.{append-nil}
 use Rattle.gg_base.proofs.Facts.{err_ok}
-use Rattle.md_reader_text.specs.Lines.{lines}
 use Rattle.md_reader_text.specs.Words.{same, words}
 use Rattle.md_reader_pieces.specs.declared.piece.Piece.{Piece}
 use Rattle.md_reader_pieces.specs.declared.piece.Line.{Line}
@@ -32,7 +31,10 @@ use Rattle.md_reader.specs.declared.reading.Stage.{Stage}
 use Rattle.md_reader.specs.declared.reading.Stage.TheVariants as stage
 use Rattle.md_reader.specs.Patterns.{kind_at, sorted_test, walk, count}
 use Rattle.md_reader.specs.Symbols.{token_among, tree_tokens, token_of, token_or_class, class_from, class_of, symbol_of, symbols_of}
-use Rattle.md_reader.specs.Forms.{is_skipped, are_both, pool_form, class_form, spill_form, saved_number}
+use Rattle.md_types.specs.declared.types.ExpandedLine.{ExpandedLine}
+use Rattle.md_types.specs.Forms.{is_skipped, are_both}
+use Rattle.md_types.specs.Expand.{expand}
+use Rattle.md_reader.specs.Forms.{is_version, pool_form, class_form, spill_form, saved_number}
 use Rattle.md_reader.specs.RuleForms.{rule_form, if_form, do_form, give_form, plain_give, register_behind}
 use Rattle.md_reader.specs.Restrictions.{restriction_fits}
 use Rattle.md_reader.specs.Rows.{line_fits, pieces_fit, shape_fits, plain_fits, is_bare}
@@ -41,12 +43,12 @@ use Rattle.md_reader.specs.HeadSteps.{line_at, has_stmt, pool_step, new_class, s
 use Rattle.md_reader.specs.HeadSteps.{class_line}
 use Rattle.md_reader.specs.RuleSteps.{sort_step, right_step, left_step, rule_line, if_step, do_pieces, do_text}
 use Rattle.md_reader.specs.RuleSteps.{ended_rule, shape_step, give_step, give_line, do_line, if_line}
-use Rattle.md_reader.specs.Steps.{step_at}
-use Rattle.md_reader.specs.Reads.{start, content_of, ended_at, taken, read_from, read, Answers}
+use Rattle.md_reader.specs.Steps.{step_at, line_step}
+use Rattle.md_reader.specs.Reads.{start, content_of, ended_at, taken, read_from, line_behind, read, Answers}
 use Rattle.md_reader.specs.Valid.{IsValid}
 use Rattle.md_reader.specs.Fine.{IsBlank, IsDeclaring, StageFact, IsFine}
 use Rattle.md_reader.specs.Desc.{Form, Version, Target, Pool, Declares, Saves, Head, Restricts, Writes, Gives, kind_words, saved_words, GiveWord, Says, name_at, symbol_word}
-use Rattle.md_reader.specs.Desc.{saving, ruling, telling, numbered, Tell, Desc}
+use Rattle.md_reader.specs.Desc.{saving, ruling, telling, not_skipped, Tell, Desc}
 use Rattle.md_reader.proofs.Inversion.{when, unless, ok_same, same_true}
 use Rattle.md_reader.proofs.FormLaws.{both_words, class_line_is, spill_line_is, rule_line_is, if_line_is, do_line_is, give_line_is, plain_word}
 use Rattle.md_reader.proofs.ValidLaws.{skip_kept, line_kept, is_valid, begins}
@@ -327,10 +329,10 @@ if_line_told : (s t : State) (n : ℕ) (ws : List (List ℕ)) (o : Option Restri
 if_line_told s t n ws None v g e = do_line_told s t n ws _ refl g e
 if_line_told s t n ws (Some r) v g e = if_told s t n ws r v g e
 
-step_told : (g : Stage) (s t : State) (n : ℕ) (ws xs : List (List ℕ)) (z : Bool) → s.stage ≡ g → StageFact g s xs → step_at g s n ws z ≡ Ok t → OneMore (told_at g s) t n ws
+step_told : (g : Stage) (s t : State) (n : ℕ) (ws : List (List ℕ)) (xs : List ExpandedLine) (z : Bool) → s.stage ≡ g → StageFact g s xs → step_at g s n ws z ≡ Ok t → OneMore (told_at g s) t n ws
 step_told stage.Version s t n ws xs z g f e =
-    let a = unless (are_both ws (codes "version") (codes "1")) _ _ t e in
-    rw (← ok_same _ _ _ _ refl refl a.1) (record { form = Version; says = both_words ws _ _ a.0; more = refl })
+    let a = unless (is_version ws) _ _ t e in
+    rw (← ok_same _ _ _ _ refl refl a.1) (record { form = Version; says = a.0; more = refl })
 step_told stage.Target s t n ws xs z g f e =
     let a = unless (are_both ws (codes "target") (codes "vax")) _ _ t e in
     rw (← ok_same _ _ _ _ refl refl a.1) (record { form = Target; says = both_words ws _ _ a.0; more = refl })
@@ -361,11 +363,12 @@ end_told stage.Rules n s d g h e = at (nat_le 1 (length s.rules)) refl e
     at false f e = absurd (err_ok _ _ e)
 end_told _ n s d g h e = absurd (err_ok _ _ e)
 
-from_told : (n : ℕ) (s : State) (ls : List (List ℕ)) (d : Content) → IsFine s ls → read_from n s ls ≡ Ok d → TheRest (told_at s.stage s) (numbered n ls) d
+from_told : (n : ℕ) (s : State) (ls : List ExpandedLine) (d : Content) → IsFine s ls → read_from None n s ls ≡ Ok d → TheRest (told_at s.stage s) (not_skipped ls) d
 from_told n s [] d h e = end_told s.stage n s d refl h e
-from_told n s (l ∷ ls) d h e = at (is_skipped (words l)) refl e (λ t k f. from_told (n + 1) t ls d k f)
+from_told n s (l ∷ ls) d h e = at (is_skipped (words l.bytes)) refl e (λ t k f. from_told n t ls d k f)
   where
-    longer : (t : State) → OneMore (told_at s.stage s) t n (words l) → TheRest (told_at t.stage t) (numbered (n + 1) ls) d → TheRest (told_at s.stage s) ((n, words l) ∷ numbered (n + 1) ls) d
+    longer : (t : State) → OneMore (told_at s.stage s) t l.from (words l.bytes) → TheRest (told_at t.stage t) (not_skipped ls) d
+        → TheRest (told_at s.stage s) ((l.from, words l.bytes) ∷ not_skipped ls) d
     longer t o r = record {
       forms = o.form ∷ r.forms;
       tell = (o.says, r.tell);
@@ -374,23 +377,35 @@ from_told n s (l ∷ ls) d h e = at (is_skipped (words l)) refl e (λ t k f. fro
       valid = r.valid;
     }
 
-    took : (r : Result State DescKind) → ((t : State) → r ≡ Ok t → IsFine t ls) → ((t : State) → r ≡ Ok t → OneMore (told_at s.stage s) t n (words l))
-        → ((t : State) → IsFine t ls → read_from (n + 1) t ls ≡ Ok d → TheRest (told_at t.stage t) (numbered (n + 1) ls) d) → taken n r (λ (t : State). read_from (n + 1) t ls) ≡ Ok d
-        → TheRest (told_at s.stage s) ((n, words l) ∷ numbered (n + 1) ls) d
+    took : (r : Result State DescKind) → ((t : State) → r ≡ Ok t → IsFine t ls) → ((t : State) → r ≡ Ok t → OneMore (told_at s.stage s) t l.from (words l.bytes))
+        → ((t : State) → IsFine t ls → read_from None n t ls ≡ Ok d → TheRest (told_at t.stage t) (not_skipped ls) d) → taken l.from r (λ (t : State). read_from None n t ls) ≡ Ok d
+        → TheRest (told_at s.stage s) ((l.from, words l.bytes) ∷ not_skipped ls) d
     took (Err x) fine told go e = absurd (err_ok _ _ e)
     took (Ok t) fine told go e = longer t (told t refl) (go t (fine t refl) e)
 
-    at : (b : Bool) → is_skipped (words l) ≡ b → taken n (cond b (Ok s) (step_at s.stage s n (words l) (register_behind ls))) (λ (t : State). read_from (n + 1) t ls) ≡ Ok d
-        → ((t : State) → IsFine t ls → read_from (n + 1) t ls ≡ Ok d → TheRest (told_at t.stage t) (numbered (n + 1) ls) d)
-        → TheRest (told_at s.stage s) (cond b (numbered (n + 1) ls) ((n, words l) ∷ numbered (n + 1) ls)) d
+    at : (b : Bool) → is_skipped (words l.bytes) ≡ b → taken l.from (cond b (Ok s) (step_at s.stage s l.from (words l.bytes) (register_behind ls))) (λ (t : State). read_from None n t ls) ≡ Ok d
+        → ((t : State) → IsFine t ls → read_from None n t ls ≡ Ok d → TheRest (told_at t.stage t) (not_skipped ls) d)
+        → TheRest (told_at s.stage s) (cond b (not_skipped ls) ((l.from, words l.bytes) ∷ not_skipped ls)) d
     at true f e go = go s (skip_kept s l ls f h) e
-    at false f e go = took _ (λ t g. line_kept s t l ls n h (rw f g)) (λ t g. step_told s.stage s t n (words l) (l ∷ ls) (register_behind ls) refl h.stage g) go e
+    at false f e go = took _ (λ t g. line_kept s t l ls l.from h (rw f g)) (λ t g. step_told s.stage s t l.from (words l.bytes) (l ∷ ls) (register_behind ls) refl h.stage g) go e
+
+-- nothing is read where an `each` line is bad
+none_bad : (bad : Option ℕ) (n : ℕ) (s : State) (ls : List ExpandedLine) (d : Content) → read_from bad n s ls ≡ Ok d → bad ≡ None
+none_bad None n s ls d e = refl
+none_bad (Some b) n s [] d e = absurd (err_ok _ _ e)
+none_bad (Some b) n s (l ∷ ls) d e = at (line_step s l.from (words l.bytes) (register_behind ls)) e (λ t f. none_bad (Some b) n t ls d f)
+  where
+    at : (r : Result State DescKind) → taken l.from r (λ (t : State). read_from (Some b) n t ls) ≡ Ok d → ((t : State) → read_from (Some b) n t ls ≡ Ok d → Some b ≡ None) → Some b ≡ None
+    at (Err x) e go = absurd (err_ok _ _ e)
+    at (Ok t) e go = go t e
 
 pub desc_read : (bytes : List ℕ) (d : Content) → read bytes ≡ Ok d → Desc bytes d
 desc_read bytes d e =
-    let r = from_told 1 start (lines bytes) d (begins [] [] [] [] [] [] (lines bytes) refl refl refl) e in
-    let P : List Form → Type 0 = Tell (numbered 1 (lines bytes)) in
-    record { valid = r.valid; text = subst P r.whole r.tell }
+    let ls = (expand bytes).lines in
+    let good : (expand bytes).bad ≡ None = none_bad (expand bytes).bad _ start ls d e in
+    let r = from_told (line_behind bytes) start ls d (begins [] [] [] [] [] [] ls refl refl refl) (ap (λ (b : Option ℕ). read_from b (line_behind bytes) start ls) (sym good) ∙ e) in
+    let P : List Form → Type 0 = Tell (not_skipped ls) in
+    record { valid = r.valid; good = good; text = subst P r.whole r.tell }
 
 pub found : (r : Result Content DescFault) (bytes : List ℕ) → Answers r (read bytes) → IfOk r (λ d. Desc bytes d)
 found (Ok d) bytes e = desc_read bytes d e

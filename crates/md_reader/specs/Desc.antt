@@ -1,12 +1,13 @@
 -- Which bytes are a description, and what it says.
-use Rattle.std.specs.Prelude.{◌≡◌, ℕ, zero, suc, ◌+◌, List, [], ◌∷◌, ◌++◌, codes, map, Some, None, if◌then◌else◌}
+use Rattle.std.specs.Prelude.{◌≡◌, ℕ, zero, suc, ◌+◌, true, List, [], ◌∷◌, ◌++◌, codes, map, Some, None, if◌then◌else◌}
 use Rattle.std.specs.List.{flat_map}
-use Rattle.md_reader_text.specs.Lines.{lines}
 use Rattle.md_reader_text.specs.Words.{words}
+use Rattle.md_types.specs.declared.types.ExpandedLine.{ExpandedLine}
+use Rattle.md_types.specs.Forms.{is_skipped}
+use Rattle.md_types.specs.Copies.{letter}
+use Rattle.md_types.specs.Expand.{expand}
 use Rattle.md_reader_pieces.specs.declared.piece.Line.{Line}
 use Rattle.md_reader_pieces.specs.Pieces.{text_of, pieces}
-use Rattle.gg_base.specs.declared.size.Size.{Size}
-use Rattle.gg_base.specs.declared.size.Size.TheVariants as sizes
 use Rattle.tree_core.specs.Names.{name_of}
 use Rattle.md_reader.specs.declared.types.Kind.{Kind}
 use Rattle.md_reader.specs.declared.types.Kind.TheVariants as kind
@@ -21,7 +22,7 @@ use Rattle.md_reader.specs.declared.forms.Saved.{Saved}
 use Rattle.md_reader.specs.declared.forms.Saved.TheVariants as saved
 use Rattle.md_reader.specs.declared.faults.DescFault.{DescFault}
 use Rattle.md_reader.specs.declared.faults.DescFault.TheVariants as desc_fault
-use Rattle.md_reader.specs.Forms.{is_skipped, pool_form, saved_number}
+use Rattle.md_reader.specs.Forms.{is_version, pool_form, saved_number}
 use Rattle.md_reader.specs.RuleForms.{restriction_form, plain_give}
 use Rattle.md_reader.specs.State.{Content}
 use Rattle.md_reader.specs.Valid.{IsValid}
@@ -38,22 +39,17 @@ pub data Form : Type 0 where
   Writes : Line → Form
   Gives : Give → Form
 
-abbrev pub size_word : Size → List ℕ
-size_word sizes.Byte = codes "b"
-size_word sizes.Word = codes "w"
-size_word sizes.Long = codes "l"
-
 abbrev pub kind_words : Kind → List (List ℕ)
 kind_words kind.Reg = codes "Reg" ∷ []
 kind_words kind.Con = codes "Con" ∷ []
 kind_words kind.Ea = codes "Ea" ∷ []
 kind_words kind.Nothing = codes "Nothing" ∷ []
-kind_words (kind.Value z) = codes "Value" ∷ size_word z ∷ []
-kind_words (kind.Place z) = codes "Place" ∷ size_word z ∷ []
+kind_words (kind.Value z) = codes "Value" ∷ letter z ∷ []
+kind_words (kind.Place z) = codes "Place" ∷ letter z ∷ []
 
 abbrev pub saved_words : Saved → List (List ℕ)
-saved_words (saved.Value z) = codes "spill" ∷ codes "value" ∷ size_word z ∷ []
-saved_words (saved.Place z) = codes "spill" ∷ codes "place" ∷ size_word z ∷ []
+saved_words (saved.Value z) = codes "spill" ∷ codes "value" ∷ letter z ∷ []
+saved_words (saved.Place z) = codes "spill" ∷ codes "place" ∷ letter z ∷ []
 saved_words saved.Ea = codes "spill" ∷ codes "ea" ∷ []
 saved_words saved.Reload = codes "reload" ∷ []
 
@@ -92,7 +88,7 @@ pub record IsGive (n : ℕ) (ws : List (List ℕ)) (g : Give) : Type 0 where
 
 -- the line with this number and these words says this
 abbrev pub Says : ℕ → List (List ℕ) → Form → Type 0
-Says n ws Version = ws ≡ codes "version" ∷ codes "1" ∷ []
+Says n ws Version = is_version ws ≡ true
 Says n ws Target = ws ≡ codes "target" ∷ codes "vax" ∷ []
 Says n ws (Pool m) = pool_form ws ≡ Some m
 Says n ws (Declares c) = ws ≡ codes "class" ∷ c.name ∷ kind_words c.kind
@@ -128,9 +124,9 @@ abbrev pub telling : Content → List Form
 telling d = Version ∷ Target ∷ Pool d.pool ∷ (map Declares d.classes ++ (saving 0 d.spills ++ flat_map (ruling d.classes) d.rules))
 
 -- the lines that say something, each with its number and its words; blank lines and comments don't
-abbrev pub numbered : ℕ → List (List ℕ) → List (ℕ × List (List ℕ))
-numbered n [] = []
-numbered n (l ∷ ls) = if is_skipped (words l) then numbered (n + 1) ls else (n, words l) ∷ numbered (n + 1) ls
+abbrev pub not_skipped : List ExpandedLine → List (ℕ × List (List ℕ))
+not_skipped [] = []
+not_skipped (l ∷ ls) = if is_skipped (words l.bytes) then not_skipped ls else (l.from, words l.bytes) ∷ not_skipped ls
 
 -- these lines say this one after the other
 abbrev pub Tell : List (ℕ × List (List ℕ)) → List Form → Type 0
@@ -139,10 +135,11 @@ Tell [] (f ∷ fs) = ⊥
 Tell (x ∷ xs) [] = ⊥
 Tell (x ∷ xs) (f ∷ fs) = Says x.0 x.1 f × Tell xs fs
 
--- these bytes are a description, and that is its content
+-- these bytes are a description, and that is its content: no `each` line is bad, and the lines say it in which the rules are written out
 pub record Desc (bytes : List ℕ) (d : Content) : Type 0 where
   pub valid : IsValid d
-  pub text : Tell (numbered 1 (lines bytes)) (telling d)
+  pub good : (expand bytes).bad ≡ None
+  pub text : Tell (not_skipped (expand bytes).lines) (telling d)
 
 -- a refusal that isn't for want of memory: these bytes are no description
 abbrev pub Refused : List ℕ → DescFault → Type 0

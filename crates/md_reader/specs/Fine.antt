@@ -1,6 +1,7 @@
 -- What was read so far breaks no row.
-use Rattle.std.specs.Prelude.{◌≡◌, ℕ, ◌≤◌, true, List, [], length}
+use Rattle.std.specs.Prelude.{◌≡◌, ◌≤◌, true, List, [], length}
 use Rattle.std.specs.List.{AllByRecursion}
+use Rattle.md_types.specs.declared.types.ExpandedLine.{ExpandedLine}
 use Rattle.md_reader.specs.declared.reading.Stage.{Stage}
 use Rattle.md_reader.specs.declared.reading.Stage.TheVariants as stage
 use Rattle.md_reader.specs.RuleForms.{register_behind}
@@ -35,14 +36,14 @@ pub record IsWhole (s : State) : Type 0 where
   pub eight : length s.spills ≡ 8
 
 -- the head of a rule was read, and maybe lines of its template; these lines are left
-pub record IsInRule (s : State) (left : List (List ℕ)) : Type 0 where
+pub record IsInRule (s : State) (left : List ExpandedLine) : Type 0 where
   pub whole : IsWhole s
   pub few : length s.rules ≤ 999
   pub sides : AreSides s.classes s.left s.right
   pub template : IsTemplate s.classes s.right s.register s.restrictions s.lines
   pub register : s.register ≡ register_behind left
 
-abbrev pub StageFact : Stage → State → List (List ℕ) → Type 0
+abbrev pub StageFact : Stage → State → List ExpandedLine → Type 0
 StageFact stage.Version s left = IsBlank s
 StageFact stage.Target s left = IsBlank s
 StageFact stage.Pool s left = IsBlank s
@@ -52,7 +53,7 @@ StageFact stage.Rules s left = IsWhole s
 StageFact stage.Template s left = IsInRule s left
 
 -- what was read so far breaks no row; these lines are left
-pub record IsFine (s : State) (left : List (List ℕ)) : Type 0 where
+pub record IsFine (s : State) (left : List ExpandedLine) : Type 0 where
   pub classes : AreClasses s.classes
   pub spills : AllByRecursion IsSpill s.spills
   pub few : length s.rules ≤ 1000

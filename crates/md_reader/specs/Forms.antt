@@ -1,5 +1,5 @@
 -- The forms of the lines in front of the rules, over their words: the head, the classes and what is saved.
-use Rattle.std.specs.Prelude.{ℕ, ◌+◌, ◌^◌, Bool, true, false, ◌==◌, ◌||◌, ◌&&◌, nat_le, bit_and, bit_or, List, []}
+use Rattle.std.specs.Prelude.{ℕ, ◌+◌, ◌^◌, Bool, false, ◌==◌, ◌||◌, ◌&&◌, nat_le, bit_and, bit_or, List, []}
 use Rattle.std.specs.Prelude.{◌∷◌, length, Option, Some, None, codes, if◌then◌else◌}
 use Rattle.std.specs.Char.{is_ascii_lowercase, is_ascii_digit}
 use Rattle.std.specs.Option.{option_map, option_and_then}
@@ -7,22 +7,15 @@ use Rattle.std.specs.List.{list_all}
 use Rattle.md_reader_text.specs.Words.{same}
 use Rattle.md_reader_text.specs.Numbers.{number}
 use Rattle.gg_base.specs.declared.size.Size.{Size}
-use Rattle.gg_base.specs.declared.size.Size.TheVariants as sizes
+use Rattle.md_types.specs.Forms.{are_both, size_of, size_number}
 use Rattle.md_reader.specs.declared.types.Kind.{Kind}
 use Rattle.md_reader.specs.declared.types.Kind.TheVariants as kind
 use Rattle.md_reader.specs.declared.forms.Saved.{Saved}
 use Rattle.md_reader.specs.declared.forms.Saved.TheVariants as saved
 
--- a blank line, or one whose first word begins with `#`
-abbrev pub is_skipped : List (List ℕ) → Bool
-is_skipped [] = true
-is_skipped ([] ∷ ws) = false
-is_skipped ((b ∷ bs) ∷ ws) = b == 35
-
--- `version 1`, `target vax`
-abbrev pub are_both : List (List ℕ) → List ℕ → List ℕ → Bool
-are_both (a ∷ b ∷ []) v w = same a v && same b w
-are_both ws v w = false
+-- `version 1`, and `version 2` above lines in which rules were written out
+abbrev pub is_version : List (List ℕ) → Bool
+is_version ws = are_both ws (codes "version") (codes "1") || are_both ws (codes "version") (codes "2")
 
 -- a register's number, 0 to 11
 abbrev pub register_numbered : ℕ → Option ℕ
@@ -55,12 +48,6 @@ in_name b = is_ascii_lowercase b || is_ascii_digit b
 abbrev pub is_name : List ℕ → Bool
 is_name [] = false
 is_name (b ∷ bs) = is_ascii_lowercase b && (nat_le (length bs) 30 && list_all in_name bs)
-
-abbrev pub size_of : List ℕ → Option Size
-size_of w =
-    if same w (codes "b") then Some sizes.Byte
-    else if same w (codes "w") then Some sizes.Word
-    else if same w (codes "l") then Some sizes.Long else None
 
 abbrev pub plain_kind : List ℕ → Option Kind
 plain_kind k =
@@ -104,11 +91,6 @@ spill_form [] = None
 spill_form (a ∷ ws) = if same a (codes "reload") then Some (saved.Reload, ws) else if same a (codes "spill") then spill_words ws else None
 
 -- where the line stands among the eight
-abbrev pub size_number : Size → ℕ
-size_number sizes.Byte = 0
-size_number sizes.Word = 1
-size_number sizes.Long = 2
-
 abbrev pub saved_number : Saved → ℕ
 saved_number (saved.Value z) = size_number z
 saved_number (saved.Place z) = 3 + size_number z

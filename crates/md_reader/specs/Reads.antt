@@ -1,7 +1,10 @@
 -- Reading all lines: the description, or the first wrong line and what is wrong there.
-use Rattle.std.specs.Prelude.{◌≡◌, ℕ, ◌+◌, nat_le, false, List, [], ◌∷◌, length, Result, Ok, Err, if◌then◌else◌}
+use Rattle.std.specs.Prelude.{◌≡◌, ℕ, ◌+◌, nat_le, false, List, [], ◌∷◌, length, Option, Some, None}
+use Rattle.std.specs.Prelude.{Result, Ok, Err, if◌then◌else◌}
 use Rattle.md_reader_text.specs.Lines.{lines}
 use Rattle.md_reader_text.specs.Words.{words}
+use Rattle.md_types.specs.declared.types.ExpandedLine.{ExpandedLine}
+use Rattle.md_types.specs.Expand.{expand}
 use Rattle.md_reader.specs.declared.faults.DescKind.{DescKind}
 use Rattle.md_reader.specs.declared.faults.DescKind.TheVariants as kinds
 use Rattle.md_reader.specs.declared.faults.DescFault.{DescFault}
@@ -43,17 +46,28 @@ ended_at stage.Template n s = Err (n, kinds.MissingGive)
 abbrev pub ended : ℕ → State → Result Content (ℕ × DescKind)
 ended n s = ended_at s.stage n s
 
+-- the lines end, at the text's end or in front of a bad `each` line with this number
+abbrev pub closed : Option ℕ → ℕ → State → Result Content (ℕ × DescKind)
+closed None n s = ended n s
+closed (Some bad) n s = Err (bad, kinds.BadEach)
+
 abbrev pub taken : ℕ → Result State DescKind → (State → Result Content (ℕ × DescKind)) → Result Content (ℕ × DescKind)
 taken n (Ok t) go = go t
 taken n (Err k) go = Err (n, k)
 
--- the lines that are left, the first of which has the number n
-abbrev pub read_from : ℕ → State → List (List ℕ) → Result Content (ℕ × DescKind)
-read_from n s [] = ended n s
-read_from n s (l ∷ ls) = taken n (line_step s n (words l) (register_behind ls)) (λ (t : State). read_from (n + 1) t ls)
+-- the lines that are left, with the first bad `each` line behind them; the number of the text's lines is one less than n
+abbrev pub read_from : Option ℕ → ℕ → State → List ExpandedLine → Result Content (ℕ × DescKind)
+read_from bad n s [] = closed bad n s
+read_from bad n s (l ∷ ls) = taken l.from (line_step s l.from (words l.bytes) (register_behind ls))
+    (λ (t : State). read_from bad n t ls)
 
+-- the number of the line behind the last
+abbrev pub line_behind : List ℕ → ℕ
+line_behind bytes = length (lines bytes) + 1
+
+-- the lines in which each rule that is written once for several sizes stands once for each
 abbrev pub read : List ℕ → Result Content (ℕ × DescKind)
-read bytes = read_from 1 start (lines bytes)
+read bytes = read_from (expand bytes).bad (line_behind bytes) start (expand bytes).lines
 
 abbrev pub Refuses : DescFault → Result Content (ℕ × DescKind) → Type 0
 Refuses desc_fault.NoMemory to = Unit {0}

@@ -8,7 +8,8 @@ use Rattle.md_reader.specs.declared.types.Restriction.{Restriction}
 use Rattle.md_reader.specs.declared.types.Restriction.TheVariants as restriction
 use Rattle.md_reader.specs.declared.types.Give.{Give}
 use Rattle.md_reader.specs.declared.types.Give.TheVariants as give
-use Rattle.md_reader.specs.Forms.{is_skipped}
+use Rattle.md_types.specs.declared.types.ExpandedLine.{ExpandedLine}
+use Rattle.md_types.specs.Forms.{is_skipped}
 
 -- `rule CLASS : SYMBOL ..`
 abbrev pub rule_form : List (List ℕ) → Option (List ℕ × List (List ℕ))
@@ -75,6 +76,6 @@ is_passed (a ∷ ws) = is_skipped (a ∷ ws) || (same a (codes "if") || same a (
 
 -- whether `%0` may stand in the template of the rule in front of these lines: no `give` line of
 -- another kind follows
-abbrev pub register_behind : List (List ℕ) → Bool
+abbrev pub register_behind : List ExpandedLine → Bool
 register_behind [] = true
-register_behind (l ∷ ls) = if is_passed (words l) then register_behind ls else gives_register (give_form (words l))
+register_behind (l ∷ ls) = if is_passed (words l.bytes) then register_behind ls else gives_register (give_form (words l.bytes))

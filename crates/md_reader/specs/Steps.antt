@@ -4,7 +4,8 @@ use Rattle.md_reader.specs.declared.faults.DescKind.{DescKind}
 use Rattle.md_reader.specs.declared.faults.DescKind.TheVariants as kinds
 use Rattle.md_reader.specs.declared.reading.Stage.{Stage}
 use Rattle.md_reader.specs.declared.reading.Stage.TheVariants as stage
-use Rattle.md_reader.specs.Forms.{is_skipped, are_both, pool_form, class_form, spill_form}
+use Rattle.md_types.specs.Forms.{is_skipped, are_both}
+use Rattle.md_reader.specs.Forms.{is_version, pool_form, class_form, spill_form}
 use Rattle.md_reader.specs.RuleForms.{rule_form, if_form}
 use Rattle.md_reader.specs.State.{State}
 use Rattle.md_reader.specs.HeadSteps.{pool_step, spill_line, class_line}
@@ -13,8 +14,7 @@ use Rattle.md_reader.specs.RuleSteps.{rule_line, if_line}
 -- a line that says something: its number, its words, and whether `%0` may stand in a template that
 -- it begins
 abbrev pub step_at : Stage → State → ℕ → List (List ℕ) → Bool → Result State DescKind
-step_at stage.Version s n ws z = if are_both ws (codes "version") (codes "1") then Ok (record s { stage = stage.Target })
-    else Err kinds.BadWord
+step_at stage.Version s n ws z = if is_version ws then Ok (record s { stage = stage.Target }) else Err kinds.BadWord
 step_at stage.Target s n ws z = if are_both ws (codes "target") (codes "vax") then Ok (record s { stage = stage.Pool }) else Err
     kinds.BadWord
 step_at stage.Pool s n ws z = pool_step s (pool_form ws)

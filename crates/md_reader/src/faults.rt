@@ -7,6 +7,8 @@ use std::alloc::{AllocError, AllocFailed};
 /// text's end.
 #[derive(Clone, Copy, Debug, PartialEq, Eq)]
 pub enum DescKind {
+    /// An `each` line that has other words behind it than its letters, or no rule.
+    BadEach,
     /// The line is none of the forms that may stand here.
     BadWord,
     /// More classes, rules, symbols, restrictions or template lines than are allowed.

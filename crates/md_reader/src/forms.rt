@@ -1,18 +1,18 @@
 // The forms of lines, whatever the lines before say.
 ghost use Rattle.std.specs.Prelude.{◌≡◌, ◌≤◌, ◌^◌, IfSome};
 ghost use Rattle.std.specs.Option.{option_map};
-ghost use Rattle.md_reader_text.specs.Lines.{lines};
 ghost use Rattle.md_reader_text.specs.Words.{words};
-ghost use Rattle.md_reader.specs.Forms.{is_skipped, are_both, register_of, with_register, pool_from, pool_form};
-ghost use Rattle.md_reader.specs.Forms.{in_name, is_name, size_of, plain_kind, sized_kind, kind_form};
-ghost use Rattle.md_reader.specs.Forms.{class_form, sized_form, spill_words, spill_form, size_number, saved_number};
+ghost use Rattle.md_reader.specs.Forms.{is_version, register_of, with_register, pool_from, pool_form};
+ghost use Rattle.md_reader.specs.Forms.{in_name, is_name, plain_kind, sized_kind, kind_form};
+ghost use Rattle.md_reader.specs.Forms.{class_form, sized_form, spill_words, spill_form, saved_number};
 ghost use Rattle.md_reader.specs.RuleForms.{rule_form, symbol_number, same_form, range_form, restriction_form};
 ghost use Rattle.md_reader.specs.RuleForms.{if_form, do_form, give_form, plain_give, has_register, gives_register};
 ghost use Rattle.md_reader.specs.RuleForms.{is_passed, register_behind};
 
 use crate::types::{Give, Kind, Restriction};
 use gg_base::Size;
-use md_reader_text::{integer, is_word, next_line, next_word, number};
+use md_reader_text::{integer, is_word, next_word, number};
+use md_types::{ExpandedLine, are_both, is_skipped, size_number, size_of};
 
 /// What a spill line saves; or the reload line.
 #[derive(Clone, Copy, Debug, PartialEq, Eq)]
@@ -37,44 +37,11 @@ impl Saved {
     }
 }
 
-fn size_number(size: Size) -> usize
-    ensures is { result ≡ size_number size }
-    ensures small { result ≤ 2 }
+/// Whether the line is `version 1`, or `version 2` above lines in which rules were written out.
+pub fn is_version(line: &[u8]) -> bool
+    ensures { result ≡ is_version (words line.now) }
 {
-    match size {
-        Size::Byte => 0,
-        Size::Word => 1,
-        Size::Long => 2,
-    }
-}
-
-/// Whether the line says nothing: it is blank, or its first word begins with `#`.
-pub fn is_skipped(line: &[u8]) -> bool
-    ensures { result ≡ is_skipped (words line.now) }
-{
-    match next_word(line) {
-        None => true,
-        Some((word, _)) => match word {
-            [] => false,
-            [byte, ..] => *byte == b'#',
-        },
-    }
-}
-
-/// Whether the line is these two words.
-pub fn are_both(line: &[u8], first: &str, second: &str) -> bool
-    ensures { result ≡ are_both (words line.now) first.now second.now }
-{
-    let Some((a, rest)) = next_word(line) else {
-        return false;
-    };
-    let Some((b, rest)) = next_word(rest) else {
-        return false;
-    };
-    match next_word(rest) {
-        None => is_word(a, first) && is_word(b, second),
-        Some(_) => false,
-    }
+    are_both(line, "version", "1") || are_both(line, "version", "2")
 }
 
 fn register_of(word: &[u8]) -> Option<u32>
@@ -148,20 +115,6 @@ fn is_name(word: &[u8]) -> bool
         [first, others @ ..] => first.is_ascii_lowercase()
             && others.len() <= 30
             && are_in_name(others),
-    }
-}
-
-fn size_of(word: &[u8]) -> Option<Size>
-    ensures { result ≡ size_of word.now }
-{
-    if is_word(word, "b") {
-        Some(Size::Byte)
-    } else if is_word(word, "w") {
-        Some(Size::Word)
-    } else if is_word(word, "l") {
-        Some(Size::Long)
-    } else {
-        None
     }
 }
 
@@ -404,17 +357,16 @@ fn is_passed(line: &[u8]) -> bool
     }
 }
 
-/// Whether `%0` may stand in the template of the rule in front of this text: unless a `give` line
+/// Whether `%0` may stand in the template of the rule in front of these lines: unless a `give` line
 /// follows that gives the rule no register.
-pub fn register_behind(text: &[u8]) -> bool
-    ensures { result ≡ register_behind (lines text.now) }
+pub fn register_behind(lines: &[ExpandedLine]) -> bool
+    ensures { result ≡ register_behind lines.now }
 {
-    let mut rest = text;
-    while let Some((line, after)) = next_line(rest) {
-        if !is_passed(line) {
-            return gives_register(line);
+    for line in lines {
+        let bytes = line.bytes.as_slice();
+        if !is_passed(bytes) {
+            return gives_register(bytes);
         }
-        rest = after;
     }
     true
 }

@@ -6,15 +6,16 @@ ghost use Rattle.md_reader.specs.First.{IsFirst};
 ghost use Rattle.md_reader_text.specs.Lines.{lines};
 ghost use Rattle.md_reader.specs.Fine.{IsFine};
 ghost use Rattle.md_reader.specs.View.{state};
-ghost use Rattle.md_reader.specs.Reads.{ended, read, Answers};
+ghost use Rattle.md_reader.specs.Reads.{start, ended, closed, read_from, line_behind, read, Answers};
 
 use crate::description::Description;
 use crate::faults::{DescFault, DescKind, LineFault};
 use crate::reading::{Reading, Stage, has_stmt};
 use md_reader_text::next_line;
+use md_types::{Expanded, expand};
 use std::alloc::Global;
 
-fn missing(line: u32, kind: DescKind) -> Result<Description, DescFault>
+fn wrong_at(line: u32, kind: DescKind) -> Result<Description, DescFault>
     ensures { result ≡ Err (desc_fault.Line line kind) }
 {
     Err(DescFault::Line { line, kind })
@@ -23,44 +24,54 @@ fn missing(line: u32, kind: DescKind) -> Result<Description, DescFault>
 ghost use Rattle.std.specs.Prelude.{Err, []};
 ghost use Rattle.md_reader.specs.declared.faults.DescFault.TheVariants as desc_fault;
 
-/// The text ends before the line with this number.
+/// The text ends before the line with this number, and no `each` line is bad.
 #[tactic(auto, using(crate::proofs::ValidLaws::is_valid))]
-fn finish(reading: Reading, line: u32) -> Result<Description, DescFault>
+fn end(reading: Reading, line: u32) -> Result<Description, DescFault>
     requires { IsFine (state reading) [] }
     ensures { Answers result (ended line (state reading)) }
 {
     match reading.stage {
-        Stage::Version => missing(line, DescKind::MissingVersion),
-        Stage::Target => missing(line, DescKind::MissingTarget),
-        Stage::Pool => missing(line, DescKind::MissingPool),
+        Stage::Version => wrong_at(line, DescKind::MissingVersion),
+        Stage::Target => wrong_at(line, DescKind::MissingTarget),
+        Stage::Pool => wrong_at(line, DescKind::MissingPool),
         Stage::Classes => {
             if has_stmt(&reading.classes) {
-                missing(line, DescKind::MissingSpill)
+                wrong_at(line, DescKind::MissingSpill)
             } else {
-                missing(line, DescKind::MissingStmt)
+                wrong_at(line, DescKind::MissingStmt)
             }
         }
         Stage::Spills => {
             if reading.spills.len() <= 6 {
-                missing(line, DescKind::MissingSpill)
+                wrong_at(line, DescKind::MissingSpill)
             } else {
-                missing(line, DescKind::MissingReload)
+                wrong_at(line, DescKind::MissingReload)
             }
         }
         Stage::Rules => {
             if reading.rules.is_empty() {
-                return missing(line, DescKind::MissingRule);
+                return wrong_at(line, DescKind::MissingRule);
             }
             Ok(Description::new(reading.pool, reading.classes, reading.spills, reading.rules))
         }
-        Stage::Template => missing(line, DescKind::MissingGive),
+        Stage::Template => wrong_at(line, DescKind::MissingGive),
+    }
+}
+
+/// The lines end, at the text's end or in front of a bad `each` line.
+fn close(reading: Reading, bad: Option<u32>, line: u32) -> Result<Description, DescFault>
+    requires { IsFine (state reading) [] }
+    ensures { Answers result (closed bad line (state reading)) }
+{
+    match bad {
+        None => end(reading, line),
+        Some(bad) => wrong_at(bad, DescKind::BadEach),
     }
 }
 
 #[tactic(auto, using(crate::proofs::ValidLaws::begins))]
-fn read_all(alloc: Global, bytes: &[u8]) -> Result<Description, DescFault>
-    requires { length bytes.now ≤ 262144 }
-    ensures { Answers result (read bytes.now) }
+fn read_lines(alloc: Global, text: &Expanded, end: u32) -> Result<Description, DescFault>
+    ensures { Answers result (read_from text.now.bad end start text.now.lines) }
 {
     let mut reading = Reading {
         stage: Stage::Version,
@@ -74,20 +85,40 @@ fn read_all(alloc: Global, bytes: &[u8]) -> Result<Description, DescFault>
         lines: Vec::new(alloc),
         register: false,
     };
-    let mut rest = bytes;
-    let mut number: u32 = 1;
-    while let Some((line, after)) = next_line(rest) {
-        match reading.line(alloc, number, line, after) {
+    let mut rest = text.lines.as_slice();
+    while let [line, after @ ..] = rest {
+        match reading.line(alloc, line, after) {
             Ok(()) => {}
             Err(LineFault::NoMemory) => return Err(DescFault::NoMemory),
-            Err(LineFault::Wrong(kind)) => {
-                return Err(DescFault::Line { line: number, kind });
-            }
+            Err(LineFault::Wrong(kind)) => return wrong_at(line.from, kind),
         }
+        rest = after;
+    }
+    close(reading, text.bad, end)
+}
+
+/// The number of the line behind the last.
+fn line_behind(bytes: &[u8]) -> u32
+    requires { length bytes.now ≤ 262144 }
+    ensures { result ≡ line_behind bytes.now }
+{
+    let mut number: u32 = 1;
+    let mut rest = bytes;
+    while let Some((_, after)) = next_line(rest) {
         number += 1;
         rest = after;
     }
-    finish(reading, number)
+    number
+}
+
+fn read_all(alloc: Global, bytes: &[u8]) -> Result<Description, DescFault>
+    requires { length bytes.now ≤ 262144 }
+    ensures { Answers result (read bytes.now) }
+{
+    let Ok(text) = expand(alloc, bytes) else {
+        return Err(DescFault::NoMemory);
+    };
+    read_lines(alloc, &text, line_behind(bytes))
 }
 
 /// The description that the bytes are, or the first wrong line and what is wrong there.

@@ -1,7 +1,6 @@
 // Taking one line after the other.
 ghost use Rattle.std.specs.Prelude.{◌≡◌, ◌≤◌, length, OnOk, Some, None};
 ghost use Rattle.std.specs.Option.{option_map};
-ghost use Rattle.md_reader_text.specs.Lines.{lines};
 ghost use Rattle.md_reader_text.specs.Words.{words};
 ghost use Rattle.md_reader_pieces.specs.Pieces.{text_of, pieces};
 ghost use Rattle.md_reader.specs.RuleForms.{if_form, do_form, register_behind};
@@ -14,8 +13,8 @@ ghost use Rattle.md_reader.specs.Steps.{step, line_step};
 
 use crate::faults::{DescKind, LineFault};
 use crate::forms::{
-    are_both, class_form, do_form, give_form, if_form, is_skipped, plain_give, pool_form,
-    register_behind, rule_form, spill_form,
+    class_form, do_form, give_form, if_form, is_version, plain_give, pool_form, register_behind,
+    rule_form, spill_form,
 };
 use crate::patterns::{is_sorted, is_tree, kind_at, sort_of_symbol};
 use crate::rows::{is_bare, line_fits, pieces_fit, plain_fits, restriction_fits, shape_fits};
@@ -24,6 +23,7 @@ use crate::types::{Class, Give, Kind, Lines, Restriction, Restrictions, Rule, Sy
 use gg_base::Name;
 use md_reader_pieces::{Line, Piece, Pieces, line_text, pieces};
 use md_reader_text::is_word;
+use md_types::{ExpandedLine, are_both, is_skipped};
 use std::alloc::Global;
 
 /// What may come next.
@@ -136,9 +136,9 @@ impl Reading {
         alloc: Global,
         class: &[u8],
         line: &[u8],
-        behind: &[u8],
+        behind: &[ExpandedLine],
     ) -> Result<(), LineFault>
-        ensures { Stepped result (state self.new) (rule_step (state self.old) (register_behind (lines behind.now))
+        ensures { Stepped result (state self.new) (rule_step (state self.old) (register_behind behind.now)
             class.now (words line.now)) }
     {
         if self.rules.len() >= 1000 || !is_short(line) {
@@ -276,14 +276,14 @@ impl Reading {
         alloc: Global,
         number: u32,
         line: &[u8],
-        behind: &[u8],
+        behind: &[ExpandedLine],
     ) -> Result<(), LineFault>
         ensures { Stepped result (state self.new) (step (state self.old) number (words line.now)
-            (register_behind (lines behind.now))) }
+            (register_behind behind.now)) }
     {
         match self.stage {
             Stage::Version => {
-                if !are_both(line, "version", "1") {
+                if !is_version(line) {
                     return Err(LineFault::Wrong(DescKind::BadWord));
                 }
                 self.stage = Stage::Target;
@@ -322,10 +322,10 @@ impl Reading {
         alloc: Global,
         number: u32,
         line: &[u8],
-        behind: &[u8],
+        behind: &[ExpandedLine],
     ) -> Result<(), LineFault>
         ensures { Stepped result (state self.new) (line_step (state self.old) number (words line.now)
-            (register_behind (lines behind.now))) }
+            (register_behind behind.now)) }
     {
         if is_skipped(line) {
             return Ok(());
@@ -333,21 +333,20 @@ impl Reading {
         self.step(alloc, number, line, behind)
     }
 
-    /// Takes a line with its number; the text behind it says whether a template may have `%0`.
+    /// Takes a line; those behind it say whether a template may have `%0`.
     #[tactic(auto, using(crate::proofs::ValidLaws::line_fine))]
     pub fn line(
         &mut self,
         alloc: Global,
-        number: u32,
-        line: &[u8],
-        behind: &[u8],
+        line: &ExpandedLine,
+        behind: &[ExpandedLine],
     ) -> Result<(), LineFault>
-        ensures stepped { Stepped result (state self.new) (line_step (state self.old) number (words line.now)
-            (register_behind (lines behind.now))) }
+        ensures stepped { Stepped result (state self.new) (line_step (state self.old) line.now.from (words line.now.bytes)
+            (register_behind behind.now)) }
         // What was read so far stays valid.
-        ensures fine { OnOk result (IsFine (state self.old) (line.now ∷ lines behind.now) → IsFine (state self.new) (lines behind.now)) }
+        ensures fine { OnOk result (IsFine (state self.old) (line.now ∷ behind.now) → IsFine (state self.new) behind.now) }
     {
-        self.take(alloc, number, line, behind)
+        self.take(alloc, line.from, line.bytes.as_slice(), behind)
     }
 }
 

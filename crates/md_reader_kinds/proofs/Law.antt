@@ -16,21 +16,24 @@ use Rattle.md_reader.specs.declared.reading.Stage.{Stage}
 use Rattle.md_reader.specs.declared.reading.Stage.TheVariants as stage
 use Rattle.md_reader.specs.Patterns.{kind_at, sort_of_symbol, sorted_test, walk, count}
 use Rattle.md_reader.specs.Symbols.{class_of, symbols_of}
-use Rattle.md_reader.specs.Forms.{are_both, pool_form, class_form, spill_form, saved_number}
+use Rattle.md_types.specs.Forms.{are_both}
+use Rattle.md_reader.specs.Forms.{is_version, pool_form, class_form, spill_form, saved_number}
 use Rattle.md_reader.specs.RuleForms.{rule_form, if_form, do_form, give_form, plain_give}
 use Rattle.md_reader.specs.Restrictions.{restriction_fits}
 use Rattle.md_reader.specs.Rows.{line_fits, pieces_fit, shape_fits, plain_fits, is_bare}
-use Rattle.md_reader.specs.State.{State}
+use Rattle.md_reader.specs.State.{State, Content}
 use Rattle.md_reader.specs.HeadSteps.{has_stmt, pool_step, new_class, class_step, spill_pieces, spill_text}
 use Rattle.md_reader.specs.HeadSteps.{spill_line, class_line}
 use Rattle.md_reader.specs.RuleSteps.{sort_step, right_step, left_step, rule_step, rule_line, if_step, do_pieces}
 use Rattle.md_reader.specs.RuleSteps.{do_text, shape_step, give_step, give_line, do_line, if_line}
 use Rattle.md_reader.specs.Steps.{step, step_at}
+use Rattle.md_reader.specs.Reads.{content_of, ended_at}
 use Rattle.std.specs.Option.{option_map}
 use Rattle.md_reader_kinds.specs.Sayings.{Saying, Head, NewClass, Spill, NewRule, If, Do, Giving, head_if, spill_said}
 use Rattle.md_reader_kinds.specs.Sayings.{class_said, do_said, if_said, said_at}
 use Rattle.md_reader_kinds.specs.Table.{fails, lacks, bad_operand, bad_give, wrong_sorts}
-use Rattle.md_reader_kinds.specs.Table.{wrong_sort, Row, row, rows, first, kind_of, FirstKindIsAnswered}
+use Rattle.md_reader_kinds.specs.Table.{wrong_sort, Row, row, rows, first, kind_of, end_rows, end_kind, FirstKindIsAnswered}
+use Rattle.md_reader_kinds.specs.Table.{FirstKindAtTheEnd}
 
 module _ (s : State) (n : ℕ) (z : Bool) where
   abbrev Kind_of : Result State DescKind → Option Saying → Type 0
@@ -199,7 +202,7 @@ module _ (s : State) (n : ℕ) (z : Bool) where
   pool_kind (Some m) = refl
 
   step_kind : (g : Stage) (ws : List (List ℕ)) → Kind_of (step_at g s n ws z) (said_at g s ws)
-  step_kind stage.Version ws = head (are_both ws (codes "version") (codes "1")) _
+  step_kind stage.Version ws = head (is_version ws) _
   step_kind stage.Target ws = head (are_both ws (codes "target") (codes "vax")) _
   step_kind stage.Pool ws = pool_kind (pool_form ws)
   step_kind stage.Classes ws = class_line_kind (class_form ws) ws
@@ -209,3 +212,29 @@ module _ (s : State) (n : ℕ) (z : Bool) where
 
 pub first_kind_is_answered : FirstKindIsAnswered
 first_kind_is_answered s n ws z e = ap (λ (b : Bool). kind_of (if b then Ok s else step s n ws z)) e ∙ step_kind s n z s.stage ws
+
+-- where the lines end
+spill_or_stmt : (n : ℕ) (b : Bool) → end_kind (if b then Err (n, kinds.MissingSpill) else Err (n, kinds.MissingStmt)) ≡ (if not b then Some kinds.MissingStmt else Some kinds.MissingSpill)
+spill_or_stmt n true = refl
+spill_or_stmt n false = refl
+
+spill_or_reload : (n : ℕ) (b : Bool) → end_kind (if b then Err (n, kinds.MissingSpill) else Err (n, kinds.MissingReload)) ≡ (if b then Some kinds.MissingSpill else Some kinds.MissingReload)
+spill_or_reload n true = refl
+spill_or_reload n false = refl
+
+whole_or_rule : (d : Content) (n : ℕ) (b : Bool) → end_kind (if b then Ok d else Err (n, kinds.MissingRule)) ≡ (if not b then Some kinds.MissingRule else None)
+whole_or_rule d n true = refl
+whole_or_rule d n false = refl
+
+ended_kind : (g : Stage) (s : State) (n : ℕ) → end_kind (ended_at g n s) ≡ first (end_rows g s None)
+ended_kind stage.Version s n = refl
+ended_kind stage.Target s n = refl
+ended_kind stage.Pool s n = refl
+ended_kind stage.Classes s n = spill_or_stmt n (has_stmt s.classes)
+ended_kind stage.Spills s n = spill_or_reload n (nat_le (length s.spills) 6)
+ended_kind stage.Rules s n = whole_or_rule (content_of s) n (nat_le 1 (length s.rules))
+ended_kind stage.Template s n = refl
+
+pub first_kind_at_the_end : FirstKindAtTheEnd
+first_kind_at_the_end s n None = ended_kind s.stage s n
+first_kind_at_the_end s n (Some bad) = refl

@@ -7,7 +7,8 @@ use Rattle.md_reader.specs.declared.types.Restriction.{Restriction}
 use Rattle.md_reader.specs.declared.forms.Saved.{Saved}
 use Rattle.md_reader.specs.declared.reading.Stage.{Stage}
 use Rattle.md_reader.specs.declared.reading.Stage.TheVariants as stage
-use Rattle.md_reader.specs.Forms.{are_both, pool_form, class_form, spill_form, saved_number}
+use Rattle.md_types.specs.Forms.{are_both}
+use Rattle.md_reader.specs.Forms.{is_version, pool_form, class_form, spill_form, saved_number}
 use Rattle.md_reader.specs.RuleForms.{rule_form, if_form, do_form, give_form}
 use Rattle.md_reader.specs.State.{State}
 
@@ -43,7 +44,7 @@ if_said s (Some r) ws = if length s.lines == 0 then Some (If r) else None
 if_said s None ws = do_said (do_form ws) ws
 
 abbrev pub said_at : Stage → State → List (List ℕ) → Option Saying
-said_at stage.Version s ws = head_if (are_both ws (codes "version") (codes "1"))
+said_at stage.Version s ws = head_if (is_version ws)
 said_at stage.Target s ws = head_if (are_both ws (codes "target") (codes "vax"))
 said_at stage.Pool s ws = option_map (λ (m : ℕ). Head) (pool_form ws)
 said_at stage.Classes s ws = class_said s (class_form ws) ws

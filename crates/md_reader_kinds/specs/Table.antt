@@ -1,5 +1,5 @@
 -- The table of kinds: what may be wrong with a line at the point where it stands, in the order in which it is answered.
-use Rattle.std.specs.Prelude.{◌≡◌, ℕ, ◌||◌, not, nat_le, Bool, true, false, List, [], ◌∷◌, length, Option, Some, None}
+use Rattle.std.specs.Prelude.{◌≡◌, ℕ, ◌||◌, ◌&&◌, not, nat_le, Bool, true, false, List, [], ◌∷◌, length, Option, Some, None}
 use Rattle.std.specs.Prelude.{is_none, is_some, Result, Ok, Err, if◌then◌else◌}
 use Rattle.tree_core.specs.declared.token.Sort.{Sort}
 use Rattle.md_reader_pieces.specs.Pieces.{pieces}
@@ -9,15 +9,18 @@ use Rattle.md_reader.specs.declared.types.Sym.TheVariants as grammar_symbol
 use Rattle.md_reader.specs.declared.types.Give.{Give}
 use Rattle.md_reader.specs.declared.faults.DescKind.{DescKind}
 use Rattle.md_reader.specs.declared.faults.DescKind.TheVariants as kinds
+use Rattle.md_reader.specs.declared.reading.Stage.{Stage}
+use Rattle.md_reader.specs.declared.reading.Stage.TheVariants as stage
 use Rattle.md_reader.specs.Patterns.{kind_at, sort_of_symbol, sorted_test, walk, count}
 use Rattle.md_reader.specs.Symbols.{class_of, symbols_of}
-use Rattle.md_reader.specs.Forms.{is_skipped}
+use Rattle.md_types.specs.Forms.{is_skipped}
 use Rattle.md_reader.specs.RuleForms.{plain_give}
 use Rattle.md_reader.specs.Restrictions.{restriction_fits}
 use Rattle.md_reader.specs.Rows.{line_fits, pieces_fit, shape_fits, plain_fits, is_bare}
-use Rattle.md_reader.specs.State.{State}
+use Rattle.md_reader.specs.State.{State, Content}
 use Rattle.md_reader.specs.HeadSteps.{has_stmt}
 use Rattle.md_reader.specs.Steps.{line_step}
+use Rattle.md_reader.specs.Reads.{closed}
 use Rattle.md_reader_kinds.specs.Sayings.{Saying, Head, NewClass, Spill, NewRule, If, Do, Giving, said}
 
 -- there is one, and it fails
@@ -92,3 +95,35 @@ kind_of (Err k) = Some k
 abbrev pub FirstKindIsAnswered : Type 0
 FirstKindIsAnswered = (s : State) (n : ℕ) (ws : List (List ℕ)) (z : Bool) → is_skipped ws ≡ false → kind_of (line_step s n ws z)
     ≡ first (rows s z (said s ws))
+
+-- what was read before the lines end
+abbrev pub is_at : Stage → Stage → Bool
+is_at stage.Version stage.Version = true
+is_at stage.Target stage.Target = true
+is_at stage.Pool stage.Pool = true
+is_at stage.Classes stage.Classes = true
+is_at stage.Spills stage.Spills = true
+is_at stage.Rules stage.Rules = true
+is_at stage.Template stage.Template = true
+is_at g h = false
+
+-- the kinds that may apply where the lines end, in front of a bad `each` line or at the text's end: what is missing, in its order
+abbrev pub end_rows : Stage → State → Option ℕ → List Row
+end_rows g s bad =
+    row kinds.BadEach (is_some bad) ∷
+    row kinds.MissingVersion (is_at stage.Version g) ∷
+    row kinds.MissingTarget (is_at stage.Target g) ∷
+    row kinds.MissingPool (is_at stage.Pool g) ∷
+    row kinds.MissingStmt (is_at stage.Classes g && not (has_stmt s.classes)) ∷
+    row kinds.MissingSpill (is_at stage.Classes g || (is_at stage.Spills g && nat_le (length s.spills) 6)) ∷
+    row kinds.MissingReload (is_at stage.Spills g) ∷
+    row kinds.MissingRule (is_at stage.Rules g && not (nat_le 1 (length s.rules))) ∷
+    row kinds.MissingGive (is_at stage.Template g) ∷ []
+
+abbrev pub end_kind : Result Content (ℕ × DescKind) → Option DescKind
+end_kind (Ok d) = None
+end_kind (Err x) = Some x.1
+
+-- And so it does where the lines end: a bad `each` line goes before what is missing.
+abbrev pub FirstKindAtTheEnd : Type 0
+FirstKindAtTheEnd = (s : State) (n : ℕ) (bad : Option ℕ) → end_kind (closed bad n s) ≡ first (end_rows s.stage s bad)
