@@ -1,5 +1,6 @@
 -- Machine descriptions in files, which of them are accepted, and how another is told.
 use Rattle.std.specs.Prelude.{◌≡◌, ℕ, List, None}
+use Rattle.gg_base.specs.declared.limits.TheConstants.{DESCRIPTION_LIMIT}
 use Rattle.cmd_session.specs.declared.status.Status.{Status}
 use Rattle.cmd_session.specs.declared.status.Status.TheVariants as statuses
 use Rattle.cmd_session.specs.Writing.{Change, Reports}
@@ -21,7 +22,7 @@ use Rattle.cmd_check.specs.Rules.{vax_refusal, RulesRefused}
 
 -- the longest description
 abbrev pub description_limit : ℕ
-description_limit = 262144
+description_limit = DESCRIPTION_LIMIT
 
 -- the line names the first wrong line of the bytes, and what is wrong there
 pub record NamesFirstWrong (bytes line : List ℕ) : Type 0 where

@@ -1,5 +1,6 @@
 -- What a part of a command leaves behind where it refused: its status, and the line that it has told.
 use Rattle.std.specs.Prelude.{◌≡◌, ℕ, List, Some, None}
+use Rattle.gg_base.specs.declared.limits.TheConstants.{SOURCE_LIMIT}
 use Rattle.gg_outside.specs.Outside.{IsLonger}
 use Rattle.cmd_session.specs.declared.status.Status.{Status}
 use Rattle.cmd_session.specs.declared.status.Status.TheVariants as statuses
@@ -12,7 +13,7 @@ use Rattle.cmd_files.specs.Outsides.{Lookup, IsUnfailed, Fails, FailsAtMost}
 
 -- the longest input of a run, and the longest source
 abbrev pub input_limit : ℕ
-input_limit = 1048576
+input_limit = SOURCE_LIMIT
 
 -- the file of that name was refused
 pub data FileRefused {A : Type 0} (form : Form A) (name : List ℕ) (folder : Lookup) (status : Status) (report : Change) : Type 0 where

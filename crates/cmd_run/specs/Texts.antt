@@ -1,5 +1,6 @@
 -- Assembly texts in files, and how their codes are run.
 use Rattle.std.specs.Prelude.{◌≡◌, ℕ, List, Option, Some, None}
+use Rattle.gg_base.specs.declared.limits.TheConstants.{TEXT_LIMIT}
 use Rattle.gg_base.specs.declared.run.End.{End}
 use Rattle.gg_base.specs.declared.run.End.TheVariants as ends
 use Rattle.cmd_session.specs.declared.status.Status.TheVariants as statuses
@@ -15,7 +16,7 @@ use Rattle.cmd_run.specs.Lines.{wrong_line, load_line}
 
 -- the longest text
 abbrev pub text_limit : ℕ
-text_limit = 67108864
+text_limit = TEXT_LIMIT
 
 -- the line names the first line of the bytes that is not of the grammar, and what is wrong with it
 pub record NamesFirstWrong (bytes line : List ℕ) : Type 0 where

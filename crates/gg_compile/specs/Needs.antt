@@ -1,5 +1,6 @@
 -- Which functions fit a frame.
 use Rattle.std.specs.Prelude.{◌≡◌, ℕ, ◌<◌, ◌≤◌, length}
+use Rattle.gg_base.specs.declared.limits.TheConstants.{NEED_LIMIT}
 use Rattle.c_program.specs.Programs.{AProgram}
 use Rattle.c_lower.specs.c_typed_check.specs.Typed.{need_at}
 use Rattle.gg_compile.specs.declared.fault.CompileFault.{CompileFault}
@@ -7,7 +8,7 @@ use Rattle.gg_compile.specs.declared.fault.CompileFault.TheVariants as faults
 
 -- the most words of a frame
 abbrev pub need_limit : ℕ
-need_limit = 1024
+need_limit = NEED_LIMIT
 
 -- each function before that one fits
 abbrev pub FitBefore : AProgram → ℕ → Type 0
