@@ -5,10 +5,12 @@ pub mod Symbols_apart
 pub mod Marking
 pub mod Loops
 pub mod RowTurns
+pub mod Keeping
 pub mod Closing
 pub mod Following
 pub mod Order
 pub mod Found
+pub mod KeepTurns
 pub mod Counting
 pub mod Law
 pub mod Validity

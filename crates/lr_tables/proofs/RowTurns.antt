@@ -39,6 +39,10 @@ actions_turn rules fs kernel ts n done cs e f =
     ap₂ (λ (x : List (List Choice)) (y : List Choice). x ++ y ∷ []) e f
     ∙ sym (map-range_with_len_more (λ (t : ℕ). cell t (get_or ts t None) (reductions rules (get_or fs t []) kernel)) 0 n n (omega arith))
 
+pub length-actions : (rules : List Rule) (fs : List (List Bool)) (kernel : List Item) (ts : List (Option ℕ)) (n : ℕ) → length (actions_of rules fs kernel ts n) ≡ n
+unfolding actions_of
+length-actions rules fs kernel ts n = length-map-range_with_len (λ (t : ℕ). cell t (get_or ts t None) (reductions rules (get_or fs t []) kernel)) 0 n
+
 pub length-follows : (rules : List Rule) (stmt classes : ℕ) → length (all_follows rules stmt classes 40) ≡ 40
 unfolding all_follows
 length-follows rules stmt classes = length-map-range_with_len (follows rules stmt classes) 0 40

@@ -12,6 +12,8 @@ pub mod Looking
 pub mod View
 pub mod Rows
 pub mod Built
+pub mod Entries
+pub mod Kept
 pub mod Over
 pub mod Leads
 pub mod Candidates

@@ -3,8 +3,8 @@ ghost use Rattle.std.specs.Prelude.{◌≡◌, ◌≤◌, length, IfOk, IfErr};
 ghost use Rattle.lr_tables.specs.Statements.{stmt_of};
 ghost use Rattle.lr_tables.specs.Promises.{HasTooManySets};
 
+use crate::kept::all_kept;
 use crate::numbering::BuildFault;
-use crate::rows::all_rows;
 use crate::tables::Tables;
 use md_reader::{Class, Description};
 use std::alloc::Global;
@@ -34,13 +34,13 @@ pub fn build(alloc: Global, description: Description) -> Result<Tables, (Descrip
 {
     description.is_valid();
     let stmt = statements(description.classes());
-    match all_rows(
+    match all_kept(
         alloc,
         description.rules(),
         stmt,
         description.classes().len(),
     ) {
-        Ok(rows) => Ok(Tables::new(description, rows)),
+        Ok(kept) => Ok(Tables::new(description, kept)),
         Err(fault) => Err((description, fault)),
     }
 }

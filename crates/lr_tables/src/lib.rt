@@ -5,6 +5,7 @@
 mod building;
 mod follow;
 mod item;
+mod kept;
 mod marks;
 mod numbering;
 mod rows;

@@ -5,8 +5,9 @@ ghost use Rattle.lr_tables.specs.Statements.{stmt_of};
 ghost use Rattle.lr_tables.specs.Leads.{target_at, actions_at};
 ghost use Rattle.lr_tables.specs.Promises.{AreCandidates, LeadsOn, IsNumbered};
 
-use crate::item::{number, symbol_number};
-use crate::types::{Choice, Row, State};
+use crate::item::{TOKENS, number, symbol_number};
+use crate::kept::{Kept, target_of_entry};
+use crate::types::{Choice, State};
 use md_reader::{Description, Sym};
 use std::marker::Model;
 use tree_core::Tok;
@@ -15,32 +16,35 @@ use tree_core::Tok;
 #[derive(Drop)]
 pub struct Tables {
     description: Description,
-    rows: Vec<Row>,
+    kept: Kept,
 }
 
 impl Model for Tables {
     ghost use Rattle.std.specs.Prelude.{length};
     ghost use Rattle.lr_tables.specs.View.{TableView};
-    ghost use Rattle.lr_tables.specs.Built.{IsRows};
+    ghost use Rattle.lr_tables.specs.Kept.{rows_to, AreTables};
     ghost use Rattle.lr_tables.specs.Statements.{stmt_of};
 
     ghost Value = { TableView };
 
-    ghost view = { λ t. record { content = t.description; rows = t.rows.items } };
+    ghost view = { λ t. record {
+      content = t.description;
+      rows = rows_to t.description.rules (stmt_of t.description.classes) (length t.description.classes) (length t.kept.lists.items);
+    } };
 
-    ghost invariant = { λ t. IsRows t.description.rules (stmt_of t.description.classes) (length t.description.classes) t.rows.items };
+    ghost invariant = { λ t. AreTables t.description.rules (stmt_of t.description.classes) (length t.description.classes) t.kept };
 }
 
 ghost use Rattle.md_reader.specs.Valid.{IsValid};
-ghost use Rattle.lr_tables.specs.Built.{IsRows};
+ghost use Rattle.lr_tables.specs.Kept.{AreTables};
 
 impl Tables {
-    /// The tables with these rows.
-    pub(crate) fn new(description: Description, rows: Vec<Row>) -> Self
-        requires { IsRows description.rules (stmt_of description.classes) (length description.classes) rows.items }
-        ensures { result ≡ record { content = description; rows = rows.items } }
+    /// The tables that are kept so.
+    pub(crate) fn new(description: Description, kept: Kept) -> Self
+        requires { AreTables description.rules (stmt_of description.classes) (length description.classes) kept }
+        ensures { result.content ≡ description }
     {
-        Tables { description, rows }
+        Tables { description, kept }
     }
 
     // The description is valid.
@@ -55,17 +59,21 @@ impl Tables {
     pub fn is_numbered(&self)
         ensures { IsNumbered self.now }
     {
-        let _rows = &self.rows;
+        let _kept = &self.kept;
     }
 
     fn choices(&self, state: State, token: Tok) -> &[Choice]
         ensures { result.now ≡ actions_at self.now state token }
     {
-        match self.rows.get(state.number() as usize) {
-            Some(row) => match row.actions().get(number(token)) {
-                Some(choices) => choices.as_slice(),
-                None => &[],
-            },
+        let row = state.number() as usize;
+        match self.kept.lists.get(row) {
+            Some(lists) => {
+                let place = self.kept.actions.at(row, number(token)) as usize;
+                match lists.as_slice().get(place) {
+                    Some(choices) => choices.as_slice(),
+                    None => &[],
+                }
+            }
             None => &[],
         }
     }
@@ -74,12 +82,12 @@ impl Tables {
     pub fn over(&self, state: State, symbol: Sym) -> Option<State>
         ensures { result ≡ target_at self.now state symbol }
     {
-        match self.rows.get(state.number() as usize) {
-            Some(row) => match row.targets().get(symbol_number(symbol)) {
-                Some(target) => *target,
-                None => None,
-            },
-            None => None,
+        let row = state.number() as usize;
+        let column = symbol_number(symbol);
+        if row < self.kept.lists.len() && column < TOKENS + self.description.classes().len() {
+            target_of_entry(self.kept.gotos.at(row, column))
+        } else {
+            None
         }
     }
 
@@ -111,7 +119,7 @@ impl Tables {
         ensures { result ≡ length self.now.rows }
     {
         self.is_numbered();
-        self.rows.len() as u32
+        self.kept.lists.len() as u32
     }
 
     /// The description.

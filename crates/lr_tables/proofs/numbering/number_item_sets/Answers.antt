@@ -1,4 +1,4 @@
-use Rattle.std.proofs.Common.{◌≡◌, ◌+◌, ◌∙◌, sym, ap, arith, length, ◌++◌, ◌∷◌, [], List, slice_get, Some, Err}
+use Rattle.std.proofs.Common.{◌≡◌, ◌∙◌, sym, ap, arith, length, ◌++◌, ◌∷◌, [], List, slice_get, Some, Err}
 use Rattle.std.proofs.lemmas.Result.{err_from_is_err_and}
 use Rattle.lr_tables.specs.declared.marks.Edge.{Edge}
 use Rattle.lr_tables.specs.Items.{start}
