@@ -5,6 +5,9 @@ use std::test::Fail;
 // The lines, each with the number of the line that it comes from, and the number of the first bad `each` line.
 fn shown(alloc: Global, text: &[u8]) -> Result<String, Fail> {
     let mut out = String::new(alloc);
+    if text.len() > 262_144 {
+        return Ok(out);
+    }
     let expanded = expand(alloc, text).ok().ok_or("no memory")?;
     for line in expanded.lines.as_slice() {
         let bytes = String::from_utf8_lossy(alloc, line.bytes.as_slice())?;

@@ -161,6 +161,7 @@ fn shape_of(mnemonic: &'static str, operands: &'static [OperandKind], target: bo
 
 impl Op {
     /// The row of the instruction table.
+    #[inline(always)]
     pub fn shape(self) -> Shape
         ensures { shape_view result ≡ shape self }
     {

@@ -85,6 +85,7 @@ pub struct Computed {
 }
 
 /// What an instruction does, by the VAX Architecture Handbook: its row of the table of functions.
+#[inline(always)]
 pub fn action_of(op: Op) -> Action
     ensures { result ≡ action_of op }
 {
