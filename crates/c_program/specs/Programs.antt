@@ -6,12 +6,14 @@ use Rattle.c_program.specs.declared.program.Routine.{Routine}
 use Rattle.c_program.specs.declared.program.Program.{Program}
 use Rattle.c_program.specs.Statements.{SomeActions, acts}
 
--- a function: its name, the types of its result, its parameters and its automatic locals, what it does, and the longwords of its frame
+-- a function: its name, the types of its result, its parameters and its automatic locals, the numbers of those that are declared
+-- `register`, what it does, and the longwords of its frame
 pub record ARoutine : Type 0 where
   pub name : List ℕ
   pub result : CType
   pub parameters : List CType
   pub locals : List CType
+  pub registers : List ℕ
   pub body : SomeActions
   pub need : ℕ
 
@@ -27,6 +29,7 @@ routine r = record {
   result = r.result;
   parameters = r.parameters;
   locals = r.locals;
+  registers = r.registers;
   body = acts r.body.items;
   need = r.need;
 }

@@ -3,7 +3,7 @@
 use crate::statement::Action;
 use c_types::{CType, Types};
 use gg_base::Name;
-use tree_core::Objects;
+use tree_core::{LocalNumbers, Objects};
 
 /// A function that is typed.
 #[derive(Drop)]
@@ -14,6 +14,8 @@ pub struct Routine {
     pub parameters: Types,
     /// The types of its automatic locals, by number.
     pub locals: Types,
+    /// The numbers of those that are declared `register`, in order.
+    pub registers: LocalNumbers,
     pub body: Vec<Action>,
     /// The longwords of its frame: its automatic locals, and three for each node of its largest full expression.
     pub need: u32,

@@ -30,7 +30,7 @@ use Rattle.c_typed_expressions.specs.Expressions.{integer_of, beside, sizeof_unl
 use Rattle.c_program.specs.Statements.{ADeclaration, AnAction}
 use Rattle.c_program.specs.Programs.{AProgram}
 use Rattle.c_typed_definition.specs.Initialisers.{type_length, type_element, type_elements}
-use Rattle.c_typed_definition.specs.State.{State, with_area, measuring, counted_static, laid, with_local}
+use Rattle.c_typed_definition.specs.State.{State, with_area, measuring, counted_static, laid, with_local, with_register}
 use Rattle.c_typed_definition.specs.Declarations.{length_in, literals_in, contents_of, object_with}
 use Rattle.c_typed_definition.specs.Declarations.{plain_object, counted_array, array_object, object_by, type_object}
 use Rattle.c_typed_definition.specs.Declarations.{begun, type_automatic, type_local, type_locals}
@@ -214,7 +214,7 @@ module _ (names : List (List ℕ × Entry)) (signatures : List Signature) where
 
   local_leaves : (storage : Storage) (spec : Spec) (d : ADeclarator) (s : State) → LeavesState s (type_local names signatures storage spec d s)
   local_leaves storages.Automatic spec d s = automatic_leaves spec d s
-  local_leaves (storages.Register at) spec d s = automatic_leaves spec d s
+  local_leaves (storages.Register at) spec d s = automatic_leaves spec d (with_register s)
   local_leaves (storages.Static at) spec d s = leave_then _ _ _ _ _ (object_leaves true spec d s) (λ r. leave_ok _ _ _ (λ p. p))
 
   locals_leave : (storage : Storage) (spec : Spec) (ds : List ADeclarator) (done : List ADeclaration) (s : State) → LeavesState s (type_locals names signatures storage spec ds done s)

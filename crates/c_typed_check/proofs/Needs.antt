@@ -52,9 +52,9 @@ module _ (names : List (List ℕ × Entry)) (signatures : List Signature) where
   body_keeps : (spec : Spec) (f : AFunction) (row : Option SomeItems) (s : State) (t u : Text) → type_body names signatures spec f row s t ≡ Ok u → AllKeep t.bodies → AllKeep u.bodies
   body_keeps spec f None s t u typed keep = subst (λ x. AllKeep x.bodies) (ok_same _ _ typed) keep
   body_keeps spec f (Some row) s t u typed keep =
-      let b = bound (type_items names signatures (written spec f.stars) false row s) (λ r. fine (with_body (body_of spec f r.1.locals r.0) (with_state (left_function r.1) t))) u typed in
-      subst (λ x. AllKeep x.bodies) (ok_same (with_body (body_of spec f b.part.1.locals b.part.0) (with_state (left_function b.part.1) t)) u b.rest)
-      (all_keep_more t.bodies (body_of spec f b.part.1.locals b.part.0) keep (record { need_is = refl }))
+      let b = bound (type_items names signatures (written spec f.stars) false row s) (λ r. fine (with_body (body_of spec f r.1.locals r.1.registers r.0) (with_state (left_function r.1) t))) u typed in
+      subst (λ x. AllKeep x.bodies) (ok_same (with_body (body_of spec f b.part.1.locals b.part.1.registers b.part.0) (with_state (left_function b.part.1) t)) u b.rest)
+      (all_keep_more t.bodies (body_of spec f b.part.1.locals b.part.1.registers b.part.0) keep (record { need_is = refl }))
 
   introduced_keeps : (earlier : Option ℕ) (spec : Spec) (f : AFunction) (t u : Text) → type_introduced names signatures earlier spec f t ≡ Ok u → AllKeep t.bodies → AllKeep u.bodies
   unfolding type_introduced

@@ -176,6 +176,7 @@ fn begin(alloc: Global) -> Result<Builder, TypeFault>
                 here: service_names(alloc)?,
             },
             locals: Vec::new(alloc),
+            registers: Vec::new(alloc),
             layout: Data {
                 objects: Vec::new(alloc),
                 end: AREA_START,

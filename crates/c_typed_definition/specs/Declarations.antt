@@ -22,7 +22,7 @@ use Rattle.c_typed_definition.specs.Initialisers.{type_length, type_element, typ
 use Rattle.c_typed_definition.specs.Forms.{text_of, given_count, own_length, form_of, many, automatic_form}
 use Rattle.c_program.specs.Statements.{ADeclaration, KeepOf, ClearOf, BeginOf}
 use Rattle.c_typed_definition.specs.State.{State, with_area, measuring, variable_of, array_entry, laid, text_contents}
-use Rattle.c_typed_definition.specs.State.{with_local}
+use Rattle.c_typed_definition.specs.State.{with_local, with_register}
 
 module _ (names : List (List ℕ × Entry)) (signatures : List Signature) where
   -- The number of elements. While it is measured, its literals take no room: they lie behind the array.
@@ -50,7 +50,7 @@ module _ (names : List (List ℕ × Entry)) (signatures : List Signature) where
   unfoldable pub object_with : ℕ → ℕ → CType → Bool → ADeclarator → Entry → State → Result (ℕ × State) Fault
   object_with n size t is_array d e s =
       finished n size t is_array (init_in d.init) (with_name d.name e s.scope) s.area >>= λ a.
-      Ok (n, record { scope = with_name d.name e s.scope; locals = s.locals; area = a })
+      Ok (n, record { scope = with_name d.name e s.scope; locals = s.locals; registers = s.registers; area = a })
 
   -- the object of a variable that is no array
   unfoldable pub plain_object : Bool → CType → ADeclarator → State → Result (ℕ × State) Fault
@@ -92,7 +92,7 @@ module _ (names : List (List ℕ × Entry)) (signatures : List Signature) where
 
   abbrev pub type_local : Storage → Spec → ADeclarator → State → Result (ADeclaration × State) Fault
   type_local storages.Automatic spec d s = type_automatic spec d s
-  type_local (storages.Register at) spec d s = type_automatic spec d s
+  type_local (storages.Register at) spec d s = type_automatic spec d (with_register s)
   type_local (storages.Static at) spec d s = type_object true spec d s >>= λ r. Ok (KeepOf r.0, r.1)
 
   -- the declarators of one declaration, one after another, behind those that are done

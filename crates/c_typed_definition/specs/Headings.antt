@@ -108,13 +108,14 @@ with_declared None spec f t = record {
   bodies = t.bodies;
 }
 
-abbrev pub body_of : Spec → AFunction → List CType → SomeActions → ARoutine
-body_of spec f locals body = record {
+abbrev pub body_of : Spec → AFunction → List CType → List ℕ → SomeActions → ARoutine
+body_of spec f locals registers body = record {
   name = f.name;
   result = written spec f.stars;
   parameters =
       map parameter_type (params_in f.params);
   locals = locals;
+  registers = registers;
   body = body;
   need = need_of locals body;
 }
@@ -123,7 +124,7 @@ abbrev pub with_body : ARoutine → Text → Text
 with_body b t = record { state = t.state; declared = t.declared; bodies = t.bodies ++ b ∷ [] }
 
 abbrev pub entered_function : State → State
-entered_function s = record { scope = enter s.scope; locals = []; area = s.area }
+entered_function s = record { scope = enter s.scope; locals = []; registers = []; area = s.area }
 
 abbrev pub left_function : State → State
-left_function s = record { scope = leave s.scope; locals = []; area = s.area }
+left_function s = record { scope = leave s.scope; locals = []; registers = []; area = s.area }

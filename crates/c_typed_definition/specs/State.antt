@@ -14,17 +14,19 @@ use Rattle.c_typed_scope.specs.Scopes.{Scope, with_name}
 use Rattle.c_typed_scope.specs.Layout.{Area, placed}
 use Rattle.c_typed_scope.specs.Contents.{Filled}
 
--- what is in scope and laid out while a function is read
+-- what is in scope and laid out while a function is read; of its locals so far the types, and the numbers of those that are declared
+-- `register`
 pub record State : Type 0 where
   pub scope : Scope
   pub locals : List CType
+  pub registers : List ℕ
   pub area : Area
 
 abbrev pub with_area : Area → State → State
-with_area a s = record { scope = s.scope; locals = s.locals; area = a }
+with_area a s = record { scope = s.scope; locals = s.locals; registers = s.registers; area = a }
 
 abbrev pub named_state : List ℕ → Entry → State → State
-named_state n e s = record { scope = with_name n e s.scope; locals = s.locals; area = s.area }
+named_state n e s = record { scope = with_name n e s.scope; locals = s.locals; registers = s.registers; area = s.area }
 
 abbrev pub measuring : Bool → Area → Area
 measuring b a = record { objects = a.objects; end = a.end; literals = a.literals; statics = a.statics; measuring = b }
@@ -63,5 +65,10 @@ with_local t n s = record {
   scope = with_name n (entries.Variable t (variables.Automatic (length s.locals))) s.scope;
   locals =
       s.locals ++ t ∷ [];
+  registers = s.registers;
   area = s.area;
 }
+
+-- the next local is declared `register`
+abbrev pub with_register : State → State
+with_register s = record { scope = s.scope; locals = s.locals; registers = s.registers ++ length s.locals ∷ []; area = s.area }

@@ -22,10 +22,10 @@ use Rattle.c_program.specs.Statements.{AnAction, SomeActions, NoActions, MoreAct
 use Rattle.c_program.specs.Statements.{BreakOf, ContinueOf, ReturnOf, IfOf, IfElseOf, WhileOf, DoOf, ForOf}
 
 abbrev pub entered : State → State
-entered s = record { scope = enter s.scope; locals = s.locals; area = s.area }
+entered s = record { scope = enter s.scope; locals = s.locals; registers = s.registers; area = s.area }
 
 abbrev pub left : State → State
-left s = record { scope = leave s.scope; locals = s.locals; area = s.area }
+left s = record { scope = leave s.scope; locals = s.locals; registers = s.registers; area = s.area }
 
 abbrev pub jump : Bool → ℕ → AnAction → State → Result (AnAction × State) Fault
 jump true at a s = Ok (a, s)

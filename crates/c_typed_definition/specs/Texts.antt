@@ -47,7 +47,7 @@ module _ (names : List (List ℕ × Entry)) (signatures : List Signature) where
   abbrev pub type_body : Spec → AFunction → Option SomeItems → State → Text → Result Text Fault
   type_body spec f None s t = Ok (with_state (left_function s) t)
   type_body spec f (Some row) s t = type_items names signatures (written spec f.stars) false row s >>= λ r.
-      Ok (with_body (body_of spec f r.1.locals r.0) (with_state (left_function r.1) t))
+      Ok (with_body (body_of spec f r.1.locals r.1.registers r.0) (with_state (left_function r.1) t))
 
   -- its parameters, its agreement with the earlier declaration, and its body, once its name is in scope
   unfoldable pub type_introduced : Option ℕ → Spec → AFunction → Text → Result Text Fault
@@ -97,6 +97,7 @@ empty_text = record {
   state = record {
     scope = record { outer = []; here = service_names };
     locals = [];
+    registers = [];
     area =
         record { objects = []; end = 65536; literals = 0; statics = 0; measuring = false };
   };

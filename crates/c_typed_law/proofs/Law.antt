@@ -98,7 +98,8 @@ module _ (names : List (List ℕ × Entry)) (signatures : List Signature) where
       → Means (type_body names signatures spec f b s t) (IsBody names signatures spec f b s t) (BodyFault names signatures spec f b s)
   body_means spec f None s t = means_ok (with_state (left_function s) t)
   body_means spec f (Some row) s t =
-      means_then _ _ _ _ _ _ (items_mean names signatures (written spec f.stars) false row s) (λ x. means_ok (with_body (body_of spec f x.1.locals x.0) (with_state (left_function x.1) t)))
+      means_then _ _ _ _ _ _ (items_mean names signatures (written spec f.stars) false row s)
+      (λ x. means_ok (with_body (body_of spec f x.1.locals x.1.registers x.0) (with_state (left_function x.1) t)))
 
   introduced_means : (earlier : Option ℕ) (spec : Spec) (f : AFunction) (t : Text)
       → Means (type_introduced names signatures earlier spec f t) (IsIntroduced names signatures earlier spec f t) (IntroducedFault names signatures earlier spec f t)

@@ -25,7 +25,7 @@ use Rattle.c_typed_expressions.specs.Expressions.{written}
 use Rattle.c_typed_expressions.proofs.Law.{means_then, means_ok, means_is, exp_means}
 use Rattle.c_typed_definition.specs.Forms.{text_of, form_fits, given_count, own_length, form_of, automatic_by, automatic_form, many}
 use Rattle.c_typed_definition.specs.State.{State, with_area, measuring, variable_of, array_entry, laid, text_contents}
-use Rattle.c_typed_definition.specs.State.{with_local}
+use Rattle.c_typed_definition.specs.State.{with_local, with_register}
 use Rattle.c_typed_definition.specs.Declarations.{length_in, literals_in, contents_of, object_with, plain_object}
 use Rattle.c_typed_definition.specs.Declarations.{counted_array, array_object, object_by, type_object, begun}
 use Rattle.c_typed_definition.specs.Declarations.{type_automatic, type_local, type_locals}
@@ -87,7 +87,7 @@ module _ (names : List (List ℕ × Entry)) (signatures : List Signature) where
   filled_means n size t is_array d e s =
       means_then _ _ _ _ _ _
       (means_then _ _ _ _ _ _ (holds_means t is_array (init_in d.init) (with_name d.name e s.scope) s.area) (λ h. means_ok (filled n (filled_to size h.0) h.1)))
-      (λ a. means_ok (n, record { scope = with_name d.name e s.scope; locals = s.locals; area = a }))
+      (λ a. means_ok (n, record { scope = with_name d.name e s.scope; locals = s.locals; registers = s.registers; area = a }))
 
   plain_object_means : (is_static : Bool) (t : CType) (d : ADeclarator) (s : State)
       → Means (plain_object names signatures is_static t d s) (IsPlainObject names signatures is_static t d s) (PlainObjectFault names signatures is_static t d s)
@@ -137,7 +137,7 @@ module _ (names : List (List ℕ × Entry)) (signatures : List Signature) where
   local_means : (storage : Storage) (spec : Spec) (d : ADeclarator) (s : State)
       → Means (type_local names signatures storage spec d s) (IsLocal names signatures storage spec d s) (LocalFault names signatures storage spec d s)
   local_means storages.Automatic spec d s = automatic_means spec d s
-  local_means (storages.Register at) spec d s = automatic_means spec d s
+  local_means (storages.Register at) spec d s = automatic_means spec d (with_register s)
   local_means (storages.Static at) spec d s = means_then _ _ _ _ _ _ (object_means true spec d s) (λ x. means_ok (KeepOf x.0, x.1))
 
   pub locals_mean : (storage : Storage) (spec : Spec) (ds : List ADeclarator) (done : List ADeclaration) (s : State)

@@ -15,7 +15,7 @@ use Rattle.c_program.specs.Statements.{ADeclaration, KeepOf, ClearOf, BeginOf}
 use Rattle.c_typed_expressions.specs.Phrases.{first, init_in}
 use Rattle.c_typed_expressions.specs.Expressions.{written}
 use Rattle.c_typed_expressions.specs.Relations.{Joint, FirstOf, IsTyped, FirstFault}
-use Rattle.c_typed_definition.specs.State.{State, with_area, with_local}
+use Rattle.c_typed_definition.specs.State.{State, with_area, with_local, with_register}
 use Rattle.c_typed_law.specs.Tests.{With, Lacking, Never}
 use Rattle.c_typed_law.specs.Forms.{IsAutomaticForm, AutomaticFormFault}
 use Rattle.c_typed_law.specs.Objects.{IsObject, ObjectFault}
@@ -47,15 +47,15 @@ module _ (names : List (List ℕ × Entry)) (signatures : List Signature) where
       (AutomaticFormFault d (written spec d.stars) s.scope)
       (λ ok. BegunFault (written spec d.stars) (length s.locals) (init_in d.init) (with_local (written spec d.stars) d.name s)) f
 
-  -- a declarator of a block, by its storage
+  -- a declarator of a block, by its storage; a `register` local is an automatic one whose number is noted
   abbrev pub IsLocal : Storage → Spec → ADeclarator → State → ADeclaration × State → Type 0
   IsLocal storages.Automatic spec d s r = IsAutomatic spec d s r
-  IsLocal (storages.Register at) spec d s r = IsAutomatic spec d s r
+  IsLocal (storages.Register at) spec d s r = IsAutomatic spec d (with_register s) r
   IsLocal (storages.Static at) spec d s r = Joint (IsObject names signatures true spec d s) (λ x u. u ≡ (KeepOf x.0, x.1)) r
 
   abbrev pub LocalFault : Storage → Spec → ADeclarator → State → Fault → Type 0
   LocalFault storages.Automatic spec d s f = AutomaticFault spec d s f
-  LocalFault (storages.Register at) spec d s f = AutomaticFault spec d s f
+  LocalFault (storages.Register at) spec d s f = AutomaticFault spec d (with_register s) f
   LocalFault (storages.Static at) spec d s f = FirstOf (IsObject names signatures true spec d s)
       (ObjectFault names signatures true spec d s) (λ x. Never) f
 

@@ -63,7 +63,7 @@ module _ (names : List (List ℕ × Entry)) (signatures : List Signature) where
   IsFilled n size t is_array d e s r =
       Joint
       (Joint (HoldsAtFirst t is_array (init_in d.init) (with_name d.name e s.scope) s.area) (λ h a. a ≡ filled n (filled_to size h.0) h.1))
-      (λ a u. u ≡ (n, record { scope = with_name d.name e s.scope; locals = s.locals; area = a })) r
+      (λ a u. u ≡ (n, record { scope = with_name d.name e s.scope; locals = s.locals; registers = s.registers; area = a })) r
 
   abbrev pub FilledFault : ℕ → ℕ → CType → Bool → ADeclarator → Entry → State → Fault → Type 0
   FilledFault n size t is_array d e s f =

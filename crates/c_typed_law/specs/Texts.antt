@@ -67,7 +67,7 @@ module _ (names : List (List ℕ × Entry)) (signatures : List Signature) where
   IsBody spec f None s t r = r ≡ with_state (left_function s) t
   IsBody spec f (Some row) s t r =
       Joint (AreItems names signatures (written spec f.stars) false row s)
-      (λ x u. u ≡ with_body (body_of spec f x.1.locals x.0) (with_state (left_function x.1) t)) r
+      (λ x u. u ≡ with_body (body_of spec f x.1.locals x.1.registers x.0) (with_state (left_function x.1) t)) r
 
   abbrev pub BodyFault : Spec → AFunction → Option SomeItems → State → Fault → Type 0
   BodyFault spec f None s g = ⊥

@@ -4,4 +4,4 @@ use Rattle.c_typed_objects.specs.declared.environment.Environment.{Environment}
 use Rattle.c_typed_definition.specs.State.{State}
 
 abbrev pub state : Environment → State
-state d = record { scope = scope d.blocks; locals = d.locals.items; area = area d.layout }
+state d = record { scope = scope d.blocks; locals = d.locals.items; registers = d.registers.items; area = area d.layout }

@@ -1,11 +1,12 @@
 // The declarations of a block.
-ghost use Rattle.std.specs.Prelude.{◌≡◌, [], map};
+ghost use Rattle.std.specs.Prelude.{◌≡◌, [], map, Ok};
 ghost use Rattle.c_phrases.specs.UnitShapes.{declarator_of, declarators_of, initialised_of};
 ghost use Rattle.c_program.specs.Statements.{declaration};
-ghost use Rattle.c_typed_scope.specs.Answers.{Turns};
+ghost use Rattle.c_typed_scope.specs.Answers.{Turns, OnlyTurns};
 ghost use Rattle.c_typed_expressions.specs.Functions.{by_functions};
 ghost use Rattle.c_typed_expressions.specs.Phrases.{init_in};
 ghost use Rattle.c_typed_objects.specs.Views.{state};
+ghost use Rattle.c_typed_definition.specs.State.{with_register};
 ghost use Rattle.c_typed_definition.specs.Declarations.{begun, type_automatic, type_local, type_locals};
 
 use crate::environment::{Environment, declare};
@@ -76,6 +77,18 @@ fn automatic(
     begin(alloc, functions, of, number, &d.initialiser, environment)
 }
 
+// The next local is declared `register`.
+fn note_register(environment: &mut Environment) -> Result<(), TypeFault>
+    ensures { OnlyTurns result (state environment.new) (Ok (with_register (state environment.old))) }
+{
+    let number = environment.locals.len();
+    if number > 0xffff_ffff {
+        return Err(TypeFault::NoMemory);
+    }
+    environment.registers.push(number as u32)?;
+    Ok(())
+}
+
 fn local(
     alloc: Global,
     functions: &Functions,
@@ -89,7 +102,10 @@ fn local(
 {
     match storage {
         Storage::Automatic => automatic(alloc, functions, spec, d, environment),
-        Storage::Register { .. } => automatic(alloc, functions, spec, d, environment),
+        Storage::Register { .. } => {
+            note_register(environment)?;
+            automatic(alloc, functions, spec, d, environment)
+        }
         Storage::Static { .. } => {
             let number = object(alloc, functions, true, spec, d, environment)?;
             Ok(Declaration::Keep(number))

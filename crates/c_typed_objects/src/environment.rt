@@ -8,11 +8,13 @@ use c_types::CType;
 use gg_base::Name;
 use std::alloc::{AllocError, Global};
 
-/// What is in scope and laid out while a function is read, and the types of its automatic locals so far.
+/// What is in scope and laid out while a function is read; of its automatic locals so far the types, and
+/// the numbers of those that are declared `register`.
 #[derive(Drop)]
 pub struct Environment {
     pub blocks: Blocks,
     pub locals: Vec<CType>,
+    pub registers: Vec<u32>,
     pub layout: Data,
 }
 

@@ -33,6 +33,7 @@ use c_types::fault::{bad_type, refuse};
 use c_types::{CType, TypeFault, TypeKind, Types, Variable};
 use gg_base::Name;
 use std::alloc::Global;
+use tree_core::LocalNumbers;
 
 /// A text so far: what is in scope, the functions that were declared, and those that are typed.
 #[derive(Drop)]
@@ -288,6 +289,7 @@ fn open_function(alloc: Global, environment: &mut Environment) -> Result<(), Typ
 {
     environment.blocks.enter(alloc)?;
     environment.locals = Vec::new(alloc);
+    environment.registers = Vec::new(alloc);
     Ok(())
 }
 
@@ -296,17 +298,19 @@ fn close_function(alloc: Global, environment: &mut Environment)
 {
     environment.blocks.leave();
     environment.locals = Vec::new(alloc);
+    environment.registers = Vec::new(alloc);
 }
 
-// The routine of a body that is typed, with the locals that it declared.
+// The routine of a body that is typed, with the locals that it declared, and the numbers of those that are declared `register`.
 fn routine(
     alloc: Global,
     spec: Spec,
     f: &Function,
     locals: Vec<CType>,
+    registers: Vec<u32>,
     body: Vec<Action>,
 ) -> Result<Routine, TypeFault>
-    ensures { Gives (λ r. routine r) result (Ok (body_of spec (function_of f.now) locals.items (acts body.items))) }
+    ensures { Gives (λ r. routine r) result (Ok (body_of spec (function_of f.now) locals.items registers.items (acts body.items))) }
 {
     let Some(need) = need(&locals, &body) else {
         return Err(TypeFault::NoMemory);
@@ -317,6 +321,7 @@ fn routine(
         result,
         parameters,
         locals: Types::from_vec(locals),
+        registers: LocalNumbers::from_vec(registers),
         body,
         need,
     })
@@ -344,8 +349,9 @@ fn define(
         &mut builder.environment,
     )?;
     let locals = std::mem::replace(&mut builder.environment.locals, Vec::new(alloc));
+    let registers = std::mem::replace(&mut builder.environment.registers, Vec::new(alloc));
     close_function(alloc, &mut builder.environment);
-    let routine = routine(alloc, spec, f, locals, body)?;
+    let routine = routine(alloc, spec, f, locals, registers, body)?;
     builder.routines.push(routine)?;
     Ok(())
 }
