@@ -1,8 +1,8 @@
 -- All premises can be met: one program and its code.
 use Rattle.std.proofs.Common.{◌≡◌, ℕ, ◌+◌, ◌≤◌, Bool, true, false, cond, List, [], ◌∷◌, refl, arith}
-use Rattle.std.specs.Prelude.{codes}
+use Rattle.std.specs.Prelude.{codes, nat_lt}
 use Rattle.std.specs.Str.{bytes_eq}
-use Rattle.std.proofs.lemmas.List.Elements.{All-from_recursion}
+use Rattle.std.proofs.lemmas.List.Elements.{All-nil, All-from_recursion}
 use Rattle.vax_machine.specs.Loading.{Loads}
 use Rattle.tree_core.specs.declared.token.Tok.TheVariants as tok
 use Rattle.tree_core.specs.declared.tree.Att.TheVariants as att
@@ -13,7 +13,7 @@ use Rattle.tree_core.specs.Attributes.{end_leaf}
 use Rattle.tree_core.specs.Trees.{none, tree}
 use Rattle.tree_core.specs.Items.{nothing, other, call}
 use Rattle.tree_core.specs.Labels.{TargetsStand}
-use Rattle.tree_core.specs.Valid.{PushesStand, main_takes_nothing, leaf_names, ItemStands, ItemsStand, LinksLie, IsValid}
+use Rattle.tree_core.specs.Valid.{PushesStand, main_takes_nothing, leaf_names, ItemStands, ItemsStand, WantedStand, LinksLie, IsValid}
 use Rattle.vax_core.specs.First.{putchar_name}
 use Rattle.vax_frames.specs.Frames.{end_code}
 use Rattle.gg_compile_law.specs.Demo.{demo_main, demo, push_code, call_code, demo_body, demo_code, DemoFollows}
@@ -61,6 +61,7 @@ demo_valid = record {
             (bytes_eq (codes "main") name);
       };
   roots = All-from_recursion (ItemsStand (demo_main ∷ []) 0) (demo_main ∷ []) (All-from_recursion stands demo_main.items (push_stands, (call_stands, (ret_stands, tt))), tt);
+  wanted = All-from_recursion WantedStand (demo_main ∷ []) ((All-nil (λ n. nat_lt n 0 ≡ true), λ n. omega arith), tt);
   labels_once = λ n. omega arith;
   targets = All-from_recursion TargetsStand (demo_main ∷ []) ((λ n lt. lt), tt);
   calls = All-from_recursion PushesStand (demo_main ∷ []) (call (_ ∷ []) _ _ _ (refl, tt) refl (other _ _ refl nothing) refl, tt);

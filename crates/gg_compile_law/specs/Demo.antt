@@ -24,6 +24,7 @@ demo_main = record {
   name = codes "main";
   args = 0;
   locals = 0;
+  wanted = [];
   items =
       tree_item.Root (record { tok = tok.Push; att = att.Nothing } ∷ (record { tok = tok.Const; att = att.Number 72 } ∷ (end_leaf ∷ [])))
       ∷ (tree_item.Root (record { tok = tok.Call; att = att.Callee 1 1 } ∷ (end_leaf ∷ []))

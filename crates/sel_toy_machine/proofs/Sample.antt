@@ -1,8 +1,8 @@
 -- The rule is ready, and leaves the sum.
 use Rattle.std.proofs.Common.{◌≡◌, ℕ, zero, suc, ◌+◌, ◌*◌, ◌^◌, ◌<◌, ◌≤◌, List, [], ◌∷◌, Some, None, Bool, true, false, refl, ap, ◌∙◌, subst, arith, cond}
-use Rattle.std.specs.Prelude.{IsSome, codes}
+use Rattle.std.specs.Prelude.{IsSome, codes, nat_lt}
 use Rattle.std.specs.Str.{bytes_eq}
-use Rattle.std.proofs.lemmas.List.Elements.{All-from_recursion}
+use Rattle.std.proofs.lemmas.List.Elements.{All-nil, All-from_recursion}
 use Rattle.std.proofs.lemmas.Option.{none-some, same_Some}
 use Rattle.std.proofs.lemmas.Bool.{false≢true}
 use Rattle.gg_base.specs.Sizes.{bytes_of}
@@ -16,7 +16,7 @@ use Rattle.tree_core.specs.Attributes.{end_leaf}
 use Rattle.tree_core.specs.Trees.{none, tree}
 use Rattle.tree_core.specs.Items.{nothing, other}
 use Rattle.tree_core.specs.Labels.{TargetsStand}
-use Rattle.tree_core.specs.Valid.{PushesStand, main_takes_nothing, leaf_names, ItemStands, ItemsStand, LinksLie, IsValid}
+use Rattle.tree_core.specs.Valid.{PushesStand, main_takes_nothing, leaf_names, ItemStands, ItemsStand, WantedStand, LinksLie, IsValid}
 use Rattle.md_reader.specs.declared.types.Sym.TheVariants as grammar_symbol
 use Rattle.md_reader.specs.Patterns.{no_tree, node}
 use Rattle.md_reader.specs.Valid.{IsRule}
@@ -57,6 +57,7 @@ program_valid = record {
     differ = λ name. once name (bytes_eq (codes "main") name);
   };
   roots = All-from_recursion (ItemsStand (main ∷ []) 0) (main ∷ []) (All-from_recursion stands main.items (ret_stands, tt), tt);
+  wanted = All-from_recursion WantedStand (main ∷ []) ((All-nil (λ n. nat_lt n 0 ≡ true), λ n. omega arith), tt);
   labels_once = λ n. omega arith;
   targets = All-from_recursion TargetsStand (main ∷ []) ((λ n lt. lt), tt);
   calls = All-from_recursion PushesStand (main ∷ []) (other _ _ refl nothing, tt);

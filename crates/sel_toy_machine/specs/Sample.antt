@@ -32,6 +32,7 @@ main = record {
   name = codes "main";
   args = 0;
   locals = 0;
+  wanted = [];
   items = tree_item.Root (record { tok = tok.Ret; att = att.Nothing } ∷
       (record { tok = tok.Zero; att = att.Number 0 } ∷ (end_leaf ∷ []))) ∷ [];
 }

@@ -1,10 +1,12 @@
-// Programs of trees as text: a line `function NAME ARGUMENTS LOCALS` and its items, each indented by two blanks, a label as `L5:`; and a
-// line `object ADDRESS SIZE ALIGNMENT BYTE COUNT LINKS` for each object, whose bytes count up from BYTE, a link as `AT:OBJECT`.
+// Programs of trees as text: a line `function NAME ARGUMENTS LOCALS WANTED`, with the numbers of the wanted locals, and its items, each
+// indented by two blanks, a label as `L5:`; and a line `object ADDRESS SIZE ALIGNMENT BYTE COUNT LINKS` for each object, whose bytes count
+// up from BYTE, a link as `AT:OBJECT`.
 use crate::leaves::leaves_of;
 use gg_base::{Bytes, Name, NoMemory};
 use std::alloc::Global;
 use tree_core::{
-    Leaves, Link, Links, Object, Objects, TreeFn, TreeFns, TreeItem, TreeItems, TreeProgram,
+    Leaves, Link, Links, LocalNumbers, Object, Objects, TreeFn, TreeFns, TreeItem, TreeItems,
+    TreeProgram,
 };
 
 fn item_of(alloc: Global, text: &str) -> Result<TreeItem, NoMemory> {
@@ -28,10 +30,14 @@ fn function_of(alloc: Global, text: &str) -> Result<TreeFn, NoMemory> {
     let name = words.next().unwrap_or("");
     let args = words.next().unwrap_or("").parse::<u32>().unwrap_or(0);
     let locals = words.next().unwrap_or("").parse::<u32>().unwrap_or(0);
+    let wanted = words
+        .map(|word| word.parse::<u32>().unwrap_or(0))
+        .collect(alloc)?;
     Ok(TreeFn {
         name: Name::from_vec(Vec::from_slice(alloc, name.as_bytes())?),
         args,
         locals,
+        wanted: LocalNumbers::from_vec(wanted),
         items: TreeItems::from_vec(items),
     })
 }

@@ -3,7 +3,7 @@ use crate::{frame_code, home};
 use gg_base::Name;
 use std::alloc::Global;
 use std::test::Fail;
-use tree_core::{TreeFn, TreeItems};
+use tree_core::{LocalNumbers, TreeFn, TreeItems};
 use vax_core::{Base, CodeItem, Instr, Mode, Op, Operand, Operands, Reg};
 
 fn clears(alloc: Global, r: Reg) -> CodeItem {
@@ -33,6 +33,7 @@ fn frame_round_a_body(rt: HostRuntime) -> Result<(), Fail> {
         name: Name::from_vec(Vec::from_slice(alloc, b"f")?),
         args: 0,
         locals: 1,
+        wanted: LocalNumbers::from_vec(Vec::new(alloc)),
         items: TreeItems::from_vec(Vec::new(alloc)),
     };
     let Ok(code) = frame_code(alloc, &f, vec![in alloc; clears(alloc, Reg::R3)]?, 3) else {
