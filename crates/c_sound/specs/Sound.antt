@@ -3,7 +3,7 @@ use Rattle.std.specs.Prelude.{◌≡◌, ℕ, ◌<◌, ◌≤◌, ◌^◌, List,
 use Rattle.std.specs.Str.{bytes_eq}
 use Rattle.std.specs.List.{All}
 use Rattle.tree_core.specs.declared.program.Object.{Object}
-use Rattle.tree_core.specs.Valid.{objects_lie, LinksLie}
+use Rattle.tree_core.specs.Valid.{LocalsStand, objects_lie, LinksLie}
 use Rattle.c_program.specs.Programs.{ARoutine, AProgram}
 use Rattle.c_sound.specs.Fits.{AreBytes, FitsActs, no_local}
 use Rattle.c_sound.specs.Stands.{IsThere, Takes, StandsActs}
@@ -26,6 +26,8 @@ pub record IsSound (p : AProgram) : Type 0 where
   pub fits : (f : ℕ) (g : ARoutine) → slice_get p.routines f ≡ Some g → FitsActs (length g.locals) no_local false g.body
   -- each object and parameter is there, and each call has its function with its number of arguments
   pub stands : (f : ℕ) (g : ARoutine) → slice_get p.routines f ≡ Some g → BodyStands p g
+  -- the numbers of its `register` locals differ, and are those of locals
+  pub registers : (f : ℕ) (g : ARoutine) → slice_get p.routines f ≡ Some g → LocalsStand (length g.locals) g.registers
   -- a function has at most 32 parameters
   pub parameters : (f : ℕ) (g : ARoutine) → slice_get p.routines f ≡ Some g → length g.parameters ≤ 32
   -- no two functions have one name, and none that of a service

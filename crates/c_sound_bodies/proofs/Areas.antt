@@ -17,7 +17,7 @@ use Rattle.c_program.specs.Statements.{ADeclaration, AnAction, SomeActions}
 use Rattle.c_sound.specs.Fits.{declaring}
 use Rattle.c_typed_expressions.specs.Phrases.{init_in}
 use Rattle.c_typed_expressions.specs.Expressions.{written}
-use Rattle.c_typed_definition.specs.State.{State, with_local}
+use Rattle.c_typed_definition.specs.State.{State, with_local, with_register}
 use Rattle.c_typed_definition.specs.Statements.{entered}
 use Rattle.c_typed_law.specs.Objects.{IsObject}
 use Rattle.c_typed_law.specs.Locals.{IsBegun, IsAutomatic, IsLocal, AreLocals}
@@ -77,7 +77,7 @@ module _ (T : Token → Type 0) (R : Area → Area → Type 0) (l : Laying T R) 
   local_lays : (storage : Storage) (spec : Spec) (d : ADeclarator) → DeclaratorOf T d → (s : State) (r : ADeclaration × State) →
       InOrder any_local parameters s → IsLocal names signatures storage spec d s r → R s.area r.1.area
   local_lays storages.Automatic spec d w s r o j = automatic_lays spec d w s r j
-  local_lays (storages.Register at) spec d w s r o j = automatic_lays spec d w s r j
+  local_lays (storages.Register at) spec d w s r o j = automatic_lays spec d w (with_register s) r j
   local_lays (storages.Static at) spec d w s r o j = rw (j.whole) (object spec d s j.part w o j.typed)
 
   locals_lay : (storage : Storage) (spec : Spec) (ds : List ADeclarator) → DeclaratorsOf T ds → (done : List ADeclaration) (s : State)

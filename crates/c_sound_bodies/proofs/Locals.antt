@@ -18,10 +18,11 @@ use Rattle.c_typed_words.specs.Words.{IsToken}
 use Rattle.c_typed_words.specs.Phrases.{ExpOf, InitOf, DeclaratorOf, DeclaratorsOf}
 use Rattle.c_sound.specs.Fits.{more, declaring, FitsDeclared}
 use Rattle.c_sound.specs.Stands.{IsThere, Takes, StandsDeclared}
+use Rattle.c_sound.proofs.Registers.{locals_same, locals_more, locals_push}
 use Rattle.c_typed_expressions.specs.Phrases.{init_in}
 use Rattle.c_typed_expressions.specs.Expressions.{written}
 use Rattle.c_typed_expressions.specs.Relations.{IsTyped}
-use Rattle.c_typed_definition.specs.State.{State, with_area, with_local}
+use Rattle.c_typed_definition.specs.State.{State, with_area, with_local, with_register}
 use Rattle.c_typed_law.specs.Locals.{IsBegun, IsAutomatic, IsLocal, AreLocals}
 use Rattle.c_sound_bodies.specs.Claim.{IsKnown, InOrder, Extends, Grows, AreDefined}
 use Rattle.c_sound_bodies.proofs.Names.{scope_more, scope_named, known_more, named_outer}
@@ -30,18 +31,19 @@ use Rattle.c_sound_bodies.proofs.Closures.{exp_fits, exp_stands}
 use Rattle.c_sound_bodies.proofs.Objects.{Declares, declares_grows, declares_order, object_declares}
 
 pub grows_same : (s : State) → Grows s s
-grows_same s = record { locals = omega arith; area = extends_same s.area; outer = refl }
+grows_same s = record { locals = omega arith; registers = λ x. x; area = extends_same s.area; outer = refl }
 
 pub grows_further : (s m r : State) → Grows s m → Grows m r → Grows s r
 grows_further s m r h k = record {
   locals = omega arith;
+  registers = λ x. k.registers (h.registers x);
   area = extends_further s.area m.area r.area h.area k.area;
   outer = k.outer ∙ h.outer;
 }
 
 -- the area alone grows
 pub grows_area : (s : State) (a : Area) → Extends s.area a → Grows s (with_area a s)
-grows_area s a h = record { locals = omega arith; area = h; outer = refl }
+grows_area s a h = record { locals = omega arith; registers = λ x. x; area = h; outer = refl }
 
 -- where more is in scope, and nothing is named that was not
 pub order_more : (scope : ℕ → Type 0) (parameters : ℕ) (s r : State) → InOrder scope parameters s → r.scope ≡ s.scope → Grows s r →
@@ -77,9 +79,18 @@ local_grows : (t : CType) (n : List ℕ) (s : State) → Grows s (with_local t n
 local_grows t n s = let longer = local_longer t n s in
     record {
       locals = omega arith;
+      registers = locals_more (length s.locals) (length (with_local t n s).locals) s.registers (omega arith);
       area = extends_same s.area;
       outer = named_outer n (entries.Variable t (variables.Automatic (length s.locals))) s.scope;
     }
+
+-- one local more, and no `register` local
+record AddsLocal (s r : State) : Type 0 where
+  locals : length r.locals ≡ length s.locals + 1
+  registers : r.registers ≡ s.registers
+
+local_added : (t : CType) (n : List ℕ) (s : State) → AddsLocal s (with_local t n s)
+local_added t n s = record { locals = local_longer t n s; registers = refl }
 
 -- a new local is in scope
 local_order : (scope : ℕ → Type 0) (parameters : ℕ) (t : CType) (n : List ℕ) (s : State) → InOrder scope parameters s →
@@ -147,6 +158,35 @@ module _ (names : List (List ℕ × Entry)) (signatures : List Signature) where
       let h = begun_sound scope parameters (written spec d.stars) d.name (init_in d.init) s r o j.whole in
       record { fits = λ size l w. h.fits size l w.2; stands = h.stands; order = h.order; grows = h.grows }
 
+  begun_adds : (t : CType) (n : List ℕ) (k : ℕ) (i : Option AnInit) (s : State) (r : ADeclaration × State) →
+      IsBegun names signatures t k i (with_local t n s) r → AddsLocal s r.1
+  begun_adds t n k None s r j = rw j (local_added t n s)
+  begun_adds t n k (Some (elements es comma)) s r j = rw j (local_added t n s)
+  begun_adds t n k (Some (value e)) s r j =
+      let i = j.whole in
+      let one = local_added t n s in
+      rw (i.whole) (record { locals = one.locals; registers = one.registers })
+
+  -- a `register` local, whose number is noted, is an automatic one
+  register_sound : (scope : ℕ → Type 0) (parameters : ℕ) (spec : Spec) (d : ADeclarator) (s : State) (r : ADeclaration × State) →
+      InOrder scope parameters s → IsAutomatic names signatures spec d (with_register s) r →
+      LocalIsSound (DeclaratorOf IsToken d) signatures scope parameters s r.0 r.1
+  register_sound scope parameters spec d s r o j =
+      let h = automatic_sound scope parameters spec d (with_register s) r (record { names = o.names; laying = o.laying }) j in
+      let one = begun_adds (written spec d.stars) d.name (length s.locals) (init_in d.init) (with_register s) r j.whole in
+      record {
+        fits = h.fits;
+        stands = h.stands;
+        order = h.order;
+        grows = record {
+          locals = h.grows.locals;
+          registers = λ x. locals_same (length r.1.locals) (length s.locals + 1) r.1.registers (s.registers ++ length s.locals ∷ [])
+              one.locals one.registers (locals_push (length s.locals) s.registers x);
+          area = h.grows.area;
+          outer = h.grows.outer;
+        };
+      }
+
   kept_is : {W : Type 0} (scope : ℕ → Type 0) (parameters : ℕ) (name : List ℕ) (s : State) (x : ℕ × State) (r : ADeclaration × State) →
       InOrder scope parameters s → Declares name s x.1 → r ≡ (KeepOf x.0, x.1) → LocalIsSound W signatures scope parameters s r.0 r.1
   kept_is scope parameters name s x r o h is = rw is (record {
@@ -160,7 +200,7 @@ module _ (names : List (List ℕ × Entry)) (signatures : List Signature) where
       (r : ADeclaration × State) → InOrder scope parameters s → IsLocal names signatures storage spec d s r →
       LocalIsSound (DeclaratorOf IsToken d) signatures scope parameters s r.0 r.1
   local_sound scope parameters storages.Automatic spec d s r o j = automatic_sound scope parameters spec d s r o j
-  local_sound scope parameters (storages.Register at) spec d s r o j = automatic_sound scope parameters spec d s r o j
+  local_sound scope parameters (storages.Register at) spec d s r o j = register_sound scope parameters spec d s r o j
   local_sound scope parameters (storages.Static at) spec d s r o j =
       kept_is scope parameters d.name s j.part r o (object_declares names signatures true spec d s j.part o.laying j.typed) j.whole
 

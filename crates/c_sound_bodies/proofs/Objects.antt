@@ -16,6 +16,7 @@ use Rattle.c_typed_scope.specs.Layout.{Area}
 use Rattle.c_typed_scope.specs.Contents.{Filled, filled_to, filled}
 use Rattle.c_typed_scope.proofs.Written.{held_length}
 use Rattle.c_sound.specs.Fits.{no_local}
+use Rattle.c_sound.proofs.Registers.{locals_same}
 use Rattle.c_typed_expressions.specs.Phrases.{init_in, brackets_in}
 use Rattle.c_typed_expressions.specs.Expressions.{written}
 use Rattle.c_typed_definition.specs.State.{State, with_area, variable_of, label_of, counted_static, array_entry, laid}
@@ -106,6 +107,7 @@ pub record Declares (name : List ℕ) (s : State) (r : State) : Type 0 where
   pub names : r.scope ≡ with_name name entry s.scope
   pub of : OfVariable (IsObjectOf (length r.area.objects)) entry
   pub locals : r.locals ≡ s.locals
+  pub registers : r.registers ≡ s.registers
   pub extends : Extends s.area r.area
 
 object_more : (objects many : ℕ) → objects ≤ many → (v : Variable) → IsObjectOf objects v → IsObjectOf many v
@@ -115,7 +117,7 @@ object_more objects many l (variables.Global n) h = omega arith
 object_more objects many l (variables.Static n) h = omega arith
 
 declares_is : (name : List ℕ) (e : Entry) (s : State) (n : ℕ) (a : Area) (r : ℕ × State) →
-    r ≡ (n, record { scope = with_name name e s.scope; locals = s.locals; area = a }) → Extends s.area a →
+    r ≡ (n, record { scope = with_name name e s.scope; locals = s.locals; registers = s.registers; area = a }) → Extends s.area a →
     OfVariable (IsObjectOf (length s.area.objects)) e → IsVariable e → Declares name s r.1
 declares_is name e s n a r is h of variable = rw is (record {
   entry = e;
@@ -124,6 +126,7 @@ declares_is name e s n a r is h of variable = rw is (record {
   of = variable_more (IsObjectOf (length s.area.objects)) (IsObjectOf (length a.objects))
       (object_more (length s.area.objects) (length a.objects) h.objects) e of;
   locals = refl;
+  registers = refl;
   extends = h;
 })
 
@@ -134,6 +137,7 @@ declares_from name s r a h d = record {
   names = d.names;
   of = d.of;
   locals = d.locals;
+  registers = d.registers;
   extends = extends_further s.area a r.area h d.extends;
 }
 
@@ -224,7 +228,12 @@ module _ (names : List (List ℕ × Entry)) (signatures : List Signature) where
 pub declares_grows : (name : List ℕ) (s r : State) → Declares name s r → Grows s r
 declares_grows name s r h =
     let same : length r.locals ≡ length s.locals = ap length h.locals in
-    record { locals = omega arith; area = h.extends; outer = ap (λ (z : Scope). z.outer) h.names ∙ named_outer name h.entry s.scope }
+    record {
+      locals = omega arith;
+      registers = locals_same (length r.locals) (length s.locals) r.registers s.registers same h.registers;
+      area = h.extends;
+      outer = ap (λ (z : Scope). z.outer) h.names ∙ named_outer name h.entry s.scope;
+    }
 
 -- names stay in order, and so does the new one
 pub declares_order : (scope : ℕ → Type 0) (parameters : ℕ) (name : List ℕ) (s r : State) → InOrder scope parameters s →

@@ -83,7 +83,12 @@ module _ (signatures : List Signature) (scope : ℕ → Type 0) (parameters : �
         ActIsSound W signatures scope parameters looping s (BlockOf acts) (left r)
     block_sound s acts r o h =
         let names : leave r.scope ≡ s.scope = left_scope s.scope r.scope h.grows.outer in
-        let grows : Grows s (left r) = record { locals = h.grows.locals; area = h.grows.area; outer = ap (λ (z : Scope). z.outer) names } in
+        let grows : Grows s (left r) = record {
+          locals = h.grows.locals;
+          registers = h.grows.registers;
+          area = h.grows.area;
+          outer = ap (λ (z : Scope). z.outer) names;
+        } in
         record {
           fits = h.fits;
           stands = h.stands;

@@ -2,6 +2,7 @@
 use Rattle.std.specs.Prelude.{◌≡◌, ℕ, ◌<◌, ◌≤◌, ◌^◌, Bool, false, List, ◌++◌, length, Some, slice_get, Ok}
 use Rattle.std.specs.List.{AllByRecursion}
 use Rattle.tree_core.specs.declared.program.Object.{Object}
+use Rattle.tree_core.specs.Valid.{LocalsStand}
 use Rattle.c_phrases.specs.declared.operator.Spec.{Spec}
 use Rattle.c_phrases.specs.Phrases.{AnExp}
 use Rattle.c_phrases.specs.Units.{ADeclarator, SomeItems}
@@ -60,9 +61,10 @@ pub record Extends (a b : Area) : Type 0 where
   pub objects : length a.objects ≤ length b.objects
   pub measuring : b.measuring ≡ a.measuring
 
--- locals and objects are added, and the blocks around the innermost stay
+-- locals and objects are added, numbers of `register` locals still differ, and the blocks around the innermost stay
 pub record Grows (s r : State) : Type 0 where
   pub locals : length s.locals ≤ length r.locals
+  pub registers : LocalsStand (length s.locals) s.registers → LocalsStand (length r.locals) r.registers
   pub area : Extends s.area r.area
   pub outer : r.scope.outer ≡ s.scope.outer
 

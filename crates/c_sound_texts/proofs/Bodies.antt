@@ -4,6 +4,7 @@ use Rattle.std.proofs.lemmas.List.{length-map}
 use Rattle.std.proofs.lemmas.Bool.{ltb-false}
 use Rattle.std.specs.Prelude.{is_some, slice_get}
 use Rattle.gg_base.proofs.Facts.{slice_cases}
+use Rattle.tree_core.specs.Valid.{LocalsStand}
 use Rattle.c_phrases.specs.declared.operator.Spec.{Spec}
 use Rattle.c_phrases.specs.declared.tree.Named.{Named}
 use Rattle.c_phrases.specs.Phrases.{AnExp}
@@ -21,6 +22,7 @@ use Rattle.c_typed_words.specs.Words.{IsToken}
 use Rattle.c_typed_words.specs.Phrases.{BodyOf, DeclaredOf, ExternalsOf}
 use Rattle.c_sound.specs.Fits.{FitsActs, no_local}
 use Rattle.c_sound.specs.Stands.{IsThere, Takes, StandsActs}
+use Rattle.c_sound.proofs.Registers.{no_locals}
 use Rattle.c_typed_expressions.specs.Phrases.{brackets_in, params_in}
 use Rattle.c_typed_expressions.specs.Expressions.{written}
 use Rattle.c_typed_definition.specs.State.{State, with_area, named_state}
@@ -41,6 +43,7 @@ use Rattle.c_sound_bodies.proofs.Law.{bodies_are_sound}
 -- a typed function, where there are so many objects
 pub record RoutineIsSound (signatures : List Signature) (objects : ℕ) (g : ARoutine) : Type 0 where
   pub fits : FitsActs (length g.locals) no_local false g.body
+  pub registers : LocalsStand (length g.locals) g.registers
   pub stands : (gs : List ARoutine) (many : ℕ) → objects ≤ many → AreDefined signatures gs →
       StandsActs (IsThere many (length g.parameters)) (Takes gs) many g.body
   pub parameters : length g.parameters ≤ 32
@@ -54,6 +57,7 @@ routine_more : (signatures : List Signature) (objects many : ℕ) (g : ARoutine)
     RoutineIsSound signatures many g
 routine_more signatures objects many g le h = record {
   fits = h.fits;
+  registers = h.registers;
   stands = λ gs more further defined. h.stands gs more (omega arith) defined;
   parameters = h.parameters;
 }
@@ -93,7 +97,7 @@ named_order parameters n e s o of = record {
 }
 
 named_grows : (n : List ℕ) (e : Entry) (s : State) → Grows s (named_state n e s)
-named_grows n e s = record { locals = omega arith; area = extends_same s.area; outer = named_outer n e s.scope }
+named_grows n e s = record { locals = omega arith; registers = λ x. x; area = extends_same s.area; outer = named_outer n e s.scope }
 
 -- parameters that are declared
 pub record Parametered (parameters : ℕ) (s r : State) : Type 0 where
@@ -169,8 +173,9 @@ module _ (names : List (List ℕ × Entry)) (signatures : List Signature) where
       ((items_mean names signatures (written spec f.stars) false row s).only x j.typed) in
       let further = grows_further (entered_function t.state) s x.1 grows sound.grows in
       let behind = ended t (with_state (left_function x.1) t) x.1 h further.area further.outer refl in
-      one_more (with_state (left_function x.1) t) r (body_of spec f x.1.locals x.0) behind (record {
+      one_more (with_state (left_function x.1) t) r (body_of spec f x.1.locals x.1.registers x.0) behind (record {
         fits = sound.fits (length x.1.locals) (omega arith) w;
+        registers = further.registers (no_locals 0);
         stands = λ gs many le defined. sound.stands gs many le defined;
         parameters = few;
       }) j.whole

@@ -238,7 +238,7 @@ module _ (names : List (List ℕ × Entry)) (signatures : List Signature) where
       Corresponds (if is_some o then with_function spec f k else k) r.bodies
   body_corresponds spec f None k s t r j c new = rw j c
   body_corresponds spec f (Some row) k s t r j c new =
-      rw (j.whole) (corresponds_more k t.bodies spec f (body_of spec f j.part.1.locals j.part.0) refl refl (new refl) c)
+      rw (j.whole) (corresponds_more k t.bodies spec f (body_of spec f j.part.1.locals j.part.1.registers j.part.0) refl refl (new refl) c)
 
   function_corresponds : (spec : Spec) (f : AFunction) (es : List AnExternal) (k : Known) (t r : Text) →
       names ≡ (known_from es (known_by spec (function f) k)).names → IsFunction names signatures spec f t r → Corresponds k t.bodies →

@@ -114,6 +114,7 @@ whole_is_sound text t n w j main =
       fits = λ f g here. (s.routines f g here).fits;
       stands = λ f g here.
           (s.routines f g here).stands t.bodies (length t.state.area.objects) (omega arith) (corresponds_defined k t.bodies c);
+      registers = λ f g here. (s.routines f g here).registers;
       parameters = λ f g here. (s.routines f g here).parameters;
       differ = c.differ;
       no_putchar = c.no_putchar;

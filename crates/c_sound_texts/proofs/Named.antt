@@ -303,7 +303,7 @@ module _ (names : List (List ℕ × Entry)) (signatures : List Signature) where
       subst (IsNamed r.state) (sym bodies) after
   body_named spec f (Some row) s u r j named e h =
       let x = j.part in
-      let b = body_of spec f x.1.locals x.0 in
+      let b = body_of spec f x.1.locals x.1.registers x.0 in
       let after = named_numbers u.state r.state u.bodies h (subst (More u.state.scope) (sym e.scope) (same_names u.state.scope)) e.area in
       let name : NamesFunction r.state.scope f.name = subst (λ (z : Scope). NamesFunction z f.name) (sym e.scope) named in
       let bodies : r.bodies ≡ u.bodies ++ b ∷ [] = ap (λ (z : Text). z.bodies) j.whole in

@@ -22,7 +22,7 @@ use Rattle.c_typed_scope.specs.Layout.{Area}
 use Rattle.c_program.specs.Statements.{ADeclaration, AnAction, SomeActions}
 use Rattle.c_typed_expressions.specs.Phrases.{init_in, brackets_in, params_in}
 use Rattle.c_typed_expressions.specs.Expressions.{written}
-use Rattle.c_typed_definition.specs.State.{State, with_area, with_local, named_state}
+use Rattle.c_typed_definition.specs.State.{State, with_area, with_local, with_register, named_state}
 use Rattle.c_typed_definition.specs.Statements.{entered, left}
 use Rattle.c_typed_definition.specs.Signatures.{parameter_type}
 use Rattle.c_typed_definition.specs.Headings.{Text, with_parameter, with_declared, entered_function, left_function}
@@ -89,6 +89,9 @@ module _ (start : Area) where
     lays = o.lays;
   }
 
+  noted_in_place : (s : State) → InPlace start s → InPlace start (with_register s)
+  noted_in_place s o = record { names = o.names; laying = o.laying; lays = o.lays }
+
   -- a function begins, with no locals, and ends
   function_entered : (s : State) → InPlace start s → InPlace start (entered_function s)
   function_entered s o = record {
@@ -131,7 +134,8 @@ module _ (start : Area) where
         begun_in_place t (length s.locals) (init_in d.init) w.2 (with_local t d.name s) r (local_in_place t d.name s o) j.whole
     declared_in_place (storages.Register at) spec d w s r o j =
         let t = written spec d.stars in
-        begun_in_place t (length s.locals) (init_in d.init) w.2 (with_local t d.name s) r (local_in_place t d.name s o) j.whole
+        let q = with_register s in
+        begun_in_place t (length q.locals) (init_in d.init) w.2 (with_local t d.name q) r (local_in_place t d.name q (noted_in_place s o)) j.whole
     declared_in_place (storages.Static at) spec d w s r o j =
         rw (j.whole) (object_in_place start names signatures true spec d w s j.part o j.typed)
 
