@@ -15,7 +15,7 @@ use Rattle.c_lower_bounds.specs.Claim.{FitsFrame, SameFunction}
 abbrev pub FollowsAlways : AProgram → TreeProgram → Type 0
 FollowsAlways p q = (input : List ℕ) → AreBytes input → Follows (source p input) (tree_run q input)
 
--- a function's name and number of parameters stay, and it fits the frame that it needs
+-- a function's name and number of parameters stay, its `register` locals are wanted in registers, and it fits the frame that it needs
 pub record HasFunction (g : ARoutine) (f : TreeFn) : Type 0 where
   pub same : SameFunction g f
   pub fits : FitsFrame (need_of g.locals g.body) f

@@ -47,6 +47,10 @@ functions_stay p = record {
   count = all_lowered (length p.routines) p.routines 0;
   functions = λ n g f e h.
       let made = (at_number (length p.routines) p.routines 0 n g f e h).1 in
-      record { name = ap (λ (x : TreeFn). x.name) (sym made); args = ap (λ (x : TreeFn). x.args) (sym made) };
+      record {
+        name = ap (λ (x : TreeFn). x.name) (sym made);
+        args = ap (λ (x : TreeFn). x.args) (sym made);
+        wanted = ap (λ (x : TreeFn). x.wanted) (sym made);
+      };
   objects = refl;
 }

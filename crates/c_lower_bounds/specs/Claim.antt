@@ -19,10 +19,11 @@ abbrev pub EachFunctionFits : Type 0
 EachFunctionFits = (p : AProgram) (n : ℕ) (g : ARoutine) (f : TreeFn)
     → slice_get p.routines n ≡ Some g → slice_get (lowered p).functions n ≡ Some f → FitsFrame (need_of g.locals g.body) f
 
--- what a function and the one that it is lowered to have in common
+-- what a function and the one that it is lowered to have in common; the locals that are wanted in registers are its `register` locals
 pub record SameFunction (g : ARoutine) (f : TreeFn) : Type 0 where
   pub name : f.name ≡ g.name
   pub args : f.args ≡ length g.parameters
+  pub wanted : f.wanted ≡ g.registers
 
 -- what a program and the one that it is lowered to have in common
 pub record SameProgram (p : AProgram) : Type 0 where

@@ -15,7 +15,9 @@ use crate::tree::Tree;
 use c_program::{Program, Routine};
 use gg_base::{Bytes, Name, NoMemory, number_of};
 use std::alloc::Global;
-use tree_core::{Link, Links, Object, Objects, TreeFn, TreeFns, TreeItem, TreeItems, TreeProgram};
+use tree_core::{
+    Link, Links, LocalNumbers, Object, Objects, TreeFn, TreeFns, TreeItem, TreeItems, TreeProgram,
+};
 
 // What an object holds.
 fn copied_bytes(alloc: Global, bytes: &[u8]) -> Result<Vec<u8>, NoMemory>
@@ -82,11 +84,13 @@ fn function_of(alloc: Global, of: &Routine, body: Emitted) -> Result<TreeFn, NoM
     put(&mut items, Item::Return(Tree::Number(0)))?;
     let name = Name::copy_of(alloc, of.name.as_slice())?;
     let args = number_of(of.parameters.as_slice().len())?;
+    let wanted = LocalNumbers::copy_of(alloc, of.registers.as_slice())?;
     let items = TreeItems::from_vec(spelled_items(alloc, &items)?);
     Ok(TreeFn {
         name,
         args,
         locals: body.temps,
+        wanted,
         items,
     })
 }

@@ -16,8 +16,15 @@ body_of count g l = lower_row (length g.locals) count g.body 0 0 l
 abbrev pub items_of : Emitted → List Item
 items_of p = p.items ++ (Ret (Num 0) ∷ [])
 
+-- the `register` locals are wanted in registers
 abbrev pub function_of : ARoutine → Emitted → TreeFn
-function_of g p = record { name = g.name; args = length g.parameters; locals = p.temps; items = spelled_all (items_of p) }
+function_of g p = record {
+  name = g.name;
+  args = length g.parameters;
+  locals = p.temps;
+  wanted = g.registers;
+  items = spelled_all (items_of p);
+}
 
 abbrev pub lower_all : ℕ → List ARoutine → ℕ → List TreeFn
 lower_all count [] l = []

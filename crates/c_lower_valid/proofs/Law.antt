@@ -10,10 +10,11 @@ use Rattle.c_program.specs.Programs.{ARoutine, AProgram}
 use Rattle.c_sound.specs.Fits.{FitsActs, no_local}
 use Rattle.c_sound.specs.Stands.{Takes}
 use Rattle.c_sound.specs.Sound.{IsSound}
+use Rattle.c_sound.proofs.Registers.{locals_more}
 use Rattle.tree_core.specs.declared.program.TreeFn.{TreeFn}
 use Rattle.tree_core.specs.Items.{times, all_labels}
 use Rattle.tree_core.specs.Labels.{TargetsStand}
-use Rattle.tree_core.specs.Valid.{args_or, service_args, takes, ItemStands, ItemsStand, PushesStand}
+use Rattle.tree_core.specs.Valid.{args_or, service_args, takes, ItemStands, ItemsStand, WantedStand, PushesStand}
 use Rattle.c_lower_scheme.specs.Trees.{Item, Num, Ret}
 use Rattle.c_lower_scheme.specs.Spelling.{spelled, spelled_all}
 use Rattle.c_lower_scheme.specs.Calls.{callee_number}
@@ -22,7 +23,7 @@ use Rattle.c_lower_scheme.proofs.Facts.{all_lowered}
 use Rattle.c_lower_valid.specs.Claim.{LoweredIsValid}
 use Rattle.c_lower_valid.proofs.Named.{Scene, AllName}
 use Rattle.c_lower_valid.proofs.Rows.{scene, item_stands}
-use Rattle.c_lower_valid.proofs.Fine.{Fine, fine_behind}
+use Rattle.c_lower_valid.proofs.Fine.{Fine, FineDone, fine_behind}
 use Rattle.c_lower_valid.proofs.StatementItems.{fine_acts}
 use Rattle.c_lower_valid.proofs.Marks.{nowhere, marked_plain}
 use Rattle.c_lower_valid.proofs.Loops.{marked_row}
@@ -82,12 +83,15 @@ module _ (p : AProgram) (sound : IsSound p) where
     abbrev there : Scene
     there = scene functions (length p.objects) own few_parameters
 
+    fine_body : FineDone there (length g.locals) (body_of (length p.routines) g m)
+    fine_body = fine_acts there (length g.locals) (length p.routines) (Takes p.routines) (calls_right (length p.objects) own few_parameters)
+        no_local (λ n h. absurd h) false g.body 0 0 m (sound.fits f g at) (sound.stands f g at)
+
     fine_items : Fine there own.locals (items_of (body_of (length p.routines) g m))
-    fine_items =
-        let body = fine_acts there (length g.locals) (length p.routines) (Takes p.routines)
-        (calls_right (length p.objects) own few_parameters) no_local (λ n h. absurd h) false g.body 0 0 m (sound.fits f g at)
-        (sound.stands f g at) in
-        fine_behind there own.locals (body_of (length p.routines) g m).items (Ret (Num 0)) body.items tt tt
+    fine_items = fine_behind there own.locals (body_of (length p.routines) g m).items (Ret (Num 0)) fine_body.items tt tt
+
+    wanted_stand : WantedStand own
+    wanted_stand = locals_more (length g.locals) own.locals g.registers fine_body.grows (sound.registers f g at)
 
     roots_stand : ItemsStand functions (length p.objects) own
     roots_stand = items_stand functions (length p.objects) own few_parameters (items_of (body_of (length p.routines) g m)) fine_items.names
@@ -113,7 +117,7 @@ labels_once count (g ∷ gs) l fits n =
     (marked_row (length g.locals) count no_local false g.body 0 0 l (fits 0 g refl)) (λ m. refl) in
     let rest = labels_once count gs q.labels (λ f x e. fits (suc f) x e) n in
     let most = rest.0 in
-    let sum = labels_before g.name (length g.parameters) q.temps (items_of q) (lower_all count gs q.labels) n in
+    let sum = labels_before g.name (length g.parameters) q.temps g.registers (items_of q) (lower_all count gs q.labels) n in
     let grows = marks.grows in (
       ⊎_elim (λ lt. omega (arith, sum, marks.once n, rest.1 lt)) (λ ge. omega (arith, sum, marks.inside n (inr ge))) (cases_lt n q.labels),
       λ lt. omega (arith, sum, marks.inside n (inl lt), rest.1 (omega arith)),
@@ -125,6 +129,7 @@ lowered_is_valid p sound =
     record {
       names = names_right p sound;
       roots = each_lowered (ItemsStand (functions p sound) (length p.objects)) count p.routines 0 (λ f g m e. roots_stand p sound f g m e);
+      wanted = each_lowered WantedStand count p.routines 0 (λ f g m e. wanted_stand p sound f g m e);
       labels_once = λ n. (labels_once count p.routines 0 sound.fits n).0;
       targets = each_lowered TargetsStand count p.routines 0 (λ f g m e. targets_there p sound f g m e);
       calls = each_lowered PushesStand count p.routines 0 (λ f g m e. pushes_stand p sound f g m e);

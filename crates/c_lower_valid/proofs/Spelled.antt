@@ -93,7 +93,7 @@ pub targets_stand : (is : List Item) → ((n : ℕ) → 0 < aims n is → 0 < st
 targets_stand is h = λ n lt. there _ (λ l. refl) (λ l w. refl) n is (h n (gone_to _ (λ l. refl) (λ l w. refl) n is lt))
 
 -- the labels of a function, in front of those of others
-pub labels_before : (name : List ℕ) (args locals : ℕ) (is : List Item) (fs : List TreeFn) (n : ℕ)
-    → times n (all_labels (record { name = name; args = args; locals = locals; items = spelled_all is } ∷ fs)) ≡ stands n is + times n
+pub labels_before : (name : List ℕ) (args locals : ℕ) (wanted : List ℕ) (is : List Item) (fs : List TreeFn) (n : ℕ)
+    → times n (all_labels (record { name = name; args = args; locals = locals; wanted = wanted; items = spelled_all is } ∷ fs)) ≡ stands n is + times n
     (all_labels fs)
-labels_before name args locals is fs n = stands_before _ (λ l. refl) (λ l w. refl) n is (all_labels fs)
+labels_before name args locals wanted is fs n = stands_before _ (λ l. refl) (λ l w. refl) n is (all_labels fs)
