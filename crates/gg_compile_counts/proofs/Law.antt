@@ -45,7 +45,7 @@ module _ (names : List (List ℕ × Entry)) (signatures : List Signature) where
   body_size spec f (Some row) s t r j w =
       let x = items_size names signatures (written spec f.stars) false row s j.part j.typed (sign marks.CloseBrace 0 ∷ w) in
       let is = ap Done j.whole in
-      let b : ARoutine = body_of spec f j.part.1.locals j.part.0 in
+      let b : ARoutine = body_of spec f j.part.1.locals j.part.1.registers j.part.0 in
       let more = size_behind t.bodies b in
       omega arith
 

@@ -25,7 +25,7 @@ use Rattle.c_typed_scope.specs.declared.entry.Entry.{Entry}
 use Rattle.c_typed_scope.specs.declared.entry.Signature.{Signature}
 use Rattle.c_typed_expressions.specs.Phrases.{init_in}
 use Rattle.c_typed_expressions.specs.Expressions.{written}
-use Rattle.c_typed_definition.specs.State.{State, with_local}
+use Rattle.c_typed_definition.specs.State.{State, with_local, with_register}
 use Rattle.c_typed_definition.specs.Statements.{entered}
 use Rattle.c_typed_law.specs.Locals.{IsBegun, IsAutomatic, IsLocal, AreLocals}
 use Rattle.c_typed_law.specs.Statements.{IsFull, IsCondition, IsPart, IsTurn, IsReturn, IsStatement, AreItems}
@@ -73,7 +73,7 @@ module _ (names : List (List ℕ × Entry)) (signatures : List Signature) where
   local_size : (storage : Storage) (spec : Spec) (d : ADeclarator) (s : State) (r : ADeclaration × State)
       → IsLocal names signatures storage spec d s r → (w : List Placed) → One r.0 + length w ≤ length (onto_declarator d w)
   local_size storages.Automatic spec d s r j w = automatic_size spec d s r j w
-  local_size (storages.Register at) spec d s r j w = automatic_size spec d s r j w
+  local_size (storages.Register at) spec d s r j w = automatic_size spec d (with_register s) r j w
   local_size (storages.Static at) spec d s r j w =
       let is = ap (λ (z : ADeclaration × State). One z.0) j.whole in
       omega (arith, longer_declarator d w)

@@ -73,7 +73,7 @@ module _ (names : List (List ℕ × Entry)) (signatures : List Signature) where
   body_little spec f None s t r j none m w most all = subst (λ (x : Text). AllLittle m x.bodies) (sym j) all
   body_little spec f (Some row) s t r j none m w most all =
       let x = body_need names signatures (written spec f.stars) row s j.part j.typed none w in
-      let b : ARoutine = body_of spec f j.part.1.locals j.part.0 in
+      let b : ARoutine = body_of spec f j.part.1.locals j.part.1.registers j.part.0 in
       subst (λ (x : Text). AllLittle m x.bodies) (sym j.whole) (little_behind m t.bodies b all (omega arith))
 
   body_done : (spec : Spec) (f : AFunction) (o : Option SomeItems) (s : State) (t r : Text) → IsBody names signatures spec f o s t r
@@ -81,7 +81,7 @@ module _ (names : List (List ℕ × Entry)) (signatures : List Signature) where
   body_done spec f None s t r j = let is = ap Done j in omega arith
   body_done spec f (Some row) s t r j =
       let is = ap Done j.whole in
-      let one = length-append t.bodies (body_of spec f j.part.1.locals j.part.0 ∷ []) in
+      let one = length-append t.bodies (body_of spec f j.part.1.locals j.part.1.registers j.part.0 ∷ []) in
       omega arith
 
   function_little : (spec : Spec) (f : AFunction) (t r : Text) → IsFunction names signatures spec f t r → (m : ℕ) (w : List Placed)

@@ -22,7 +22,7 @@ use Rattle.c_typed_scope.specs.declared.entry.Entry.{Entry}
 use Rattle.c_typed_scope.specs.declared.entry.Signature.{Signature}
 use Rattle.c_typed_expressions.specs.Phrases.{init_in, brackets_in}
 use Rattle.c_typed_expressions.specs.Expressions.{written}
-use Rattle.c_typed_definition.specs.State.{State, with_local}
+use Rattle.c_typed_definition.specs.State.{State, with_local, with_register}
 use Rattle.c_typed_definition.specs.Statements.{entered}
 use Rattle.c_typed_law.specs.Objects.{IsObjectBy}
 use Rattle.c_typed_law.specs.Locals.{IsBegun, IsAutomatic, IsLocal, AreLocals}
@@ -57,7 +57,7 @@ module _ (names : List (List ℕ × Entry)) (signatures : List Signature) where
   local_adds : (storage : Storage) (spec : Spec) (d : ADeclarator) (s : State) (r : ADeclaration × State)
       → IsLocal names signatures storage spec d s r → (w : List Placed) → Count r.1 + length w ≤ Count s + length (onto_declarator d w)
   local_adds storages.Automatic spec d s r j w = automatic_adds spec d s r j w
-  local_adds (storages.Register at) spec d s r j w = automatic_adds spec d s r j w
+  local_adds (storages.Register at) spec d s r j w = automatic_adds spec d (with_register s) r j w
   local_adds (storages.Static at) spec d s r j w =
       let x = object_keeps true (written spec d.stars) d (brackets_in d.length) s j.part j.typed.whole in
       let is = ap (λ (z : ADeclaration × State). Count z.1) j.whole in

@@ -22,7 +22,7 @@ use Rattle.c_typed_scope.specs.Layout.{Area}
 use Rattle.c_typed_scope.specs.Contents.{Filled, filled_to}
 use Rattle.c_typed_expressions.specs.Phrases.{init_in, brackets_in}
 use Rattle.c_typed_expressions.specs.Expressions.{written}
-use Rattle.c_typed_definition.specs.State.{State, with_area, measuring, variable_of, array_entry, with_local}
+use Rattle.c_typed_definition.specs.State.{State, with_area, measuring, variable_of, array_entry, with_local, with_register}
 use Rattle.c_typed_law.specs.Values.{IsElement, AreElements}
 use Rattle.c_typed_law.specs.Objects.{IsCount, AreLaid, HoldsAtFirst, IsFilled, IsObjectBy, IsObject}
 use Rattle.c_typed_law.specs.Locals.{IsBegun, IsAutomatic, IsLocal, AreLocals}
@@ -166,7 +166,7 @@ module _ (names : List (List ℕ × Entry)) (signatures : List Signature) where
       → IsLocal names signatures storage spec d s r → (w : List Placed)
       → Weight r.1.area + 4 * length w ≤ Weight s.area + 4 * length (onto_declarator d w)
   local_adds storages.Automatic spec d s r j w = automatic_adds spec d s r j w
-  local_adds (storages.Register at) spec d s r j w = automatic_adds spec d s r j w
+  local_adds (storages.Register at) spec d s r j w = automatic_adds spec d (with_register s) r j w
   local_adds (storages.Static at) spec d s r j w =
       let x = object_adds true spec d s j.part j.typed w in
       let is = ap (λ (z : ADeclaration × State). Weight z.1.area) j.whole in

@@ -37,7 +37,7 @@ module _ (names : List (List ℕ × Entry)) (signatures : List Signature) where
   body_named spec f None s u r j k h = subst AreNamed (sym (ap (λ (z : Text). z.bodies) j)) h
   body_named spec f (Some row) s u r j k h =
       let x = j.part in
-      let b : ARoutine = body_of spec f x.1.locals x.0 in
+      let b : ARoutine = body_of spec f x.1.locals x.1.registers x.0 in
       let bodies : r.bodies ≡ u.bodies ++ b ∷ [] = ap (λ (z : Text). z.bodies) j.whole in
       subst AreNamed (sym bodies) (named_behind u.bodies b h k)
 

@@ -65,6 +65,7 @@ function_routine i =
       result = int;
       parameters = int ∷ [];
       locals = int ∷ [];
+      registers = [];
       body = function_body i;
       need = need_of (int ∷ []) (function_body i);
     }
@@ -114,6 +115,7 @@ main_routine k =
       result = int;
       parameters = [];
       locals = int ∷ [];
+      registers = [];
       body = main_body k;
       need = need_of (int ∷ []) (main_body k);
     }

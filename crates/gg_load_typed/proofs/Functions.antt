@@ -29,7 +29,7 @@ table_area = record { objects = table ∷ []; end = 65792; literals = 0; statics
 -- the text so far
 abbrev pub text_with : List (List ℕ × Entry) → Area → List Signature → List ARoutine → Text
 text_with fs a declared bodies =
-    record { state = record { scope = record { outer = []; here = globals_and fs }; locals = []; area = a }; declared = declared; bodies = bodies }
+    record { state = record { scope = record { outer = []; here = globals_and fs }; locals = []; registers = []; area = a }; declared = declared; bodies = bodies }
 
 abbrev pub text_at : ℕ → Text
 text_at n = text_with (function_entries n) table_area (services ++ function_signatures n) (function_routines n)

@@ -35,6 +35,7 @@ module _ (ns : List (List ℕ × Entry)) (ss : List Signature) (fs : List (List 
       record {
         scope = record { outer = globals_and fs ∷ []; here = (codes "s", entries.Variable int (variables.Automatic 0)) ∷ [] };
         locals = int ∷ [];
+        registers = [];
         area = a;
       }
 
