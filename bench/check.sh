@@ -1,5 +1,5 @@
 #!/bin/sh
-# Compares `ggvax check` with a plain Rust program: on the shipped description, on random small ones, which have a rule for each token and
+# Compares `ggvax check` with a plain Rust program: on the shipped rules (in version 1), on random small ones, which have a rule for each token and
 # some patterns more, and on changed ones, from which rules are dropped and to which chain rules, restrictions and classes that turn in a
 # circle are added. Both must say the same: that a description is accepted, and then which rule isn't shown; or that some tree blocks or
 # loops, and then the plain program parses the tree that `ggvax check` tells to that very end. Where `try_check` is there, the numbers of
@@ -21,7 +21,7 @@ counter=$(program_of try_check)
 [ -n "$program" ] || echo "there is no ggvax: what it says is not compared"
 [ -n "$counter" ] || echo "there is no try_check: the numbers of tuples are not compared"
 
-python3 - "$program" "$counter" "$plain" "$work" "$here/examples/vax.gg" "$small" "$changed" "$rules" <<'PY'
+python3 - "$program" "$counter" "$plain" "$work" "$here/examples/vax1.gg" "$small" "$changed" "$rules" <<'PY'
 import itertools
 import os
 import random

@@ -1,6 +1,6 @@
 #!/bin/sh
 # Compares what is said of templates with what a plain Rust program says: the effects of pattern and template in normal form, or the
-# fault and its line. By `try_templates`, which tells it of every rule: of the shipped description, of random templates of one to three
+# fault and its line. By `try_templates`, which tells it of every rule: of the shipped ones (in version 1), of random templates of one to three
 # lines, and of changed shipped descriptions, in whose lines operands are exchanged, sizes and holes are others, or lines are left out. By
 # `ggvax check`, which tells the first refusal behind the check of the tables: of changed descriptions like bench/reloads.gg, which has few
 # rules more than one for each token.
@@ -231,7 +231,7 @@ def first_refusals(text):
     return tally.tell(f"{wholes} changed descriptions by `ggvax check`")
 
 
-shipped, by_token = open(f"{here}/examples/vax.gg").read(), open(f"{here}/bench/reloads.gg").read()
+shipped, by_token = open(f"{here}/examples/vax1.gg").read(), open(f"{here}/bench/reloads.gg").read()
 head = by_token[: by_token.index("rule ")]
 bad = []
 if teller:

@@ -3,6 +3,8 @@
 
 mod small;
 mod vax;
+mod vax1;
 
 pub use small::M_GG;
 pub use vax::VAX_GG;
+pub use vax1::VAX1_GG;

@@ -1,11 +1,12 @@
 // The description of the VAX-11.
 
-/// The VAX-11, with rules for all trees of a program.
+/// The VAX-11, with rules for all trees of a program; a rule for several sizes is written once.
 pub const VAX_GG: &str =
     "# The VAX-11, for a code generator that reads prefix trees of typed tokens.
 # reg: a register. rval, wval, bval: operands that can be read. lpl, wpl, bpl: operands that can be written.
 # con: constants. ea: addresses. stmt: statements.
-version 1
+# A rule below an each line stands for one rule a letter: @ is the letter, ^ its capital, ~ the constant of so many bytes.
+version 2
 target vax
 pool r0 r1 r2 r3 r4 r5
 class reg Reg
@@ -29,11 +30,8 @@ reload movl %1,%0
 # constants and addresses; an address of its own is an immediate, so rval : Gaddr stands before ea : Gaddr
 rule con : Zero
   give %1
-rule con : One
-  give %1
-rule con : Two
-  give %1
-rule con : Four
+each b w l
+rule con : ~
   give %1
 rule con : Eight
   give %1
@@ -52,69 +50,45 @@ rule lpl : Loc
   give %1
 rule lpl : Arg
   give %1
-rule bpl : IndirB reg
+each b w l
+rule @pl : Indir^ reg
   give (%2)
-rule wpl : IndirW reg
-  give (%2)
-rule lpl : IndirL reg
-  give (%2)
-rule bpl : IndirB ea
+each b w l
+rule @pl : Indir^ ea
   give %2
-rule wpl : IndirW ea
-  give %2
-rule lpl : IndirL ea
-  give %2
-rule bpl : IndirB Gaddr
-  give %2
-rule wpl : IndirW Gaddr
-  give %2
-rule lpl : IndirL Gaddr
+each b w l
+rule @pl : Indir^ Gaddr
   give %2
 rule lpl : IndirL con
   give *$%2
 # behind a pointer that stands in memory
-rule bpl : IndirB Loc
+each b w l
+rule @pl : Indir^ Loc
   give *%2
-rule wpl : IndirW Loc
+each b w l
+rule @pl : Indir^ Arg
   give *%2
-rule lpl : IndirL Loc
-  give *%2
-rule bpl : IndirB Arg
-  give *%2
-rule wpl : IndirW Arg
-  give *%2
-rule lpl : IndirL Arg
-  give *%2
-rule bpl : IndirB IndirL Gaddr
-  give *%3
-rule wpl : IndirW IndirL Gaddr
-  give *%3
-rule lpl : IndirL IndirL Gaddr
+each b w l
+rule @pl : Indir^ IndirL Gaddr
   give *%3
 # indexed places: by token for each base, since Gaddr, Loc and Arg are values elsewhere
-rule wpl : IndirW Plus ea Mul Two reg
+each w l
+rule @pl : Indir^ Plus ea Mul ~ reg
   give %3[%6]
-rule lpl : IndirL Plus ea Mul Four reg
+each w l
+rule @pl : Indir^ Plus Gaddr Mul ~ reg
   give %3[%6]
-rule wpl : IndirW Plus Gaddr Mul Two reg
-  give %3[%6]
-rule lpl : IndirL Plus Gaddr Mul Four reg
-  give %3[%6]
-rule wpl : IndirW Plus Gaddr Mul Two Zero
+each w l
+rule @pl : Indir^ Plus Gaddr Mul ~ Zero
   give %3
-rule lpl : IndirL Plus Gaddr Mul Four Zero
-  give %3
-rule wpl : IndirW Plus Loc Mul Two reg
+each w l
+rule @pl : Indir^ Plus Loc Mul ~ reg
   give *%3[%6]
-rule lpl : IndirL Plus Loc Mul Four reg
+each w l
+rule @pl : Indir^ Plus Arg Mul ~ reg
   give *%3[%6]
-rule wpl : IndirW Plus Arg Mul Two reg
-  give *%3[%6]
-rule lpl : IndirL Plus Arg Mul Four reg
-  give *%3[%6]
-rule wpl : IndirW Plus IndirL Gaddr Mul Two reg
-  give *%4[%7]
-rule lpl : IndirL Plus IndirL Gaddr Mul Four reg
+each w l
+rule @pl : Indir^ Plus IndirL Gaddr Mul ~ reg
   give *%4[%7]
 rule bpl : IndirB Plus ea reg
   give %3[%4]
@@ -137,25 +111,20 @@ rule rval : lpl
   give %1
 rule rval : Neg con
   give $-%2
-rule bval : bpl
+each b w
+rule @val : @pl
   give %1
-rule wval : wpl
-  give %1
-rule bval : Ncb con
+each b w
+rule @val : Nc@ con
   give $%2
-rule wval : Ncw con
-  give $%2
-rule bval : Ncb Sxb bval
+each b w
+rule @val : Nc@ Sx@ @val
   give %3
-rule wval : Ncw Sxw wval
+each b w
+rule @val : Nc@ Zx@ @val
   give %3
-rule bval : Ncb Zxb bval
-  give %3
-rule wval : Ncw Zxw wval
-  give %3
-rule bval : Ncb reg
-  give %2
-rule wval : Ncw reg
+each b w
+rule @val : Nc@ reg
   give %2
 rule reg : rval
   do movl %1,%0
@@ -164,11 +133,9 @@ rule reg : ea
   do movab %1,%0
   give reuse
 # bridges; those with Mul are open only where the second part is a product, so that all other sums stay with rval
-rule reg : Plus Gaddr Mul Two reg
-  do movaw %2[%5],%0
-  give reuse
-rule reg : Plus Gaddr Mul Four reg
-  do moval %2[%5],%0
+each w l
+rule reg : Plus Gaddr Mul ~ reg
+  do mova@ %2[%5],%0
   give reuse
 rule reg : Plus Gaddr Mul rval rval
   do mull3 %5,%4,%0
@@ -257,17 +224,13 @@ rule reg : Neg rval
 rule reg : Com rval
   do mcoml %2,%0
   give reuse
-rule reg : Sxb bval
-  do cvtbl %2,%0
+each b w
+rule reg : Sx@ @val
+  do cvt@l %2,%0
   give reuse
-rule reg : Sxw wval
-  do cvtwl %2,%0
-  give reuse
-rule reg : Zxb bval
-  do movzbl %2,%0
-  give reuse
-rule reg : Zxw wval
-  do movzwl %2,%0
+each b w
+rule reg : Zx@ @val
+  do movz@l %2,%0
   give reuse
 # statements: operators straight into memory
 rule stmt : AssignL lpl Zero
@@ -284,11 +247,9 @@ rule stmt : AssignL lpl Plus lpl rval
 rule stmt : AssignL lpl Plus lpl rval
   do addl3 %5,%4,%2
   give nothing
-rule stmt : AssignL lpl Plus Gaddr Mul Two reg
-  do movaw %4[%7],%2
-  give nothing
-rule stmt : AssignL lpl Plus Gaddr Mul Four reg
-  do moval %4[%7],%2
+each w l
+rule stmt : AssignL lpl Plus Gaddr Mul ~ reg
+  do mova@ %4[%7],%2
   give nothing
 rule stmt : AssignL lpl Plus Gaddr Mul rval rval
   do mull3 %7,%6,%0
@@ -376,17 +337,13 @@ rule stmt : AssignL lpl Neg rval
 rule stmt : AssignL lpl Com rval
   do mcoml %4,%2
   give nothing
-rule stmt : AssignL lpl Sxb bval
-  do cvtbl %4,%2
+each b w
+rule stmt : AssignL lpl Sx@ @val
+  do cvt@l %4,%2
   give nothing
-rule stmt : AssignL lpl Sxw wval
-  do cvtwl %4,%2
-  give nothing
-rule stmt : AssignL lpl Zxb bval
-  do movzbl %4,%2
-  give nothing
-rule stmt : AssignL lpl Zxw wval
-  do movzwl %4,%2
+each b w
+rule stmt : AssignL lpl Zx@ @val
+  do movz@l %4,%2
   give nothing
 rule stmt : AssignL lpl ea
   do movab %3,%2
@@ -394,17 +351,13 @@ rule stmt : AssignL lpl ea
 rule stmt : AssignL lpl rval
   do movl %3,%2
   give nothing
-rule stmt : AssignB bpl Ncb rval
-  do cvtlb %4,%2
+each b w
+rule stmt : Assign^ @pl Nc@ rval
+  do cvtl@ %4,%2
   give nothing
-rule stmt : AssignW wpl Ncw rval
-  do cvtlw %4,%2
-  give nothing
-rule stmt : AssignB bpl bval
-  do movb %3,%2
-  give nothing
-rule stmt : AssignW wpl wval
-  do movw %3,%2
+each b w
+rule stmt : Assign^ @pl @val
+  do mov@ %3,%2
   give nothing
 # branches
 rule stmt : Cbr And rval rval Zero
@@ -428,20 +381,14 @@ rule stmt : Cbr And rval One Zero
   do tstl %0
   do j%1 %L
   give scratch
-rule stmt : Cbr Sxb bval Zero
-  do tstb %3
+each b w
+rule stmt : Cbr Sx@ @val Zero
+  do tst@ %3
   do j%1 %L
   give nothing
-rule stmt : Cbr Sxw wval Zero
-  do tstw %3
-  do j%1 %L
-  give nothing
-rule stmt : Cbr Sxb bval Sxb bval
-  do cmpb %3,%5
-  do j%1 %L
-  give nothing
-rule stmt : Cbr Sxw wval Sxw wval
-  do cmpw %3,%5
+each b w
+rule stmt : Cbr Sx@ @val Sx@ @val
+  do cmp@ %3,%5
   do j%1 %L
   give nothing
 rule stmt : Cbr rval Zero
