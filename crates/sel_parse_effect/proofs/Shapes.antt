@@ -87,8 +87,14 @@ at_suc right j = by (suc j == 0) refl
     by false e = ap (λ b. cond b None (slice_get right (suc j - 1))) e ∙ ap (slice_get right) (let back : suc j - 1 ≡ j = omega arith in back)
 
 pub one_hole : (right : List Sym) (ps : List Piece) (x : Sym) → only_symbol right ps ≡ Some x → OneHole right ps (Some x)
+one_hole right [] x e = absurd (none-some x e)
+one_hole right (piece.Hole zero ∷ []) x e = absurd (none-some x e)
 one_hole right (piece.Hole (suc j) ∷ []) x e = record { index = j; is = refl; there = sym (at_suc right j) ∙ e }
-one_hole right _ x e = absurd (none-some x e)
+one_hole right (piece.Hole i ∷ p ∷ ps) x e = absurd (none-some x e)
+one_hole right (piece.Bytes w ∷ ps) x e = absurd (none-some x e)
+one_hole right (piece.Label ∷ ps) x e = absurd (none-some x e)
+one_hole right (piece.Callee ∷ ps) x e = absurd (none-some x e)
+one_hole right (piece.Count ∷ ps) x e = absurd (none-some x e)
 
 pub reg_symbol : (classes : List Class) (o : Option Sym) → is_reg (kind_of_symbol classes o) ≡ true → (c : ℕ) × (o ≡ Some (grammar_symbol.Class c)) × (kind_at classes c ≡ Some kind.Reg)
 reg_symbol classes None e = absurd (cc)
