@@ -87,7 +87,9 @@ module _ (q : TreeProgram) (g : TreeFn) (few : g.locals ≤ 1024) where
 branch_or_jump : (x : Tok) (a : Att) (n : ℕ) → is_of_kind (attribute_of x) a ≡ true → label_of_att a ≡ Some n → (sort_of x ≡ Some sort.Stmt) × (target_by x a ≡ Some n)
 branch_or_jump tok.Cbr (att.Branch rel label) n fit e = (refl, e)
 branch_or_jump tok.Jump (att.Label label) n fit e = (refl, e)
-branch_or_jump x _ n fit e = absurd (cc)
+branch_or_jump x (att.Branch rel label) n fit e = absurd (cc)
+branch_or_jump x (att.Label label) n fit e = absurd (cc)
+branch_or_jump x a n fit e = absurd (cc)
 
 module _ (code : List CodeItem) where
   low_inside : (ws : List Leaf) → All Fits ws → All IsLow ws → All (GoesInside code) ws
