@@ -8,3 +8,4 @@ pub mod DeadTails
 pub mod NextJumps
 pub mod Jumping
 pub mod Tailing
+pub mod Fronting

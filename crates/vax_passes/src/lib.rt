@@ -2,6 +2,7 @@
 #![tactic(auto)]
 
 pub mod dead_tail;
+pub mod front;
 pub mod next_jump;
 pub mod pass;
 

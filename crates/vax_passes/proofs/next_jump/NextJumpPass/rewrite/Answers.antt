@@ -7,6 +7,7 @@ use Rattle.vax_passes.proofs.next_jump.NextJumpPass.rewrite.Goals as goal
 
 pub loop-item-preserved : goal.loop-item-preserved
 loop-item-preserved c = record {
+  front = c.in_ok-keep.ensures.front;
   same = taken_off c.loop-item.left.items c.pop.new.self.items c.loop-item.kept.items c.keep.new.kept.items c.in-Some.item c.loop-item.self.made c.keep.new.self.made _
       (search (rules, common_steps)) c.in_ok-keep.ensures.kept c.loop-item.invariant.same;
   rises = search rules;
