@@ -51,7 +51,7 @@ use Rattle.vax_machine.proofs.Registers.{reg_below}
 use Rattle.vax_machine_lists.specs.Sound.{IsRunning}
 use Rattle.vax_machine_lists.proofs.Longwords.{length-with, number-with}
 use Rattle.vax_machine_lists.proofs.Numbers.{SmallResult, applied_small}
-use Rattle.vax_codes.proofs.SoundnessCopy.{LiesIn, lies, EvaluatesAll, all_running, valid_at, running_at}
+use Rattle.vax_machine_lists.proofs.Soundness.{LiesIn, lies, EvaluatesAll, all_running, valid_at, running_at}
 use Rattle.vax_alike.proofs.Placing.{Where, where_of, there, Moved, Carried, all_there, stored_there}
 use Rattle.vax_machine_lists.proofs.Joining.{act_is}
 use Rattle.vax_codes.specs.Needless.{IsNeedless, Tests, ResultsTestAgain, is_written, is_long, ends_written, last_operand, function_clears, is_plain_base, is_plain_at, is_plain}

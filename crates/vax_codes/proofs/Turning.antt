@@ -22,7 +22,7 @@ use Rattle.vax_alike.proofs.Beginning.{corresponding_runs_are_alike}
 use Rattle.vax_passes.proofs.Thinning.{first_none, second_none, both_none, loads_by, has_main, names_defined, instr_defined, same_double_at, target_there}
 use Rattle.vax_passes.proofs.Plain.{Always, Any, any_behind, all_carried, kept_same}
 use Rattle.vax_passes.proofs.NextJumps.{jump_acts}
-use Rattle.vax_codes.specs.Chains.{Leads, here, on, Ends, Turned, nothing, kept, IsTurned, TurnedIsAlike}
+use Rattle.vax_codes.specs.Chains.{Leads, here, on, Turned, nothing, kept, IsTurned, TurnedIsAlike}
 use Rattle.vax_codes.specs.Chains.{turned as one_turned}
 
 module _ (all : List CodeItem) where

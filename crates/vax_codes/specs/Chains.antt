@@ -1,5 +1,5 @@
 -- Chains of jumps, and branches that go where they lead.
-use Rattle.std.specs.Prelude.{◌≡◌, ℕ, zero, suc, List, [], ◌∷◌, Some, slice_get}
+use Rattle.std.specs.Prelude.{◌≡◌, ◌<◌, ℕ, zero, suc, ◌+◌, List, [], ◌∷◌, Some, slice_get}
 use Rattle.vax_core.specs.declared.op.Op.TheVariants.{Jbr}
 use Rattle.vax_core.specs.declared.code.Instr.{Instr}
 use Rattle.vax_core.specs.declared.code.Code.{Code}
@@ -37,6 +37,17 @@ pub record IsTurned (c d : Code) : Type 0 where
   pub area : d.area ≡ c.area
   pub number : ℕ
   pub items : Turned c.items number c.items d.items
+
+-- Each branch goes to the end of the chain from its label, if the chain has an end: it doesn't where it turns in a circle.
+pub record HasNoChain (items : List CodeItem) : Type 0 where
+  pub each : (p : ℕ) (i : Instr) (t : Test) (l m : List ℕ) (n : ℕ) → slice_get items p ≡ Some (item_kind.Instr i)
+      → action_of i.op ≡ Branch t → i.target ≡ Some l → Leads items n l m → Ends items m → m ≡ l
+
+-- As many branches are turned as were counted, and none is left to turn where the count isn't at its end.
+pub record TurnsChains (before after : ℕ) (c d : Code) : Type 0 where
+  pub turns : IsTurned c d
+  pub counts : after ≡ before + turns.number
+  pub settled : after < 18446744073709551615 → HasNoChain d.items
 
 abbrev pub TurnedIsAlike : Type 0
 TurnedIsAlike = (c d : Code) → IsTurned c d → Alike c d

@@ -1,4 +1,8 @@
-//! Laws of codes whose branches go where chains of jumps lead, and of codes without tests of what was just computed.
+//! Passes over branches and condition codes, and the laws by which they keep what a code does.
 #![tactic(auto)]
 
+pub mod jump_chain;
 pub mod laws;
+pub mod nexts;
+
+pub use jump_chain::JumpChain;
