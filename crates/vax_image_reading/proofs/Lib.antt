@@ -1,0 +1,10 @@
+pub mod FieldLaws
+pub mod ModeLaws
+pub mod BaseLaws
+pub mod OperandLaws
+pub mod InstrLaws
+pub mod SectionLaws
+pub mod ReadingLaws
+pub mod ImageLaws
+pub mod ItemLaws
+pub mod PartLaws
