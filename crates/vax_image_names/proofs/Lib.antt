@@ -1,0 +1,4 @@
+pub mod TableLaws
+pub mod Placing
+pub mod Standing
+pub mod Sizing

@@ -1,0 +1,6 @@
+use Rattle.vax_image_names.specs.Found.{found}
+use Rattle.vax_image_names.proofs.Placing.{place_is}
+use Rattle.vax_image_names.proofs.labels.Labels.find.Goals as goal
+
+pub returns : goal.returns
+returns c = place_is (found c.args.self.now.numbers) c.args.self.now.items.now c.args.name.now c.get.result c.args.self.now.places c.get.ensures

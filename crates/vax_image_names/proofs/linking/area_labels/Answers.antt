@@ -1,0 +1,23 @@
+use Rattle.std.proofs.Common.{ℕ, List, ◌-◌, ◌∷◌, ◌||◌, drop, ap, ◌∙◌, is_some}
+use Rattle.vax_core.specs.declared.code.AreaItem.{AreaItem}
+use Rattle.vax_machine.specs.Labels.{is_service}
+use Rattle.vax_machine.specs.Tables.{with_name}
+use Rattle.vax_image_names.specs.Found.{found}
+use Rattle.vax_image_names.proofs.Placing.{in_front, area_numbers_step, area_double_step}
+use Rattle.vax_image_names.proofs.linking.area_labels.Goals as goal
+
+pub loop-place-preserved-in-Continue-1 : goal.loop-place-preserved-in-Continue-1
+loop-place-preserved-in-Continue-1 c =
+    let list = c.args.layout.now in
+    let place = c.loop-place.place in
+    let name = c.in-Label.name in
+    let old = found c.loop-place.labels.numbers in
+    let code = found c.args.code.now in
+    let front = in_front list place c.index-layout-place.result c.loop-place-test.true c.loop-place.auto.place c.index-layout-place.is ∙ ap (λ (x : AreaItem). x ∷ drop place list) c.in-Label.is in
+    let test = c.is_taken_in_either-again.ensures ∙ ap (λ (s : List ℕ). is_service s || (is_some (old s) || is_some (code s))) c.as_slice.ensures in
+    let put = c.in_ok-put.ensures.numbers ∙ ap (λ (s : List ℕ). with_name old s (place - 1)) c.as_slice-in-Label.ensures in
+    record {
+      numbers = area_numbers_step list place name old (found c.put.new.self.numbers) c.loop-place-test.true front c.loop-place.invariant.numbers put;
+      double = area_double_step list c.args.items.now place name old code c.is_taken_in_either-again.result c.loop-place.labels.double c.put.new.self.double front
+          c.loop-place.invariant.numbers c.requires test c.loop-place.invariant.double c.in_ok-put.ensures.double;
+    }
