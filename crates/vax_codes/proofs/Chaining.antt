@@ -16,7 +16,8 @@ use Rattle.vax_passes.specs.Dropping.{is_jump}
 use Rattle.vax_passes.proofs.Jumping.{jump_is}
 use Rattle.vax_passes.proofs.Suffixes.{get_inside}
 use Rattle.vax_codes.specs.Chains.{Leads, here, on, Ends}
-use Rattle.vax_codes.specs.Hops.{is_branch, is_jump_at, hop_to, hop_of, hops_of, step, times, AreInside, AreFar, target_of, last_of}
+use Rattle.vax_codes.specs.Nexts.{place_of}
+use Rattle.vax_codes.specs.Hops.{is_jump_at, hop_from, hop_of, hops_of, step, times, AreInside, AreFar, target_of, last_of}
 use Rattle.vax_codes.proofs.Hopping.{Hops, there, one, end_none, few, ended, reached}
 
 -- a value by index of a list in which each element has one
@@ -51,12 +52,12 @@ module _ (cs : List CodeItem) where
   abbrev pub behind : List ℕ → ℕ
   behind l = next_item cs (label_place cs l)
 
-  hop_branch : (p : ℕ) (l : List ℕ) → IsBranchAt p l → slice_index_or hops p None ≡ hop_to cs (Some l)
+  hop_branch : (p : ℕ) (l : List ℕ) → IsBranchAt p l → slice_index_or hops p None ≡ hop_from cs (Some (behind l))
   hop_branch p l b =
       hop_at p
       ∙ ap (hop_of cs) b.at
-      ∙ ap (λ (a : Action). cond (is_branch a) (hop_to cs b.instr.target) None) b.action
-      ∙ ap (hop_to cs) b.target
+      ∙ ap (λ (a : Action). hop_from cs (place_of cs a b.instr.target)) b.action
+      ∙ ap (λ (t : Option (List ℕ)). hop_from cs (place_of cs (Branch b.test) t)) b.target
 
   -- a jump behind a label is a branch
   some_target : (t : Option (List ℕ)) → is_some t ≡ true → (k : List ℕ) × (t ≡ Some k)
@@ -80,7 +81,7 @@ module _ (cs : List CodeItem) where
 
   -- ---- hops are links of a chain
 
-  ends_by : (l : List ℕ) → hop_to cs (Some l) ≡ None → Ends cs l
+  ends_by : (l : List ℕ) → hop_from cs (Some (behind l)) ≡ None → Ends cs l
   ends_by l e = record {
     none = λ i k at op target. (
         let yes : is_jump_at (slice_get cs (behind l)) ≡ true = ap is_jump_at at ∙ jump_is_there i k op target in
@@ -140,7 +141,7 @@ module _ (cs : List CodeItem) where
     pub each : (i : Instr) (t : Test) (n : ℕ) (l m : List ℕ) → x ≡ item_kind.Instr i → action_of i.op ≡ Branch t → i.target ≡ Some l → Leads cs n l m → Ends cs m → m ≡ l
 
   -- the branch at a place from which a hop leads
-  branch_by : (i : Instr) (a : Action) (t : Option (List ℕ)) (q : ℕ) → action_of i.op ≡ a → i.target ≡ t → cond (is_branch a) (hop_to cs t) None ≡ Some q
+  branch_by : (i : Instr) (a : Action) (t : Option (List ℕ)) (q : ℕ) → action_of i.op ≡ a → i.target ≡ t → hop_from cs (place_of cs a t) ≡ Some q
       → (l : List ℕ) × ((x : Test) × (action_of i.op ≡ Branch x) × (i.target ≡ Some l))
   branch_by i (Compute f) t q e g h = absurd cc
   branch_by i Push t q e g h = absurd cc
@@ -174,7 +175,7 @@ module _ (cs : List CodeItem) where
           let long = mapped_length (λ (x : CodeItem). hop_of cs (Some x)) cs in
           omega (arith, lt, long, same)
 
-      target_in : (a : Action) (t : Option (List ℕ)) (q : ℕ) → cond (is_branch a) (hop_to cs t) None ≡ Some q → q < length hops
+      target_in : (a : Action) (t : Option (List ℕ)) (q : ℕ) → hop_from cs (place_of cs a t) ≡ Some q → q < length hops
       target_in (Compute f) t q h = absurd cc
       target_in Push t q h = absurd cc
       target_in Call t q h = absurd cc

@@ -10,3 +10,10 @@ pub mod Coming
 pub mod Untesting
 pub mod Retesting
 pub mod Dropping
+pub mod Marking
+pub mod Gathering
+pub mod Carrying
+pub mod Bringing
+pub mod Removing
+pub mod Sweeping
+pub mod Testing

@@ -43,7 +43,7 @@ use Rattle.vax_machine_lists.proofs.Beginning.{runs_begin_sound}
 use Rattle.vax_core.specs.First.{main_name}
 
 -- no function both keeps C and clears it
-keeps_or_clears : (f : Function) → keeps_carry f ≡ true → function_clears f ≡ true → ⊥
+pub keeps_or_clears : (f : Function) → keeps_carry f ≡ true → function_clears f ≡ true → ⊥
 keeps_or_clears (functions.Copy size) e h = true≢false (sym h)
 keeps_or_clears functions.Clear e h = true≢false (sym h)
 keeps_or_clears functions.Negate e h = true≢false (sym e)

@@ -1,33 +1,25 @@
 -- From a branch to the jump behind its label, and on from jump to jump.
-use Rattle.std.specs.Prelude.{◌≡◌, ◌<◌, ℕ, zero, suc, Bool, true, false, ◌&&◌, List, length, Option, Some, None, is_some, slice_get}
+use Rattle.std.specs.Prelude.{◌≡◌, ◌<◌, ℕ, zero, suc, Bool, false, ◌&&◌, List, length, Option, Some, None, is_some, slice_get}
 use Rattle.std.specs.Prelude.{◌≤◌, slice_index_or, map, is_none, if◌then◌else◌}
 use Rattle.std.specs.Option.{unwrap_or}
 use Rattle.vax_core.specs.declared.code.CodeItem.{CodeItem}
 use Rattle.vax_core.specs.declared.code.CodeItem.TheVariants as item_kind
-use Rattle.vax_machine.specs.declared.function.Action.{Action}
-use Rattle.vax_machine.specs.declared.function.Action.TheVariants.{Branch}
-use Rattle.vax_machine.specs.Functions.{action_of}
-use Rattle.vax_machine.specs.Labels.{next_item, label_place}
 use Rattle.vax_passes.specs.Dropping.{is_jump}
-
-abbrev pub is_branch : Action → Bool
-is_branch (Branch t) = true
-is_branch a = false
+use Rattle.vax_codes.specs.Nexts.{goal_of}
 
 -- a jump with a label
 abbrev pub is_jump_at : Option CodeItem → Bool
 is_jump_at (Some (item_kind.Instr i)) = is_jump i.op && is_some i.target
 is_jump_at x = false
 
-abbrev pub hop_to : List CodeItem → Option (List ℕ) → Option ℕ
-hop_to cs None = None
-hop_to cs (Some l) =
-    if is_jump_at (slice_get cs (next_item cs (label_place cs l))) then Some (next_item cs (label_place cs l)) else None
+-- the place, if a jump stands there
+abbrev pub hop_from : List CodeItem → Option ℕ → Option ℕ
+hop_from cs None = None
+hop_from cs (Some q) = if is_jump_at (slice_get cs q) then Some q else None
 
 -- the place of the jump behind the label of an item, if that is a branch
 abbrev pub hop_of : List CodeItem → Option CodeItem → Option ℕ
-hop_of cs (Some (item_kind.Instr i)) = if is_branch (action_of i.op) then hop_to cs i.target else None
-hop_of cs x = None
+hop_of cs x = hop_from cs (goal_of cs x)
 
 -- one hop, or none where there is none to make
 abbrev pub step : List (Option ℕ) → ℕ → ℕ

@@ -4,3 +4,7 @@ pub mod Needless
 pub mod Nexts
 pub mod Hops
 pub mod Turning
+pub mod Marks
+pub mod Sources
+pub mod Reading
+pub mod Testing

@@ -1,15 +1,13 @@
 // A pass by which branches go where a chain of jumps leads.
 ghost use Rattle.std.specs.Prelude.{◌≡◌, ◌<◌, ◌≤◌, ℕ, List, length, IfOk, OnOk, Some, slice_get, slice_index_or, map, reverse};
-ghost use Rattle.vax_machine.specs.Labels.{next_item, label_place};
 ghost use Rattle.vax_codes.specs.Hops.{is_jump_at, hop_of, target_of, last_of, hops_of, AreInside, AreStepsOn, AreFar, AreLast};
-ghost use Rattle.vax_codes.specs.Nexts.{next_behind};
+ghost use Rattle.vax_codes.specs.Nexts.{AreNexts};
 ghost use Rattle.vax_codes.specs.Turning.{relabelled, one_turned};
 
 use crate::nexts::Nexts;
 use gg_base::{ListOf, Name, NoMemory};
 use std::alloc::Global;
 use vax_core::{Code, CodeItem, Instr, Op};
-use vax_machine::function::{Action, action_of};
 use vax_passes::Pass;
 
 /// Has each branch go to the last label of the chain of jumps that begins with its label, as long as it can count them. A chain that turns
@@ -74,19 +72,10 @@ fn is_jump_at(items: &[CodeItem], place: usize) -> bool
 
 // The place of the jump behind the label to which the item goes, if it is a branch.
 fn hop(item: &CodeItem, items: &[CodeItem], nexts: &Nexts) -> Option<usize>
-    requires { (name : List ℕ) → next_behind nexts.now name ≡ next_item items.now (label_place items.now name) }
+    requires { AreNexts nexts.now items.now }
     ensures { result ≡ hop_of items.now (Some item.now) }
 {
-    let CodeItem::Instr(instr) = item else {
-        return None;
-    };
-    if !matches!(action_of(instr.op), Action::Branch(_)) {
-        return None;
-    }
-    let Some(name) = &instr.target else {
-        return None;
-    };
-    let next = nexts.behind(name.as_slice());
+    let next = nexts.goal(item)?;
     if is_jump_at(items, next) {
         Some(next)
     } else {

@@ -3,6 +3,11 @@
 
 pub mod jump_chain;
 pub mod laws;
+pub mod marks;
+pub mod needless_test;
 pub mod nexts;
+pub mod reading;
+pub mod sources;
 
 pub use jump_chain::JumpChain;
+pub use needless_test::NeedlessTest;

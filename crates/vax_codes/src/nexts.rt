@@ -1,12 +1,12 @@
 // What stands next behind the labels of a code.
-ghost use Rattle.std.specs.Prelude.{◌≡◌, ◌+◌, ◌∷◌, ℕ, List, IfOk, OnOk};
+ghost use Rattle.std.specs.Prelude.{◌≡◌, ◌+◌, ◌∷◌, ℕ, List, IfOk, OnOk, Some};
 ghost use Rattle.vax_core.specs.declared.code.CodeItem.{CodeItem};
-ghost use Rattle.vax_machine.specs.Labels.{next_item, label_place};
 
 use gg_base::NoMemory;
 use indexmap::IndexMap;
 use std::alloc::Global;
 use vax_core::CodeItem;
+use vax_machine::function::{Action, action_of};
 
 /// For each name of a label the place of the next item behind it: a label that stands twice counts where it stands first.
 #[derive(Drop)]
@@ -18,7 +18,7 @@ pub struct Nexts<'a> {
 
 impl<'a> Nexts<'a> {
     ghost use Rattle.vax_machine.specs.Tables.{with_name};
-    ghost use Rattle.vax_codes.specs.Nexts.{found, next_behind, HasNexts};
+    ghost use Rattle.vax_codes.specs.Nexts.{found, next_behind, HasNexts, AreNexts, goal_of};
 
     fn add(&mut self, name: &'a [u8]) -> Result<(), NoMemory>
         ensures names { OnOk result (found self.new ≡ with_name (found self.old) name.now self.old.next) }
@@ -52,7 +52,7 @@ impl<'a> Nexts<'a> {
 
     /// What stands next behind the labels of these items.
     pub(crate) fn of(alloc: Global, items: &'a [CodeItem]) -> Result<Self, NoMemory>
-        ensures { IfOk result (λ n. (name : List ℕ) → next_behind n name ≡ next_item items.now (label_place items.now name)) }
+        ensures { IfOk result (λ n. AreNexts n items.now) }
     {
         let mut nexts = Nexts {
             places: IndexMap::new(alloc),
@@ -70,5 +70,21 @@ impl<'a> Nexts<'a> {
         ensures { result ≡ next_behind self.now name.now }
     {
         self.places.get(name).copied().unwrap_or(self.end)
+    }
+
+    /// The place of the next item behind the label to which an item goes, if it is a branch.
+    pub(crate) fn goal(&self, item: &CodeItem) -> Option<usize>
+        ensures { (items : List CodeItem) → AreNexts self.now items → result ≡ goal_of items (Some item.now) }
+    {
+        let CodeItem::Instr(instr) = item else {
+            return None;
+        };
+        if !matches!(action_of(instr.op), Action::Branch(_)) {
+            return None;
+        }
+        let Some(name) = &instr.target else {
+            return None;
+        };
+        Some(self.behind(name.as_slice()))
     }
 }

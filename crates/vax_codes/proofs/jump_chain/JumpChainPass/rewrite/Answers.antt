@@ -12,10 +12,12 @@ loop-item-preserved c =
     let left : c.loop-item.left.items ≡ c.pop.new.self.items ++ c.in-Some.item ∷ [] = search (rules, common_steps) in
     let one : length c.loop-item.left.items ≡ length c.pop.new.self.items + 1 = ap length left ∙ length-append c.pop.new.self.items (c.in-Some.item ∷ []) in
     let each : length c.loop-item.names.items ≡ length c.pop.new.self.items + 1 = c.loop-item.invariant.each ∙ one in
-    let name = popped c.loop-item.names.items c.pop-in-Some.new.self.items c.pop-in-Some.result (length c.pop.new.self.items) c.pop-in-Some.ensures.items (c.pop-in-Some.ensures.variant.1 (omega (arith, each))) each in
+    let name =
+    popped c.loop-item.names.items c.pop-in-Some.new.self.items c.pop-in-Some.result (length c.pop.new.self.items) c.pop-in-Some.ensures.items (c.pop-in-Some.ensures.variant.1 (omega (arith, each))) each in
     record {
       each = name.each;
-      same = taken_off c.loop-item.left.items c.pop.new.self.items c.loop-item.kept.items c.keep.new.kept.items c.loop-item.names.items c.pop-in-Some.new.self.items c.in-Some.item c.flatten-name.result
+      same = taken_off c.loop-item.left.items c.pop.new.self.items c.loop-item.kept.items c.keep.new.kept.items c.loop-item.names.items c.pop-in-Some.new.self.items
+          c.in-Some.item c.flatten-name.result
           c.loop-item.self.made c.keep.new.self.made _ left (name.items ∙ ap (λ o. c.pop-in-Some.new.self.items ++ o ∷ []) (sym c.flatten-name.ensures)) name.each c.in_ok-keep.ensures.kept
           c.loop-item.invariant.same;
       rises = search rules;
