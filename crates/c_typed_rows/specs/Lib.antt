@@ -1,0 +1,4 @@
+pub mod Operands
+pub mod Prefixes
+pub mod Stores
+pub mod Rows
