@@ -1,0 +1,4 @@
+//! A tree program has one code by a description.
+#![tactic(auto)]
+
+pub mod laws;
