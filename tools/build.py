@@ -17,7 +17,7 @@ import time
 HERE = pathlib.Path(__file__).resolve().parent.parent
 PROGRAM = "ggvax"
 # Processor minutes of a crate that the table of the gate does not name.
-USUAL = 0.7
+USUAL = 0.2
 # Seconds between two looks at the work, and between two lines where standard error is no terminal.
 LOOK, SAY = 1, 60
 
