@@ -1,9 +1,9 @@
 #!/bin/sh
-# Compares `ggvax check` with a plain Rust program: on the shipped rules (in version 1), on random small ones, which have a rule for each token and
-# some patterns more, and on changed ones, from which rules are dropped and to which chain rules, restrictions and classes that turn in a
-# circle are added. Both must say the same: that a description is accepted, and then which rule isn't shown; or that some tree blocks or
-# loops, and then the plain program parses the tree that `ggvax check` tells to that very end. Where `try_check` is there, the numbers of
-# tuples must be the same too. The shipped description may take at most 10 times the plain program's processor time, and 64 MiB.
+# Compares `ggvax check` with a plain Rust program: on the shipped rules (in version 1), on random small ones, which have a rule for each
+# token and some patterns more, and on changed ones, from which rules are dropped and to which chain rules, restrictions and classes that
+# turn in a circle are added. Both must say the same: that a description is accepted, and then which rule isn't shown; or that some tree
+# blocks or loops, and then the plain program parses the tree that `ggvax check` tells to that very end. Where `ggdesk` is there, the
+# numbers of tuples must be the same too. The shipped description may take at most 10 times the plain program's processor time, and 64 MiB.
 # Usage: bench/check.sh [SMALL [CHANGED [RULES]]]; so many small (default 500) and so many changed descriptions (default 20: each takes as
 # long as the shipped one). With RULES, a description of so many rules comes last, with some millions of tuples: it may take at most 3 GiB.
 # MD_REFERENCE names the folder of the plain program, a Cargo project with the modules that bench/descriptions_plain.rs names: where it
@@ -17,9 +17,9 @@ rules=${3:-0}
 plain=$(plain_of "${MD_REFERENCE:-}" descriptions_plain.rs)
 [ -n "$plain" ] || skip "MD_REFERENCE names no folder of a plain program"
 program=$(program_of ggvax)
-counter=$(program_of try_check)
+counter=$(program_of ggdesk)
 [ -n "$program" ] || echo "there is no ggvax: what it says is not compared"
-[ -n "$counter" ] || echo "there is no try_check: the numbers of tuples are not compared"
+[ -n "$counter" ] || echo "there is no ggdesk: the numbers of tuples are not compared"
 
 python3 - "$program" "$counter" "$plain" "$work" "$here/examples/vax1.gg" "$small" "$changed" "$rules" <<'PY'
 import itertools
@@ -190,8 +190,8 @@ def difference(text):
 
 
 def tuples(texts):
-    """The numbers of tuples by `try_check` of each description that it accepts."""
-    told = Told([counter], "=".join(texts)).told
+    """The numbers of tuples by `ggdesk check` of each description that it accepts."""
+    told = Told([counter, "check"], "=\n".join(texts)).told
     return [int(number) for number in re.findall(r"^accepted: \d+ item sets, (\d+) tuples$", told, re.M)]
 
 

@@ -43,6 +43,14 @@ def answer(words, given=b""):
     return done.returncode, done.stdout, done.stderr
 
 
+def answered(desk, subject, rows):
+    """What `ggdesk` writes of the rows of a subject."""
+    told = subprocess.run([desk, subject], input=rows, stdout=subprocess.PIPE, check=True).stdout
+    heading, _, answers = told.decode("latin-1").partition("\n")
+    assert heading == f"== {subject}", heading
+    return answers
+
+
 class Done:
     """What a program left: its status, what it wrote and told, its processor seconds, and the most MiB that it held. It leaves files in
     the folder where it is run."""

@@ -1,6 +1,6 @@
 # What the scripts of this folder share; each reads this file first. Then `here` is the repository, and `work` a folder of the script's
 # own, which is removed at its end.
-# BUILT may name a folder with programs of the repository that were built before (`ggvax`, `try_check`, ..): those are taken as they are.
+# BUILT may name a folder with programs of the repository that were built before (`ggvax`, `ggdesk`): those are taken as they are.
 here=$(CDPATH='' cd -- "$(dirname -- "$0")/.." && pwd)
 work=$(mktemp -d)
 trap 'rm -rf "$work"' EXIT

@@ -1,6 +1,6 @@
 #!/bin/sh
-# Looks up each input of the tables of docs/faults.md, with its report, in the stored runs of the programs `try_*`, and names what stands in
-# none. It reads the stored files alone, which `rt ci` compares with what the programs write.
+# Looks up each input of the tables of docs/faults.md, with its report, in the stored run of `ggdesk`, and names what doesn't stand there. It
+# reads the stored files alone, which `rt ci` compares with what the program writes.
 # Usage: bench/faults.sh
 set -eu
 . "$(dirname -- "$0")/common.sh"
@@ -14,9 +14,11 @@ HERE = sys.argv[1]
 POOLS = {"": "", "text": "", "source": "", "1": "pool r0\n", "2": "pool r0 r1\n", "3": "pool r0 r1 r2\n"}
 
 
-def stored(crate, name="stdin"):
-    with open(f"{HERE}/crates/{crate}/{name}") as file:
-        return file.read()
+def stored(subject, name="stdin"):
+    """The rows of a subject, or what is written of them."""
+    with open(f"{HERE}/crates/ggdesk/{name}") as file:
+        _, *parts = re.split(r"^== (.*)\n", file.read(), flags=re.M)
+    return dict(zip(parts[::2], parts[1::2]))[subject]
 
 
 def lines_of(text):
@@ -25,7 +27,7 @@ def lines_of(text):
 
 def of_types():
     """A row is told with its kind and a mark at the fault's place."""
-    for line in stored("try_types", "stdout").split("\n"):
+    for line in stored("types", "stdout").split("\n"):
         kind, _, marked = line.partition(" ")
         for mark in re.finditer("@", marked):
             yield marked[: mark.start()] + marked[mark.end() :], kind
@@ -33,19 +35,21 @@ def of_types():
 
 def of_commands():
     """Rows of the whole program show how calls fail, and stand in no table."""
-    for row, answer in zip(stored("try_commands").split("\n"), stored("try_commands", "stdout").split("\n")):
+    for row, answer in zip(stored("commands").split("\n"), stored("commands", "stdout").split("\n")):
         kind, _, given = row.partition("@")
         if kind in POOLS and row:
             yield POOLS[kind] + given.split("@")[0], answer
 
 
 def of_tables():
-    """Each case is told with its lines; those before `=> front` are no case."""
+    """Each case is told with its lines; those before `=> front` are no case, and pictures are no lines of one."""
     case = []
-    for line in stored("try_tables", "stdout").split("\n"):
+    for line in stored("tables", "stdout").split("\n"):
         if line == "=> front":
             case = []
-        elif line.startswith("=> ") and line[3:8] not in ("sets", "stack", "shipp"):
+        elif line.startswith(("=> sets", "=> stack", "=> shipped", "  |", "  v ", "  x ", "  = ")):
+            continue
+        elif line.startswith("=> "):
             yield "\n".join(case), line
             case = []
         else:
@@ -56,8 +60,8 @@ def of_check():
     """The whole description, or its rules and classes less and more than the shipped one's."""
     with open(f"{HERE}/examples/vax1.gg") as file:
         shipped = lines_of(file.read())
-    answers = re.findall(r"^accepted.*|^(?:blocks|loops)\n(?:  .*\n)*", stored("try_check", "stdout"), re.M)
-    for text, answer in zip(stored("try_check").split("="), answers):
+    answers = re.findall(r"^accepted.*|^(?:blocks|loops)\n(?:  .*\n)*", stored("check", "stdout"), re.M)
+    for text, answer in zip(re.split(r"^=\n", stored("check"), flags=re.M), answers):
         lines = lines_of(text)
         changes = difflib.unified_diff(shipped, lines, n=0, lineterm="")
         named = [f"{line[0]} {line[1:]}" for line in changes if line[1:5] in ("rule", "clas")]
@@ -67,12 +71,12 @@ def of_check():
 def of_templates():
     """The lines that save and reload, and the rules, each with the next answer."""
     items = []
-    for line in lines_of(stored("try_templates")):
+    for line in lines_of(stored("templates")):
         if line.startswith(("spill", "reload", "rule")):
             items.append([line])
         elif items and not line.startswith("#"):
             items[-1].append(line)
-    return zip(map("\n".join, items), stored("try_templates", "stdout").split("\n"))
+    return zip(map("\n".join, items), stored("templates", "stdout").split("\n"))
 
 
 def spans(cell):
@@ -102,7 +106,7 @@ ROWS = [row for rows in (of_types, of_commands, of_tables, of_check, of_template
 page = of_page()
 missing = [(report, shown) for report, shown in page if not is_stored(spans(report), "\n".join(spans(shown)))]
 for report, shown in missing:
-    print(f"in no stored run: {shown}, answered by {report}")
-print(f"{len(page) - len(missing)} of {len(page)} inputs of docs/faults.md stand in stored runs")
+    print(f"not in the stored run: {shown}, answered by {report}")
+print(f"{len(page) - len(missing)} of {len(page)} inputs of docs/faults.md stand in the stored run")
 sys.exit(1 if missing or not page else 0)
 PY

@@ -1,9 +1,9 @@
 #!/bin/sh
-# Compares the program `try_lowering`, which lowers C sources to trees, with a plain Rust lowering of the same scheme: the trees of generated
+# Compares `ggdesk lowering`, which lowers C sources to trees, with a plain Rust lowering of the same scheme: the trees of generated
 # programs, what those programs and their trees do, and the processor times on sources of 100 KiB and of 1 MiB of one mix.
 # Usage: bench/lower.sh [PROGRAMS [SEED]]; PROGRAMS (default 2000) generated programs from the seed SEED (default 1) on.
 # C_REFERENCE names the folder of the plain lowering, a Cargo project whose modules read, type and lower sources and generate programs.
-# Where it isn't set or isn't there, only the worked programs of `try_commands` are run, and the two sizes are compared.
+# Where it isn't set or isn't there, only the worked programs of `ggdesk`'s script are run, and the two sizes are compared.
 set -eu
 . "$(dirname -- "$0")/common.sh"
 programs=${1:-2000}
@@ -86,15 +86,15 @@ RS
 else
     echo "C_REFERENCE names no folder of a plain lowering: answers are not compared"
 fi
-program=$(program_of try_lowering)
-[ -n "$program" ] || skip "BUILT names a folder without try_lowering"
+program=$(program_of ggdesk)
+[ -n "$program" ] || skip "BUILT names a folder without ggdesk"
 
-python3 - "$program" "$plain" "$work" "$here/crates/try_commands/stdin" "$programs" "$seed" <<'PY'
+python3 - "$program" "$plain" "$work" "$here/crates/ggdesk/stdin" "$programs" "$seed" <<'PY'
 import re
 import resource
 import sys
 
-from common import functions as source_of, listed, put, written
+from common import answered, functions as source_of, listed, put, written
 
 program, plain, work, worked = sys.argv[1:5]
 programs, first_seed = int(sys.argv[5]), int(sys.argv[6])
@@ -105,6 +105,11 @@ TURNS = 10_000
 
 def told(words):
     return written(words).decode("latin-1")
+
+
+def lowered(rows):
+    """What `ggdesk` writes of sources; an empty line stands behind each, or a line that says what is done with it."""
+    return answered(program, "lowering", rows.encode("latin-1"))
 
 
 def functions(lines):
@@ -204,9 +209,9 @@ def blocks(text):
     return [block.split("\n") for block in text.rstrip("\n").split("\n\n")]
 
 
-def compare_trees(table):
+def compare_trees(rows, table):
     wrong = 0
-    ours, theirs = blocks(told([program, table])), blocks(told([plain, "show", table]))
+    ours, theirs = blocks(lowered(rows)), blocks(told([plain, "show", table]))
     assert len(ours) == len(theirs) == programs, (len(ours), len(theirs))
     items = 0
     for mine, other in zip(ours, theirs):
@@ -229,9 +234,9 @@ def agrees(line):
     return output in ("the same output", "more output")
 
 
-def compare_runs(table):
+def compare_runs(rows):
     """Runs each program of a table and its trees; a source that is refused has no run."""
-    lines = told([program, table, "run", str(TURNS)]).rstrip("\n").split("\n")
+    lines = lowered("".join(f"{row}\n=> run {TURNS}\n" for row in rows.rstrip("\n").split("\n\n"))).rstrip("\n").split("\n")
     wrong, ends = 0, {}
     for turn, line in enumerate(lines):
         end = line.split()[1].rstrip(",") if line.startswith("  source ") else "refused"
@@ -245,11 +250,9 @@ def compare_runs(table):
 
 def worked_programs(given):
     """The sources with worked meanings: the rows that begin with `source`, then a source, its number and its input, with `@` between."""
-    table = f"{work}/worked.txt"
-    with open(given) as file, open(table, "w") as out:
+    with open(given) as file:
         rows = (line.split("@") for line in file.read().splitlines())
-        out.write("\n\n".join(row[1] for row in rows if row[0] == "source") + "\n")
-    return table
+        return "\n\n".join(row[1] for row in rows if row[0] == "source") + "\n"
 
 
 def processor():
@@ -258,11 +261,16 @@ def processor():
     return used.ru_utime + used.ru_stime
 
 
-def spent(words):
+def spent(lower, path, count):
     begin = processor()
-    answers = told(words)
+    answers = lower(path, count)
     assert re.fullmatch(r" *\d+ items\n", answers), answers
     return processor() - begin
+
+
+def count_ours(path, count):
+    with open(path) as file:
+        return lowered(f"{file.read()}=> count {count}\n")
 
 
 def measure(runners, paths):
@@ -274,7 +282,7 @@ def measure(runners, paths):
         for who, runner in runners.items():
             for name, path in paths.items():
                 for turn, count in counts.items():
-                    seconds = spent([*runner, path, "count", str(count)])
+                    seconds = spent(runner, path, count)
                     least[who, name, turn] = min(seconds, least.get((who, name, turn), seconds))
     alone = {(who, name): (least[who, name, "again"] - least[who, name, "once"]) / MORE for who in runners for name in paths}
     return {(who, name): (least[who, name, "once"], alone[who, name]) for who in runners for name in paths}
@@ -282,27 +290,30 @@ def measure(runners, paths):
 
 def compare_times():
     """The growth of lowering alone is told and not judged: trees of 1 MiB no longer fit the processor's cache, for either program."""
-    runners = {"try_lowering": [program], "plain": [plain]} if plain else {"try_lowering": [program]}
+    runners = {"ggdesk": count_ours}
+    if plain:
+        runners["plain"] = lambda path, count: told([plain, path, "count", str(count)])
     paths, slow = {}, 0
     for name, length in (("100 KiB", 102_400), ("1 MiB", 1_048_576)):
         paths[name] = f"{work}/{length}.c"
         put(paths[name], source_of(length=length)[0])
     found = measure(runners, paths)
     for name in paths if plain else ():
-        for what, ours, theirs in zip(("whole", "lowering alone"), found["try_lowering", name], found["plain", name]):
+        for what, ours, theirs in zip(("whole", "lowering alone"), found["ggdesk", name], found["plain", name]):
             print(f"{name}, {what}: {ours:.4f} s against {theirs:.4f} s, {ours / theirs:.2f} times (at most 4)")
             slow += name == "1 MiB" and ours > 4 * theirs
     for who in runners:
         whole, alone = (large / small for small, large in zip(found[who, "100 KiB"], found[who, "1 MiB"]))
         print(f"1 MiB against 100 KiB, {who}: whole {whole:.1f} times (at most 12), lowering alone {alone:.1f}")
-        slow += who == "try_lowering" and whole > 12
+        slow += who == "ggdesk" and whole > 12
     return slow
 
 
 wrong = compare_runs(worked_programs(worked))
 if plain:
     table = f"{work}/table.txt"
-    put(table, told([plain, "generate", str(first_seed), str(programs)]).encode("latin-1"))
-    wrong += compare_trees(table) + compare_runs(table)
+    rows = told([plain, "generate", str(first_seed), str(programs)])
+    put(table, rows.encode("latin-1"))
+    wrong += compare_trees(rows, table) + compare_runs(rows)
 sys.exit(1 if compare_times() or wrong else 0)
 PY

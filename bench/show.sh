@@ -1,6 +1,6 @@
 #!/bin/sh
-# Compares what is said of templates with what a plain Rust program says: the effects of pattern and template in normal form, or the
-# fault and its line. By `try_templates`, which tells it of every rule: of the shipped ones (in version 1), of random templates of one to three
+# Compares what is said of templates with what a plain Rust program says: the effects of pattern and template in normal form, or the fault
+# and its line. By `ggdesk templates`, which tells it of every rule: of the shipped ones (in version 1), of random templates of one to three
 # lines, and of changed shipped descriptions, in whose lines operands are exchanged, sizes and holes are others, or lines are left out. By
 # `ggvax check`, which tells the first refusal behind the check of the tables: of changed descriptions like bench/reloads.gg, which has few
 # rules more than one for each token.
@@ -17,9 +17,9 @@ whole=${3:-100}
 plain=$(plain_of "${MD_REFERENCE:-}" descriptions_plain.rs)
 [ -n "$plain" ] || skip "MD_REFERENCE names no folder of a plain program"
 program=$(program_of ggvax)
-teller=$(program_of try_templates)
+teller=$(program_of ggdesk)
 [ -n "$program" ] || echo "there is no ggvax: first refusals are not compared"
-[ -n "$teller" ] || echo "there is no try_templates: the effects of every rule are not compared"
+[ -n "$teller" ] || echo "there is no ggdesk: the effects of every rule are not compared"
 
 python3 - "$program" "$teller" "$plain" "$work" "$here" "$templates" "$changed" "$whole" <<'PY'
 import os
@@ -179,7 +179,8 @@ def kind_of(line):
 
 def compare_rules(tally, text):
     """Every rule of a description, and its lines that save and reload."""
-    mine, other = lines_of(told([teller], text)), lines_of(told([plain, "show", "d.gg"], text))
+    # Its first line names the subject.
+    mine, other = lines_of(told([teller, "templates"], text))[1:], lines_of(told([plain, "show", "d.gg"], text))
     if len(mine) != len(other):
         return tally.add("of another number", mine[:1], other[:1], text)
     for one, that in zip(mine, other):

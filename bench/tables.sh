@@ -1,5 +1,5 @@
 #!/bin/sh
-# Times `try_tables` on the shipped description, which it reads and builds, and on a hostile one with too many item sets, which it
+# Times `ggdesk tables` on the shipped description, which it reads and builds, and on a hostile one with too many item sets, which it
 # refuses, against a plain Rust program on the same two.
 # Usage: bench/tables.sh [ROUNDS]; the least of ROUNDS (default 20) runs counts for each.
 # MD_REFERENCE names the folder of the plain program, a Cargo project whose command `states F` builds the item sets of the description
@@ -10,14 +10,14 @@ rounds=${1:-20}
 
 plain=$(plain_of "${MD_REFERENCE:-}")
 [ -n "$plain" ] || skip "MD_REFERENCE names no folder of a plain program"
-program=$(program_of try_tables)
-[ -n "$program" ] || skip "BUILT names a folder without try_tables"
+program=$(program_of ggdesk)
+[ -n "$program" ] || skip "BUILT names a folder without ggdesk"
 
 python3 - "$program" "$here/crates/gg_texts/src/vax.rt" "$plain" "$work" "$rounds" <<'PY'
 import re
 import sys
 
-from common import answer, least, put
+from common import answer, answered, least, put
 
 program, texts, plain, work = sys.argv[1:5]
 rounds = int(sys.argv[5])
@@ -54,19 +54,25 @@ def shipped():
         return re.search(r'"(#.*)";', file.read(), re.S).group(1)
 
 
-def measured(words, given=b""):
-    """The least seconds of some runs, and what they write."""
-    taken, done = least(rounds, lambda: answer(words, given))
+def counted(path):
+    """The plain program's least seconds, and what it writes."""
+    taken, done = least(rounds, lambda: answer([plain, "states", path]))
     assert done[0] == 0, done
     return taken, done[1].decode().strip()
+
+
+def found_of(text):
+    """The least seconds of `ggdesk`, and what it finds: its last line."""
+    taken, told = least(rounds, lambda: answered(program, "tables", (text + "=>\n").encode()))
+    return taken, told.rstrip("\n").split("\n")[-1].removeprefix("=> ")
 
 
 slow = 0
 for name, text, most in (("shipped", shipped(), 5), ("hostile", hostile(), 10)):
     path = f"{work}/{name}.gg"
     put(path, text)
-    theirs, wanted = measured([plain, "states", path])
-    ours, told = measured([program], text.encode())
+    theirs, wanted = counted(path)
+    ours, told = found_of(text)
     found = re.match(r"states (\d+) .*rules (\d+)", wanted)
     states, rules = int(found.group(1)), int(found.group(2))
     expected = f"{rules} rules, {states} item sets" if states <= 4096 else "more than 4096 item sets"

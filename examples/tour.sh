@@ -9,12 +9,12 @@ work=$(mktemp -d)
 trap 'rm -rf "$work"' EXIT
 cp "$source" "$work/source.c"
 
-trees=$here/crates/try_lowering/out/try_lowering
+desk=$here/crates/ggdesk/out/ggdesk
 
 # True where the program that writes trees is not there, or a source is newer.
 is_stale() {
-    [ ! -x "$trees" ] && return 0
-    changed=$(find "$here/crates" "$here/crates.txt" -name out -prune -o -type f -newer "$trees" \
+    [ ! -x "$desk" ] && return 0
+    changed=$(find "$here/crates" "$here/crates.txt" -name out -prune -o -type f -newer "$desk" \
         ! -name '*.md' ! -name '*.edit' -print | head -n 1)
     [ -n "$changed" ]
 }
@@ -22,21 +22,17 @@ is_stale() {
 echo "== the source"
 cat "$work/source.c"
 echo
-# The front script says what it proves; behind it only try_lowering itself is left, whose crates stand below the program too.
+# The front script says what it proves; behind it only ggdesk and its own crates are left.
 (cd "$work" && "$here/ggvax" compile "$here/examples/vax.gg" source.c >text.s)
 if is_stale; then
-    echo "tour: proving and building try_lowering" >&2
-    rm -f "$trees"
-    (cd "$here/crates/try_lowering" && rt run -- data/sources.txt) </dev/null >"$work/log" 2>&1 || true
-    [ -x "$trees" ] || { cat "$work/log" >&2; exit 1; }
-    touch "$trees"
+    echo "tour: proving and building ggdesk" >&2
+    rm -f "$desk"
+    (cd "$here/crates/ggdesk" && rt run) </dev/null >"$work/log" 2>&1 || true
+    [ -x "$desk" ] || { cat "$work/log" >&2; exit 1; }
+    touch "$desk"
 fi
 echo "== its trees"
-(
-    cd "$work"
-    { echo "# source.c"; cat source.c; } >table.txt
-    "$trees" table.txt | sed -n '/^  /p'
-)
+grep . "$work/source.c" | "$desk" lowering | sed -n '/^  function /,$ { /./p }'
 echo "== its text"
 cat "$work/text.s"
 echo "== what the source does"

@@ -122,3 +122,4 @@ Leaves statuses.Trapped name at = ⊥
 Leaves statuses.Wild name at = ⊥
 Leaves statuses.Deep name at = ⊥
 Leaves statuses.Broken name at = ⊥
+Leaves statuses.ImageRefused name at = ⊥

@@ -13,7 +13,7 @@ pub struct DescriptionText {
 }
 
 impl FileForm for DescriptionText {
-    ghost use Rattle.cmd_files.specs.Forms.{not_run};
+    ghost use Rattle.cmd_files.specs.Forms.{not_run, not_translated};
     ghost use Rattle.md_reader.specs.State.{Content};
     ghost use Rattle.cmd_check.specs.Descriptions.{description_form};
 
@@ -22,6 +22,8 @@ impl FileForm for DescriptionText {
     ghost form = { description_form };
 
     ghost runner = { not_run };
+
+    ghost becomes = { not_translated };
 
     ghost item = { λ t. t.description };
 

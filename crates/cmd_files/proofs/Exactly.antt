@@ -50,6 +50,7 @@ kinds form runner statuses.TooLong call (inr h) n f = InputLong refl h.item h.fi
 kinds form runner statuses.SourceRefused call l n f = refused form runner statuses.SourceRefused call l
 kinds form runner statuses.DescRefused call l n f = refused form runner statuses.DescRefused call l
 kinds form runner statuses.AsmRefused call l n f = refused form runner statuses.AsmRefused call l
+kinds form runner statuses.ImageRefused call l n f = refused form runner statuses.ImageRefused call l
 kinds form runner statuses.Spent call l n f = ran form runner statuses.Spent call _ l.ran refl
 kinds form runner statuses.Trapped call l n f = ran form runner statuses.Trapped call _ l.ran refl
 kinds form runner statuses.Wild call l n f = ran form runner statuses.Wild call _ l.ran refl

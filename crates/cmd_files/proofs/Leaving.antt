@@ -21,6 +21,7 @@ as_refused : {A : Type 0} (form : Form A) (runner : Runner A) (status : Status) 
 as_refused form runner statuses.SourceRefused call of is why = record { status_is = is; why = why }
 as_refused form runner statuses.DescRefused call of is why = record { status_is = is; why = why }
 as_refused form runner statuses.AsmRefused call of is why = record { status_is = is; why = why }
+as_refused form runner statuses.ImageRefused call of is why = record { status_is = is; why = why }
 as_refused form runner _ call of is why = absurd of
 
 -- a statement of a status carries over to an equal one

@@ -2,3 +2,5 @@
 pub mod Refusals
 pub mod Leaving
 pub mod Exactly
+pub mod Translating
+pub mod Bytes

@@ -1,5 +1,6 @@
 -- A call of a command that runs the item of a file on the input, and what its run starts with.
-use Rattle.std.specs.Prelude.{◌≡◌, ◌≤◌, ℕ, List, length, None}
+use Rattle.std.specs.Prelude.{◌≡◌, ◌<◌, ◌≤◌, ℕ, List, length, None}
+use Rattle.std.specs.List.{AllByRecursion}
 use Rattle.cmd_session.specs.Reading.{Intake, GivesAll, IsUnbroken}
 use Rattle.cmd_files.specs.Forms.{Form, Runner, Holds}
 use Rattle.cmd_files.specs.Outsides.{Outside, IsUnfailed}
@@ -20,9 +21,14 @@ pub record Finds {A : Type 0} (form : Form A) (call : Call) (item : A) : Type 0 
   pub holds : Holds form (call.at.folder.holds call.name) item
   pub unfailed : IsUnfailed call.at.folder
 
+-- the numbers are bytes
+abbrev pub AreBytes : List ℕ → Type 0
+AreBytes numbers = AllByRecursion (λ (b : ℕ). b < 256) numbers
+
 -- the input gave all that it had left, these bytes, and no reading of it failed
 pub record GetsInput (call : Call) (bytes : List ℕ) : Type 0 where
   pub all : GivesAll call.input bytes
+  pub are_bytes : AreBytes bytes
   pub within : length bytes ≤ input_limit
   pub unbroken : IsUnbroken call.input
 

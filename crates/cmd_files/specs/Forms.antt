@@ -30,6 +30,7 @@ IsOfFiles statuses.Trapped = ⊥
 IsOfFiles statuses.Wild = ⊥
 IsOfFiles statuses.Deep = ⊥
 IsOfFiles statuses.Broken = ⊥
+IsOfFiles statuses.ImageRefused = Unit {0}
 
 -- a form of files: the longest one, which bytes are which item's, and the lines that refuse other bytes, with their status
 pub record Form (A : Type 0) : Type 1 where
@@ -49,6 +50,10 @@ pub record Runner (A : Type 0) : Type 1 where
 -- how items are run that no command runs
 abbrev pub not_run : {A : Type 0} → Runner A
 not_run = record { fault = λ _. Some []; run = λ _ _ _. record { output = []; end = Spent }; ends = λ _. ⊥ }
+
+-- which bytes say the same as an item that no command translates
+abbrev pub not_translated : {A : Type 0} → A → List ℕ → Type 0
+not_translated item bytes = ⊥
 
 -- the bytes are that item's and no other's
 pub record IsReadAs {A : Type 0} (form : Form A) (bytes : List ℕ) (item : A) : Type 0 where

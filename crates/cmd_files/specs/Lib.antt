@@ -6,3 +6,4 @@ pub mod Calls
 pub mod Outcome
 pub mod Exact
 pub mod Commands
+pub mod Translations

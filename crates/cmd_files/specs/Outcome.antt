@@ -123,3 +123,4 @@ Leaves form runner statuses.Trapped call = Halted form runner call ends.Trapped
 Leaves form runner statuses.Wild call = Halted form runner call ends.Wild
 Leaves form runner statuses.Deep call = Halted form runner call ends.Deep
 Leaves form runner statuses.Broken call = IsBroken form runner call
+Leaves form runner statuses.ImageRefused call = IsRefusedAs form runner statuses.ImageRefused call

@@ -41,6 +41,9 @@ pub trait FileForm: Drop + Sized {
     /// How what it says is run: `not_run` where no command runs it.
     ghost runner: { Runner Item };
 
+    /// Which bytes say the same as what it says: `not_translated` where no command writes any.
+    ghost becomes: { Item → List ℕ → Type 0 };
+
     /// What was read.
     ghost item: { Self → Item };
 

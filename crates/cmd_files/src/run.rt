@@ -2,7 +2,7 @@
 ghost use Rattle.std.specs.Prelude.{◌≡◌, ℕ, List};
 ghost use Rattle.cmd_session.specs.Reading.{intake};
 ghost use Rattle.cmd_files.specs.Outsides.{outside};
-ghost use Rattle.cmd_files.specs.Calls.{call_of};
+ghost use Rattle.cmd_files.specs.Calls.{call_of, AreBytes};
 ghost use Rattle.cmd_files.specs.Commands.{IsRunOfFile};
 
 use crate::forms::Runs;
@@ -10,6 +10,13 @@ use crate::stages::{read_file, read_input};
 use cmd_session::Status;
 use gg_outside::{Folder, Sink, Source};
 use std::alloc::Global;
+
+// The bytes of a slice are numbers below 256.
+fn know_bytes(bytes: &[u8]) -> usize
+    ensures { AreBytes bytes.now }
+{
+    bytes.len()
+}
 
 /// Reads the file `name` by its form and the whole input, and runs the file's item on the input with the number `count`. The
 /// run's output goes to `out`, and then the line of its end to `report`. A refusal writes one line to `report`.
@@ -34,7 +41,11 @@ pub fn run_file<T: Runs, F: Folder, I: Source, O: Sink, E: Sink>(
         Err(status) => return status,
     };
     match read_input(alloc, input, report) {
-        Ok(bytes) => item.tell(alloc, bytes.as_slice(), count, out, report),
+        Ok(bytes) => {
+            let given = bytes.as_slice();
+            know_bytes(given);
+            item.tell(alloc, given, count, out, report)
+        }
         Err(status) => status,
     }
 }

@@ -97,3 +97,4 @@ MayCome statuses.Trapped = ⊥
 MayCome statuses.Wild = ⊥
 MayCome statuses.Deep = ⊥
 MayCome statuses.Broken = ⊥
+MayCome statuses.ImageRefused = ⊥

@@ -30,6 +30,7 @@ impl SourceText {
 impl FileForm for SourceText {
     ghost use Rattle.c_program.specs.Programs.{AProgram};
     ghost use Rattle.c_typed_check.specs.Views.{typed};
+    ghost use Rattle.cmd_files.specs.Forms.{not_translated};
     ghost use Rattle.cmd_meaning.specs.Sources.{source_form, source_runner};
 
     ghost Item = { AProgram };
@@ -37,6 +38,8 @@ impl FileForm for SourceText {
     ghost form = { source_form };
 
     ghost runner = { source_runner };
+
+    ghost becomes = { not_translated };
 
     ghost item = { λ s. typed s.program };
 

@@ -35,6 +35,7 @@ fn refuse_code<E: Sink>(alloc: Global, report: &mut E, fault: &LoadFault) -> Sta
 
 impl FileForm for CodeText {
     ghost use Rattle.vax_core.specs.declared.code.Code.{Code};
+    ghost use Rattle.cmd_files.specs.Forms.{not_translated};
     ghost use Rattle.cmd_run.specs.Texts.{text_form, code_runner};
 
     ghost Item = { Code };
@@ -42,6 +43,8 @@ impl FileForm for CodeText {
     ghost form = { text_form };
 
     ghost runner = { code_runner };
+
+    ghost becomes = { not_translated };
 
     ghost item = { λ t. t.code };
 

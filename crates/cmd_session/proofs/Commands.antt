@@ -8,7 +8,7 @@ use Rattle.std.specs.declared.alloc.Global.{Global}
 use Rattle.std.specs.String.{string_bytes}
 use Rattle.std.proofs.lemmas.Fmt.{parse-decimal, decimal_injective}
 use Rattle.std.proofs.lemmas.Slice.Eq.{bytes_eq-Decides}
-use Rattle.cmd_session.specs.Words.{spelled, SaysNamed, SaysPaired, SaysCounted, OnlyNamed, NoPaired, OnlyPaired, NoCounted, OnlyCounted}
+use Rattle.cmd_session.specs.Words.{spelled, SaysNamed, SaysPaired, SaysCounted, NoNamed, OnlyNamed, NoPaired, OnlyPaired, NoCounted, OnlyCounted}
 
 two : {A : Type 0} (xs : List A) (a b : A) → 2 ≤ length xs → length xs < 3 → a ≡ get_or xs 0 a → b ≡ get_or xs 1 b → xs ≡ a ∷ (b ∷ [])
 two (x ∷ (y ∷ [])) a b low high first second = cc
@@ -62,11 +62,23 @@ other_spelling m n word text r is_number h text_is differs fits is =
 pub only_named : (word : List ℕ) (words : List (List ℕ)) (name : List ℕ) → SaysNamed word words name → OnlyNamed word words name
 only_named word words name h other k = let same_as = sym k.words_are ∙ h.words_are in cc
 
+pub named_not_other : (word other : List ℕ) (words : List (List ℕ)) (name : List ℕ) → SaysNamed word words name → (word ≡ other → ⊥) → NoNamed other words
+named_not_other word other words name h differs another k =
+    let same_as = sym h.words_are ∙ k.words_are in
+    let equal : word ≡ other = cc in
+    differs equal
+
 pub named_not_paired : (word other : List ℕ) (words : List (List ℕ)) (name : List ℕ) → SaysNamed word words name → NoPaired other words
 named_not_paired word other words name h one another k = let same_as = sym k.words_are ∙ h.words_are in cc
 
 pub named_not_counted : (word other : List ℕ) (greatest : ℕ) (words : List (List ℕ)) (name : List ℕ) → SaysNamed word words name → NoCounted other greatest words
 named_not_counted word other greatest words name h another count k = let same_as = sym k.words_are ∙ h.words_are in cc
+
+pub paired_not_named : (word other : List ℕ) (words : List (List ℕ)) (one name : List ℕ) → SaysPaired word words one name → NoNamed other words
+paired_not_named word other words one name h another k = let same_as = sym k.words_are ∙ h.words_are in cc
+
+pub counted_not_named : (word other : List ℕ) (greatest : ℕ) (words : List (List ℕ)) (name : List ℕ) (count : ℕ) → SaysCounted word greatest words name count → NoNamed other words
+counted_not_named word other greatest words name count h another k = let same_as = sym k.words_are ∙ h.words_are in cc
 
 pub only_paired : (word : List ℕ) (words : List (List ℕ)) (one other : List ℕ) → SaysPaired word words one other → OnlyPaired word words one other
 only_paired word words one other h first second k = let same_as = sym k.words_are ∙ h.words_are in (cc, cc)
@@ -110,6 +122,15 @@ run_is_not_load h = let first = ap (λ (l : List ℕ). get_or l 0 0) h in omega 
 
 pub meaning_is_not_load : codes "meaning" ≡ codes "load" → ⊥
 meaning_is_not_load h = let first = ap (λ (l : List ℕ). get_or l 0 0) h in omega (arith, first)
+
+pub check_is_not_image : codes "check" ≡ codes "image" → ⊥
+check_is_not_image h = let first = ap (λ (l : List ℕ). get_or l 0 0) h in omega (arith, first)
+
+pub check_is_not_text : codes "check" ≡ codes "text" → ⊥
+check_is_not_text h = let first = ap (λ (l : List ℕ). get_or l 0 0) h in omega (arith, first)
+
+pub image_is_not_text : codes "image" ≡ codes "text" → ⊥
+image_is_not_text h = let first = ap (λ (l : List ℕ). get_or l 0 0) h in omega (arith, first)
 
 -- words that say a name are two, and the first is the word before it
 pub named_length : (words : List (String Global)) (word name : List ℕ) → SaysNamed word (spelled words) name → length words ≡ 2

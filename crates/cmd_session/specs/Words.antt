@@ -5,7 +5,7 @@ use Rattle.std.specs.declared.string.String.{String}
 use Rattle.std.specs.declared.alloc.Global.{Global}
 use Rattle.std.specs.String.{string_bytes}
 use Rattle.cmd_session.specs.declared.words.Command.{Command}
-use Rattle.cmd_session.specs.declared.words.Command.TheVariants.{Check, Compile, Run, Meaning, Load}
+use Rattle.cmd_session.specs.declared.words.Command.TheVariants.{Check, Compile, Run, Meaning, Load, Image, Text}
 
 -- the bytes of each word
 abbrev pub spelled : List (String Global) → List (List ℕ)
@@ -60,6 +60,14 @@ SaysMeaning words source count = SaysCounted (codes "meaning") greatest_count wo
 abbrev pub SaysLoad : List (List ℕ) → List ℕ → ℕ → Type 0
 SaysLoad words description size = SaysCounted (codes "load") greatest_size words description size
 
+-- `image A`
+abbrev pub SaysImage : List (List ℕ) → List ℕ → Type 0
+SaysImage words text = SaysNamed (codes "image") words text
+
+-- `text I`
+abbrev pub SaysText : List (List ℕ) → List ℕ → Type 0
+SaysText words image = SaysNamed (codes "text") words image
+
 -- the words say this command
 abbrev pub Says : List (List ℕ) → Command → Type 0
 Says words (Check description) = SaysCheck words description.now
@@ -67,6 +75,8 @@ Says words (Compile description source) = SaysCompile words description.now sour
 Says words (Run text count) = SaysRun words text.now count
 Says words (Meaning source count) = SaysMeaning words source.now count
 Says words (Load description size) = SaysLoad words description.now size
+Says words (Image text) = SaysImage words text.now
+Says words (Text image) = SaysText words image.now
 
 -- the words say none of one kind of command, or no other one of it than this
 abbrev pub NoNamed : List ℕ → List (List ℕ) → Type 0
@@ -88,6 +98,12 @@ abbrev pub OnlyCounted : List ℕ → ℕ → List (List ℕ) → List ℕ → �
 OnlyCounted word greatest words name count =
     (other : List ℕ) (n : ℕ) → SaysCounted word greatest words other n → (other ≡ name) × (n ≡ count)
 
+abbrev pub NoCheck : List (List ℕ) → Type 0
+NoCheck = NoNamed (codes "check")
+
+abbrev pub NoCompile : List (List ℕ) → Type 0
+NoCompile = NoPaired (codes "compile")
+
 abbrev pub NoRun : List (List ℕ) → Type 0
 NoRun = NoCounted (codes "run") greatest_count
 
@@ -97,27 +113,35 @@ NoMeaning = NoCounted (codes "meaning") greatest_count
 abbrev pub NoLoad : List (List ℕ) → Type 0
 NoLoad = NoCounted (codes "load") greatest_size
 
+abbrev pub NoImage : List (List ℕ) → Type 0
+NoImage = NoNamed (codes "image")
+
+abbrev pub NoText : List (List ℕ) → Type 0
+NoText = NoNamed (codes "text")
+
 -- the words say no other command than this
 abbrev pub SaysOnly : List (List ℕ) → Command → Type 0
-SaysOnly words (Check description) =
-    OnlyNamed (codes "check") words description.now × NoPaired (codes "compile") words × NoRun words × NoMeaning words × NoLoad words
-SaysOnly words (Compile description source) =
-    NoNamed (codes "check") words × OnlyPaired (codes "compile") words description.now source.now × NoRun words
-    × NoMeaning words × NoLoad words
-SaysOnly words (Run text count) =
-    NoNamed (codes "check") words × NoPaired (codes "compile") words × OnlyCounted (codes "run") greatest_count words text.now count
-    × NoMeaning words × NoLoad words
-SaysOnly words (Meaning source count) =
-    NoNamed (codes "check") words × NoPaired (codes "compile") words × NoRun words
-    × OnlyCounted (codes "meaning") greatest_count words source.now count × NoLoad words
-SaysOnly words (Load description size) =
-    NoNamed (codes "check") words × NoPaired (codes "compile") words × NoRun words × NoMeaning words
-    × OnlyCounted (codes "load") greatest_size words description.now size
+SaysOnly w (Check description) =
+    OnlyNamed (codes "check") w description.now × NoCompile w × NoRun w × NoMeaning w × NoLoad w × NoImage w × NoText w
+SaysOnly w (Compile description source) =
+    NoCheck w × OnlyPaired (codes "compile") w description.now source.now × NoRun w × NoMeaning w × NoLoad w × NoImage w × NoText w
+SaysOnly w (Run text count) =
+    NoCheck w × NoCompile w × OnlyCounted (codes "run") greatest_count w text.now count × NoMeaning w × NoLoad w × NoImage w × NoText w
+SaysOnly w (Meaning source count) =
+    NoCheck w × NoCompile w × NoRun w × OnlyCounted (codes "meaning") greatest_count w source.now count × NoLoad w × NoImage w × NoText w
+SaysOnly w (Load description size) =
+    NoCheck w × NoCompile w × NoRun w × NoMeaning w × OnlyCounted (codes "load") greatest_size w description.now size × NoImage w × NoText w
+SaysOnly w (Image text) =
+    NoCheck w × NoCompile w × NoRun w × NoMeaning w × NoLoad w × OnlyNamed (codes "image") w text.now × NoText w
+SaysOnly w (Text image) =
+    NoCheck w × NoCompile w × NoRun w × NoMeaning w × NoLoad w × NoImage w × OnlyNamed (codes "text") w image.now
 
 -- the words say no command
 pub record SaysNone (words : List (List ℕ)) : Type 0 where
-  pub no_check : NoNamed (codes "check") words
-  pub no_compile : NoPaired (codes "compile") words
+  pub no_check : NoCheck words
+  pub no_compile : NoCompile words
   pub no_run : NoRun words
   pub no_meaning : NoMeaning words
   pub no_load : NoLoad words
+  pub no_image : NoImage words
+  pub no_text : NoText words

@@ -45,4 +45,6 @@ pub enum Status {
     Deep = 19,
     /// The run of a code broke.
     Broken = 20,
+    /// The file is no code's image.
+    ImageRefused = 23,
 }

@@ -18,6 +18,10 @@ pub enum Command<'a> {
     Meaning(&'a str, u64),
     /// `load D K`: the generated source of K functions, compiled by the machine description D and run on both sides.
     Load(&'a str, u64),
+    /// `image A`: the binary image of the text A's code.
+    Image(&'a str),
+    /// `text I`: the text of the code whose binary image is I.
+    Text(&'a str),
 }
 
 /// The greatest number of steps that a command may ask for.
@@ -97,6 +101,12 @@ pub fn command_of(words: &[String]) -> Option<Command<'_>>
     if let Some((source, count)) = counted(words, "meaning", GREATEST_COUNT) {
         return Some(Command::Meaning(source, count));
     }
-    let (description, size) = counted(words, "load", GREATEST_SIZE)?;
-    Some(Command::Load(description, size))
+    if let Some((description, size)) = counted(words, "load", GREATEST_SIZE) {
+        return Some(Command::Load(description, size));
+    }
+    if let Some(text) = named(words, "image") {
+        return Some(Command::Image(text));
+    }
+    let image = named(words, "text")?;
+    Some(Command::Text(image))
 }

@@ -1,7 +1,7 @@
 -- What holds of the command that was chosen holds of the one that the words say.
 use Rattle.std.proofs.Common.{◌≡◌, ℕ, List, codes, Bor, sym, subst}
 use Rattle.cmd_session.specs.declared.words.Command.{Command}
-use Rattle.cmd_session.specs.declared.words.Command.TheVariants.{Check, Compile, Run, Meaning, Load}
+use Rattle.cmd_session.specs.declared.words.Command.TheVariants.{Check, Compile, Run, Meaning, Load, Image, Text}
 use Rattle.cmd_session.specs.Words.{IsCount, greatest_count, greatest_size, OnlyNamed, OnlyPaired, OnlyCounted, Says, SaysOnly}
 
 pub only_check : (words : List (List ℕ)) (command : Command) (d : Bor (List ℕ)) → SaysOnly words command → command ≡ Check d → OnlyNamed (codes "check") words d.now
@@ -21,6 +21,12 @@ only_meaning words command source count only is = (subst (SaysOnly words) is onl
 pub only_load : (words : List (List ℕ)) (command : Command) (d : Bor (List ℕ)) (size : ℕ) → SaysOnly words command → command ≡ Load d size →
     OnlyCounted (codes "load") greatest_size words d.now size
 only_load words command d size only is = (subst (SaysOnly words) is only).4
+
+pub only_image : (words : List (List ℕ)) (command : Command) (text : Bor (List ℕ)) → SaysOnly words command → command ≡ Image text → OnlyNamed (codes "image") words text.now
+only_image words command text only is = (subst (SaysOnly words) is only).5
+
+pub only_text : (words : List (List ℕ)) (command : Command) (image : Bor (List ℕ)) → SaysOnly words command → command ≡ Text image → OnlyNamed (codes "text") words image.now
+only_text words command image only is = (subst (SaysOnly words) is only).6
 
 -- the number of functions is one
 pub counts : (words : List (List ℕ)) (command : Command) (d : Bor (List ℕ)) (size : ℕ) → Says words command → command ≡ Load d size → IsCount greatest_size size

@@ -2,7 +2,7 @@
 ghost use Rattle.std.specs.Prelude.{◌≡◌, ◌+◌, ℕ, List};
 ghost use Rattle.cmd_session.specs.Reading.{intake, TakesAtMost};
 ghost use Rattle.cmd_session.specs.Writing.{change, IsUntouched};
-ghost use Rattle.cmd_session.specs.Words.{spelled, SaysCheck, SaysCompile, SaysRun, SaysMeaning, SaysLoad, SaysNone};
+ghost use Rattle.cmd_session.specs.Words.{spelled, SaysCheck, SaysCompile, SaysRun, SaysMeaning, SaysLoad, SaysImage, SaysText, SaysNone};
 ghost use Rattle.cmd_session.specs.Lines.{usage_line};
 ghost use Rattle.cmd_session.specs.Telling.{IsRefused};
 ghost use Rattle.cmd_files.specs.Outsides.{lookup, outside, FailsAtMost};
@@ -10,6 +10,7 @@ ghost use Rattle.cmd_files.specs.Stages.{input_limit};
 ghost use Rattle.cmd_files.specs.Calls.{call_of};
 ghost use Rattle.cmd_files.specs.Outcome.{Leaves};
 ghost use Rattle.cmd_files.specs.Exact.{IsExact};
+ghost use Rattle.cmd_files.specs.Translations.{IsTranslated};
 ghost use Rattle.cmd_check.specs.Outcome.{Leaves as CheckLeaves};
 ghost use Rattle.cmd_check.specs.Exact.{IsExact as CheckIsExact};
 ghost use Rattle.cmd_compile.specs.Outcome.{files, FailAtMost, Leaves as CompileLeaves};
@@ -18,19 +19,23 @@ ghost use Rattle.cmd_load.specs.Outcome.{Leaves as LoadLeaves, MayCome as LoadMa
 ghost use Rattle.cmd_load.specs.Exact.{IsExact as LoadIsExact};
 ghost use Rattle.cmd_run.specs.Texts.{text_form, code_runner};
 ghost use Rattle.cmd_meaning.specs.Sources.{source_form, source_runner};
+ghost use Rattle.cmd_image.specs.Texts.{image_of_text};
+ghost use Rattle.cmd_text.specs.Images.{text_of_image};
 
 use cmd_check::check_description;
 use cmd_compile::compile_source;
+use cmd_image::write_image;
 use cmd_load::load_generated;
 use cmd_meaning::run_source;
 use cmd_run::run_text;
 use cmd_session::{Command, Status, command_of, refuse};
+use cmd_text::write_text;
 use gg_outside::{Folder, Sink, Source};
 use std::alloc::Global;
 
 /// The whole program: the command that the words say, or the line of the usage. Its commands are `check D`, `compile D S`, `run A N`,
-/// `meaning S N` and `load D K`. What `compile` writes does, read again and run, what the source does: until the source makes a wild
-/// access or nests over 1,024 calls.
+/// `meaning S N`, `load D K`, `image A` and `text I`. What `compile` writes does, read again and run, what the source does: until the
+/// source makes a wild access or nests over 1,024 calls.
 pub fn ggvax<F: Folder, I: Source, O: Sink, E: Sink>(
     alloc: Global,
     words: &[String],
@@ -79,6 +84,14 @@ pub fn ggvax<F: Folder, I: Source, O: Sink, E: Sink>(
     ensures load_exact { (d : List ℕ) (k : ℕ) → SaysLoad (spelled words.now) d k
         → LoadIsExact result d (outside F.Folder O.Sink E.Sink folder.old folder.new out.old out.new report.old report.new) }
 
+    // `image A`: the same of the text and of the binary image of its code, and that the folder is asked for A alone.
+    ensures image { (text : List ℕ) → SaysImage (spelled words.now) text → IsTranslated image_of_text result text
+        (outside F.Folder O.Sink E.Sink folder.old folder.new out.old out.new report.old report.new) }
+
+    // `text I`: the same of the binary image I and of the text of its code.
+    ensures text { (image : List ℕ) → SaysText (spelled words.now) image → IsTranslated text_of_image result image
+        (outside F.Folder O.Sink E.Sink folder.old folder.new out.old out.new report.old report.new) }
+
     // Words that say no command, and these alone, are answered by the usage; nothing else is touched.
     ensures usage { result ≡ Status.Usage → SaysNone (spelled words.now) }
     ensures usage_line { SaysNone (spelled words.now)
@@ -102,13 +115,15 @@ pub fn ggvax<F: Folder, I: Source, O: Sink, E: Sink>(
     ensures check_input { (d : List ℕ) → SaysCheck (spelled words.now) d → input.new ≡ input.old }
     ensures compile_input { (d source : List ℕ) → SaysCompile (spelled words.now) d source → input.new ≡ input.old }
     ensures load_input { (d : List ℕ) (k : ℕ) → SaysLoad (spelled words.now) d k → input.new ≡ input.old }
+    ensures image_input { (text : List ℕ) → SaysImage (spelled words.now) text → input.new ≡ input.old }
+    ensures text_input { (image : List ℕ) → SaysText (spelled words.now) image → input.new ≡ input.old }
     ensures usage_input { SaysNone (spelled words.now) → input.new ≡ input.old }
     ensures taken { TakesAtMost (input_limit + 1) (intake I.Source input.old input.new) }
 {
     let Some(command) = command_of(words) else {
         return refuse(
             report,
-            b"ggvax: usage: check D | compile D S | run A N | meaning S N | load D K\n",
+            b"ggvax: usage: check D | compile D S | run A N | meaning S N | load D K | image A | text I\n",
             Status::Usage,
         );
     };
@@ -124,5 +139,7 @@ pub fn ggvax<F: Folder, I: Source, O: Sink, E: Sink>(
         Command::Load(description, functions) => {
             load_generated(alloc, description, functions, folder, out, report)
         }
+        Command::Image(text) => write_image(alloc, text, folder, out, report),
+        Command::Text(image) => write_text(alloc, image, folder, out, report),
     }
 }

@@ -41,6 +41,7 @@ IsRefusal statuses.Trapped = ⊥
 IsRefusal statuses.Wild = ⊥
 IsRefusal statuses.Deep = ⊥
 IsRefusal statuses.Broken = ⊥
+IsRefusal statuses.ImageRefused = ⊥
 
 -- What `compile` leaves at status 0 is a text of the source, and at each other status it refuses.
 abbrev pub CompileEnds : Type 0

@@ -1,7 +1,8 @@
 use Rattle.std.proofs.Common.{arith}
-use Rattle.cmd_session.proofs.Commands.{only_named, named_not_paired, named_not_counted, only_paired, paired_not_counted}
-use Rattle.cmd_session.proofs.Commands.{only_counted, counted_not_other}
+use Rattle.cmd_session.proofs.Commands.{only_named, named_not_other, named_not_paired, named_not_counted, only_paired, paired_not_named, paired_not_counted}
+use Rattle.cmd_session.proofs.Commands.{only_counted, counted_not_named, counted_not_other}
 use Rattle.cmd_session.proofs.Commands.{compile_is_not_run, compile_is_not_meaning, compile_is_not_load, run_is_not_meaning, run_is_not_load, meaning_is_not_load}
+use Rattle.cmd_session.proofs.Commands.{check_is_not_image, check_is_not_text, image_is_not_text}
 use Rattle.cmd_session.proofs.words.command_of.Goals as goal
 
 pub returns-in-Some-clause-only : goal.returns-in-Some-clause-only
@@ -12,6 +13,8 @@ returns-in-Some-clause-only c =
       named_not_counted _ _ _ _ _ said,
       named_not_counted _ _ _ _ _ said,
       named_not_counted _ _ _ _ _ said,
+      named_not_other _ _ _ _ said check_is_not_image,
+      named_not_other _ _ _ _ said check_is_not_text,
     )
 
 pub returns-in-Some-paired-clause-only : goal.returns-in-Some-paired-clause-only
@@ -22,6 +25,8 @@ returns-in-Some-paired-clause-only c =
       paired_not_counted _ _ _ _ _ _ said compile_is_not_run,
       paired_not_counted _ _ _ _ _ _ said compile_is_not_meaning,
       paired_not_counted _ _ _ _ _ _ said compile_is_not_load,
+      paired_not_named _ _ _ _ _ said,
+      paired_not_named _ _ _ _ _ said,
     )
 
 pub returns-in-Some-counted-clause-only : goal.returns-in-Some-counted-clause-only
@@ -32,6 +37,8 @@ returns-in-Some-counted-clause-only c =
       only_counted _ _ _ _ _ (omega arith) said,
       counted_not_other _ _ _ _ _ _ _ said run_is_not_meaning,
       counted_not_other _ _ _ _ _ _ _ said run_is_not_load,
+      counted_not_named _ _ _ _ _ _ said,
+      counted_not_named _ _ _ _ _ _ said,
     )
 
 pub returns-in-Some-counted-2-clause-only : goal.returns-in-Some-counted-2-clause-only
@@ -42,6 +49,32 @@ returns-in-Some-counted-2-clause-only c =
       c.in_default-counted.ensures.none,
       only_counted _ _ _ _ _ (omega arith) said,
       counted_not_other _ _ _ _ _ _ _ said meaning_is_not_load,
+      counted_not_named _ _ _ _ _ _ said,
+      counted_not_named _ _ _ _ _ _ said,
+    )
+
+pub returns-in-Some-counted-3-clause-only : goal.returns-in-Some-counted-3-clause-only
+returns-in-Some-counted-3-clause-only c =
+    let said = c.in-Some-counted-3.ensures.some in (
+      c.in_default.ensures.none,
+      c.in_default-paired.ensures.none,
+      c.in_default-counted.ensures.none,
+      c.in_default-counted-2.ensures.none,
+      only_counted _ _ _ _ _ (omega arith) said,
+      counted_not_named _ _ _ _ _ _ said,
+      counted_not_named _ _ _ _ _ _ said,
+    )
+
+pub returns-in-Some-named-clause-only : goal.returns-in-Some-named-clause-only
+returns-in-Some-named-clause-only c =
+    let said = c.in-Some-named.ensures.some in (
+      c.in_default.ensures.none,
+      c.in_default-paired.ensures.none,
+      c.in_default-counted.ensures.none,
+      c.in_default-counted-2.ensures.none,
+      c.in_default-counted-3.ensures.none,
+      only_named _ _ _ said,
+      named_not_other _ _ _ _ said image_is_not_text,
     )
 
 pub returns-clause-only : goal.returns-clause-only
@@ -50,5 +83,7 @@ returns-clause-only c = (
   c.in_default-paired.ensures.none,
   c.in_default-counted.ensures.none,
   c.in_default-counted-2.ensures.none,
-  only_counted _ _ _ _ _ (omega arith) c.in_ok-description.ensures.some,
+  c.in_default-counted-3.ensures.none,
+  c.in_default-named.ensures.none,
+  only_named _ _ _ c.in_ok-image.ensures.some,
 )

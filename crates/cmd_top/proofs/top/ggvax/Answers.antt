@@ -3,6 +3,7 @@ use Rattle.cmd_files.specs.Outsides.{lookup, outside}
 use Rattle.cmd_files.specs.Outcome.{Leaves}
 use Rattle.cmd_files.specs.Calls.{call_of}
 use Rattle.cmd_files.specs.Exact.{IsExact}
+use Rattle.cmd_files.specs.Translations.{IsTranslated}
 use Rattle.cmd_meaning.specs.Sources.{source_form, source_runner}
 use Rattle.cmd_run.specs.Texts.{text_form, code_runner}
 use Rattle.cmd_check.specs.Outcome.{Leaves as CheckLeaves}
@@ -11,7 +12,9 @@ use Rattle.cmd_compile.specs.Outcome.{files, FailAtMost, Leaves as CompileLeaves
 use Rattle.cmd_compile.specs.Exact.{IsExact as CompileIsExact}
 use Rattle.cmd_load.specs.Outcome.{Leaves as LoadLeaves}
 use Rattle.cmd_load.specs.Exact.{IsExact as LoadIsExact}
-use Rattle.cmd_top.proofs.Chosen.{only_check, only_compile, only_run, only_meaning, only_load, counts, carried, named, paired}
+use Rattle.cmd_image.specs.Texts.{image_of_text}
+use Rattle.cmd_text.specs.Images.{text_of_image}
+use Rattle.cmd_top.proofs.Chosen.{only_check, only_compile, only_run, only_meaning, only_load, only_image, only_text, counts, carried, named, paired}
 use Rattle.cmd_top.proofs.top.ggvax.Goals as goal
 
 pub returns-in-Meaning-clause-meaning : goal.returns-in-Meaning-clause-meaning
@@ -85,3 +88,15 @@ returns-in-Load-clause-load_exact g c = λ d k said.
     carried (λ s n. LoadIsExact c.load_generated.result s
     (outside g.F.Folder g.O.Sink g.E.Sink c.args.folder.now c.load_generated.new.folder c.args.out.now c.load_generated.new.out c.args.report.now c.load_generated.new.report))
     _ _ _ _ (only_load _ _ _ _ c.in-Some.ensures.only c.in-Load.is d k said) c.load_generated.ensures.exact
+
+pub returns-in-Image-clause-image : goal.returns-in-Image-clause-image
+returns-in-Image-clause-image g c = λ text said.
+    named (λ s. IsTranslated image_of_text c.write_image.result s
+    (outside g.F.Folder g.O.Sink g.E.Sink c.args.folder.now c.write_image.new.folder c.args.out.now c.write_image.new.out c.args.report.now c.write_image.new.report))
+    _ _ (only_image _ _ _ c.in-Some.ensures.only c.in-Image.is text said) c.write_image.ensures.translates
+
+pub returns-in-Text-clause-text : goal.returns-in-Text-clause-text
+returns-in-Text-clause-text g c = λ image said.
+    named (λ s. IsTranslated text_of_image c.write_text.result s
+    (outside g.F.Folder g.O.Sink g.E.Sink c.args.folder.now c.write_text.new.folder c.args.out.now c.write_text.new.out c.args.report.now c.write_text.new.report))
+    _ _ (only_text _ _ _ c.in-Some.ensures.only c.in-Text.is image said) c.write_text.ensures.translates

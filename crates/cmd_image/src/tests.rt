@@ -1,0 +1,58 @@
+// The image of one text, and a text whose code can't be run.
+use crate::write_image;
+use cmd_session::Status;
+use gg_base::{Bytes, Name};
+use gg_outside::{MemFile, MemFolder, MemSink};
+use std::alloc::{AllocError, Global};
+use std::test::Fail;
+
+// The assembly text of a program that writes two letters.
+const TEXT: &[u8] = b"\t.data\n\t.text\n\t.globl\t_main\n_main:\n\t.word\t0\n\
+    \tpushl\t$72\n\tcalls\t$1,_putchar\n\tpushl\t$105\n\tcalls\t$1,_putchar\n\
+    \tpushl\t$0\n\tmovl\t(sp)+,r0\n\tret\n";
+
+// Its binary image.
+const IMAGE: [u8; 115] = [
+    0x47, 0x47, 0x49, 0x31, 0x22, 0x00, 0x00, 0x00, 0x00, 0x00, 0xdd, 0x8f, 0x48, 0x00, 0x00, 0x00,
+    0xfb, 0x01, 0xef, 0x00, 0x00, 0x00, 0x00, 0xdd, 0x8f, 0x69, 0x00, 0x00, 0x00, 0xfb, 0x01, 0xef,
+    0x00, 0x00, 0x00, 0x00, 0xdd, 0x00, 0xd0, 0x8e, 0x50, 0x04, 0x03, 0x00, 0x00, 0x00, 0x00, 0x00,
+    0x00, 0x00, 0x01, 0x05, 0x5f, 0x6d, 0x61, 0x69, 0x6e, 0x00, 0x00, 0x00, 0x00, 0x00, 0x05, 0x5f,
+    0x6d, 0x61, 0x69, 0x6e, 0x00, 0x00, 0x00, 0x00, 0x02, 0x02, 0x00, 0x00, 0x00, 0x0b, 0x00, 0x00,
+    0x00, 0x08, 0x5f, 0x70, 0x75, 0x74, 0x63, 0x68, 0x61, 0x72, 0x00, 0x00, 0x00, 0x00, 0x18, 0x00,
+    0x00, 0x00, 0x08, 0x5f, 0x70, 0x75, 0x74, 0x63, 0x68, 0x61, 0x72, 0x00, 0x00, 0x00, 0x00, 0x00,
+    0x00, 0x00, 0x00,
+];
+
+// A folder with a file `a`.
+fn folder_of(alloc: Global, bytes: &[u8]) -> Result<MemFolder, AllocError> {
+    let mut files = Vec::new(alloc);
+    files.push(MemFile {
+        name: Name::from_vec(Vec::from_slice(alloc, b"a")?),
+        bytes: Bytes::from_vec(Vec::from_slice(alloc, bytes)?),
+    })?;
+    Ok(MemFolder::new(alloc, files, Vec::new(alloc)))
+}
+
+#[test]
+fn writes_an_image(rt: HostRuntime) -> Result<(), Fail> {
+    let alloc = rt.alloc();
+    let rows = [
+        (TEXT, Status::Done, IMAGE.as_slice(), b"".as_slice()),
+        (
+            b"\t.data\n\t.text\n_men:\n".as_slice(),
+            Status::AsmRefused,
+            b"".as_slice(),
+            b"ggvax: no _main\n".as_slice(),
+        ),
+    ];
+    for (text, status, image, line) in rows {
+        let mut folder = folder_of(alloc, text)?;
+        let mut out = MemSink::new(alloc, 16, Vec::new(alloc));
+        let mut report = MemSink::new(alloc, 16, Vec::new(alloc));
+        let answer = write_image(alloc, "a", &mut folder, &mut out, &mut report);
+        assert_eq!(rt; answer, status);
+        assert_eq!(rt; out.bytes(), image);
+        assert_eq!(rt; report.bytes(), line);
+    }
+    Ok(())
+}

@@ -1,0 +1,52 @@
+// What rows are about.
+
+/// The subject of the rows of a section.
+#[derive(Clone, Copy)]
+pub enum Subject {
+    /// Sources: the first fault of their tokens or phrases, or their tokens.
+    Syntax,
+    /// Assembly texts: what they hold or their first wrong line, and whether they are written back byte for byte.
+    Assembly,
+    /// Texts on the machine: instructions at their edges, operands, and each way to end.
+    Machine,
+    /// Terms with their normal forms, and rules with the effects of their patterns.
+    Terms,
+    /// Trees and programs of trees: whether they are well typed or valid, and how they run.
+    Trees,
+    /// Sources: `ok` or their first fault; layouts and needs of frames.
+    Types,
+    /// Sources with their trees, or with both their runs.
+    Lowering,
+    /// Descriptions: their rules and item sets or their first wrong line, and pictures of item sets.
+    Tables,
+    /// Rules of the VAX with the effect of pattern and template, or the fault in the template.
+    Templates,
+    /// Descriptions whose tables are checked, with the replay of each tree that refuses one.
+    Check,
+    /// Calls of the commands, with what fails beside them: statuses, outputs and reports.
+    Commands,
+}
+
+/// The subjects with their names.
+pub static SUBJECTS: [(&str, Subject); 11] = [
+    ("syntax", Subject::Syntax),
+    ("assembly", Subject::Assembly),
+    ("machine", Subject::Machine),
+    ("terms", Subject::Terms),
+    ("trees", Subject::Trees),
+    ("types", Subject::Types),
+    ("lowering", Subject::Lowering),
+    ("tables", Subject::Tables),
+    ("templates", Subject::Templates),
+    ("check", Subject::Check),
+    ("commands", Subject::Commands),
+];
+
+impl Subject {
+    /// The subject of this name.
+    pub fn named(name: &str) -> Option<Subject> {
+        SUBJECTS
+            .iter()
+            .find_map(|(other, subject)| (*other == name).then_some(*subject))
+    }
+}

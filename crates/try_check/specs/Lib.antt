@@ -1,1 +1,0 @@
--- No definitions of its own: what is said here is said in those of the crates below.
