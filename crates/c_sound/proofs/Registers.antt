@@ -5,7 +5,7 @@ use Rattle.std.specs.List.{AllPass}
 use Rattle.std.proofs.lemmas.Bool.{eqb-true, ne_eqb, ltb-true, lt-ltb}
 use Rattle.std.proofs.lemmas.List.Elements.{All-nil, All-head, All-tail, All-weaker, All-push}
 use Rattle.tree_core.specs.Items.{times}
-use Rattle.tree_core.specs.Valid.{LocalsStand}
+use Rattle.tree_core.specs.Locals.{LocalsStand}
 
 pub no_locals : (n : ℕ) → LocalsStand n []
 no_locals n = (All-nil (λ k. nat_lt k n ≡ true), λ k. omega arith)

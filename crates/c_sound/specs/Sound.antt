@@ -3,7 +3,8 @@ use Rattle.std.specs.Prelude.{◌≡◌, ℕ, ◌<◌, ◌≤◌, ◌^◌, List,
 use Rattle.std.specs.Str.{bytes_eq}
 use Rattle.std.specs.List.{All}
 use Rattle.tree_core.specs.declared.program.Object.{Object}
-use Rattle.tree_core.specs.Valid.{LocalsStand, objects_lie, LinksLie}
+use Rattle.tree_core.specs.Locals.{LocalsStand}
+use Rattle.tree_core.specs.Valid.{objects_lie, LinksLie}
 use Rattle.c_program.specs.Programs.{ARoutine, AProgram}
 use Rattle.c_sound.specs.Fits.{AreBytes, FitsActs, no_local}
 use Rattle.c_sound.specs.Stands.{IsThere, Takes, StandsActs}

@@ -4,7 +4,7 @@ use Rattle.std.proofs.lemmas.List.{length-map}
 use Rattle.std.proofs.lemmas.Bool.{ltb-false}
 use Rattle.std.specs.Prelude.{is_some, slice_get}
 use Rattle.gg_base.proofs.Facts.{slice_cases}
-use Rattle.tree_core.specs.Valid.{LocalsStand}
+use Rattle.tree_core.specs.Locals.{LocalsStand}
 use Rattle.c_phrases.specs.declared.operator.Spec.{Spec}
 use Rattle.c_phrases.specs.declared.tree.Named.{Named}
 use Rattle.c_phrases.specs.Phrases.{AnExp}

@@ -108,3 +108,5 @@ pub only_fault : (r : Result (Vec Spanned) TokenFault) (bytes : List ℕ) → An
 only_fault (Ok v) bytes a place kind h = other_answer v.items (At place kind) (read bytes) a (fault_is_read bytes place kind h)
 only_fault (Err NoMemory) bytes a place kind h = tt
 only_fault (Err (At p k)) bytes a place kind h = same_fault p place k kind (read bytes) a (fault_is_read bytes place kind h)
+
+pub ruleset text_laws = (found_tokens, only_tokens, first_fault, only_fault)

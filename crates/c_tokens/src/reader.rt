@@ -50,7 +50,7 @@ fn read(alloc: Global, bytes: &[u8]) -> Result<Vec<Spanned>, TokenFault>
 
 /// The tokens of a text of at most 1,048,576 bytes, the last one `End`; or the first fault from the left.
 /// `Tokens` is the grammar over whole texts, `FirstFault` says what is wrong and where.
-#[tactic(auto, using(crate::proofs::TextLaws::found_tokens, crate::proofs::TextLaws::only_tokens, crate::proofs::TextLaws::first_fault, crate::proofs::TextLaws::only_fault))]
+#[tactic(auto, using(crate::proofs::TextLaws::text_laws))]
 pub fn tokens(alloc: Global, bytes: &[u8]) -> Result<Vec<Spanned>, TokenFault>
     requires { length bytes.now ≤ 1048576 }
     ensures found { IfOk result (λ v. Tokens 0 bytes.now v.items) }

@@ -7,6 +7,7 @@ pub mod Wanted
 pub mod Items
 pub mod Window
 pub mod Labels
+pub mod Locals
 pub mod Valid
 pub mod Area
 pub mod Calm

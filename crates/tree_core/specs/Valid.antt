@@ -19,6 +19,7 @@ use Rattle.tree_core.specs.Attributes.{attribute_of}
 use Rattle.tree_core.specs.Trees.{IsTyped}
 use Rattle.tree_core.specs.Items.{times, CallsInOrder}
 use Rattle.tree_core.specs.Labels.{LabelsOnce, TargetsStand}
+use Rattle.tree_core.specs.Locals.{LocalsStand}
 
 -- how many functions have a name
 abbrev pub named : List ℕ → List TreeFn → ℕ
@@ -63,14 +64,6 @@ ItemStands fs objects f (tree_item.Root w) = IsTyped w sort.Stmt × AllPass (lea
 
 abbrev pub ItemsStand : List TreeFn → ℕ → TreeFn → Type 0
 ItemsStand fs objects f = All (ItemStands fs objects f) f.items
-
--- no number stands twice
-abbrev pub NumbersDiffer : List ℕ → Type 0
-NumbersDiffer ns = (n : ℕ) → times n ns ≤ 1
-
--- numbers of locals, of which there are so many, that differ
-abbrev pub LocalsStand : ℕ → List ℕ → Type 0
-LocalsStand locals ns = AllPass (λ n. nat_lt n locals) ns × NumbersDiffer ns
 
 abbrev pub WantedStand : TreeFn → Type 0
 WantedStand f = LocalsStand f.locals f.wanted

@@ -1,7 +1,7 @@
 // Whether numbers differ. They are looked at window by window, so that no memory is taken.
 
 ghost use Rattle.std.specs.Prelude.{◌≡◌, ◌↔◌, ◌<◌, ◌^◌, IsTrue, IfSome, false, None, is_some};
-ghost use Rattle.tree_core.specs.Valid.{NumbersDiffer};
+ghost use Rattle.tree_core.specs.Locals.{NumbersDiffer};
 ghost use Rattle.tree_core.specs.Window.{met_once, least};
 
 use crate::window::{WINDOW, Window, better};

@@ -3,7 +3,8 @@
 ghost use Rattle.std.specs.Prelude.{◌≡◌, ◌↔◌, ◌≤◌, ℕ, nat_lt, List, IsTrue, length};
 ghost use Rattle.std.specs.List.{All, AllPass, list_all};
 ghost use Rattle.tree_core.specs.Valid.{main_takes_nothing, args_of, leaf_names, names, ItemStands, ItemsStand, PushesStand};
-ghost use Rattle.tree_core.specs.Valid.{IsValid, NamesRight, LocalsStand, WantedStand};
+ghost use Rattle.tree_core.specs.Locals.{LocalsStand};
+ghost use Rattle.tree_core.specs.Valid.{IsValid, NamesRight, WantedStand};
 
 use crate::items::calls_in_order;
 use crate::labels::{labels_stand_once, targets_stand};

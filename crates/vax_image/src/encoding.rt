@@ -8,7 +8,8 @@ ghost use Rattle.vax_image.specs.Answers.{code_with, Encoded};
 use crate::fault::ImageFault;
 use std::alloc::Global;
 use vax_core::{AreaItem, Code};
-use vax_image_branches::growing::{least_forms, places_of};
+use vax_image_branches::growing::places_of;
+use vax_image_forms::least_forms;
 use vax_image_names::{Labels, link};
 use vax_image_writing::{Plan, image_of, marks_in, pieces_of};
 
