@@ -269,6 +269,28 @@ impl<'a> Plan<'a> {
         behind: State,
         sums: u64,
     ) -> Result<(), NoMemory> {
+        self.read_by_onlys(alloc, state, token, kid, list, behind, sums)?;
+        self.read_by_firsts(alloc, state, token, kid, list, behind, sums)?;
+        for at in 0..usize::MAX {
+            let part = match self.second_reader(state, at) {
+                Some(part) => part,
+                None => break,
+            };
+            self.read_second(alloc, part, token, kid, list, behind, sums)?;
+        }
+        Ok(())
+    }
+
+    fn read_by_onlys(
+        &mut self,
+        alloc: Global,
+        state: State,
+        token: Tok,
+        kid: Source,
+        list: usize,
+        behind: State,
+        sums: u64,
+    ) -> Result<(), NoMemory> {
         for at in 0..usize::MAX {
             let reader = match self.only_reader(state, at) {
                 Some(reader) => reader,
@@ -280,6 +302,19 @@ impl<'a> Plan<'a> {
                 self.only_sum(alloc, above, over, kid, list, Some(behind), set)?;
             }
         }
+        Ok(())
+    }
+
+    fn read_by_firsts(
+        &mut self,
+        alloc: Global,
+        state: State,
+        token: Tok,
+        kid: Source,
+        list: usize,
+        behind: State,
+        sums: u64,
+    ) -> Result<(), NoMemory> {
         for at in 0..usize::MAX {
             let reader = match self.first_reader(state, at) {
                 Some(reader) => reader,
@@ -290,13 +325,6 @@ impl<'a> Plan<'a> {
                 let set = sums & reader.seconds;
                 self.first_sum(alloc, above, over, kid, list, Some(behind), set)?;
             }
-        }
-        for at in 0..usize::MAX {
-            let part = match self.second_reader(state, at) {
-                Some(part) => part,
-                None => break,
-            };
-            self.read_second(alloc, part, token, kid, list, behind, sums)?;
         }
         Ok(())
     }

@@ -1,7 +1,7 @@
 // Lists that settle, and what follows from their reductions.
 use crate::masks::{bit, first_of, without_first};
 use crate::plan::{Event, Plan};
-use crate::rows::{Entry, Numbers, row_of};
+use crate::rows::{Entry, Free, Numbers, row_of};
 use gg_base::NoMemory;
 use lr_check_found::{How, Item};
 use lr_tables::State;
@@ -46,6 +46,30 @@ fn add_class(classes: &mut Vec<(u16, u64)>, class: u16, behind: u64) -> Result<(
     }
     classes.push((class, behind))?;
     Ok(())
+}
+
+// Where a list's new tokens behind lead: those at which it is a sum, and the classes to which it is reduced.
+#[derive(Drop)]
+struct Ways {
+    sums: u64,
+    classes: Vec<(u16, u64)>,
+}
+
+fn ways_of(alloc: Global, free: &Free, size: usize, more: u64) -> Result<Ways, NoMemory> {
+    let mut sums = more & free.shifts;
+    let mut classes = Vec::new(alloc);
+    for reduction in free.reductions.iter() {
+        let set = more & reduction.tokens;
+        if set == 0 || reduction.long < size {
+            continue;
+        }
+        if reduction.long > size {
+            sums |= set;
+        } else {
+            add_class(&mut classes, reduction.class, set)?;
+        }
+    }
+    Ok(Ways { sums, classes })
 }
 
 impl<'a> Plan<'a> {
@@ -156,6 +180,33 @@ impl<'a> Plan<'a> {
         Ok(())
     }
 
+    // The list settles as the classes to which it is reduced.
+    fn settle_classes(
+        &mut self,
+        alloc: Global,
+        state: State,
+        token: Tok,
+        whole: Source,
+        classes: &[(u16, u64)],
+    ) -> Result<(), NoMemory> {
+        for at in 0..classes.len() {
+            let (class, set) = classes[at];
+            let list = self.lists.push(Sym::Class(class), 0)?;
+            let over = self.tables.over(state, Sym::Class(class));
+            let by = By::Reduced(whole, class);
+            self.settle(alloc, state, token, set, list, over, by)?;
+        }
+        Ok(())
+    }
+
+    fn hold_sums(&mut self, source: Source, sums: u64) {
+        if let Some(row) = self.rows.get_mut(source.row) {
+            if let Some(entry) = row.entries.get_mut(source.entry) {
+                entry.sums |= sums;
+            }
+        }
+    }
+
     pub fn after_settled(
         &mut self,
         alloc: Global,
@@ -164,10 +215,8 @@ impl<'a> Plan<'a> {
         entry: usize,
         more: u64,
     ) -> Result<(), NoMemory> {
-        let source = Source {
-            row: row_of(state, token),
-            entry,
-        };
+        let row = row_of(state, token);
+        let source = Source { row, entry };
         let known = match self.known(source) {
             Some(known) => known,
             None => return Ok(()),
@@ -176,46 +225,15 @@ impl<'a> Plan<'a> {
             Some(behind) => behind,
             None => return Ok(()),
         };
-        let size = self.lists.size(known.list);
-        let free = match self.free.get(behind.number() as usize) {
-            Some(free) => free,
+        let ways = match self.free.get(behind.number() as usize) {
+            Some(free) => ways_of(alloc, free, self.lists.size(known.list), more)?,
             None => return Ok(()),
         };
-        let mut sums = more & free.shifts;
-        let mut classes = Vec::new(alloc);
-        for reduction in free.reductions.iter() {
-            let set = more & reduction.tokens;
-            if set == 0 || reduction.long < size {
-                continue;
-            }
-            if reduction.long > size {
-                sums |= set;
-            } else {
-                add_class(&mut classes, reduction.class, set)?;
-            }
-        }
-        for at in 0..classes.len() {
-            let (class, set) = classes[at];
-            let list = self.lists.push(Sym::Class(class), 0)?;
-            let over = self.tables.over(state, Sym::Class(class));
-            self.settle(
-                alloc,
-                state,
-                token,
-                set,
-                list,
-                over,
-                By::Reduced(source, class),
-            )?;
-        }
-        if sums == 0 {
+        self.settle_classes(alloc, state, token, source, &ways.classes)?;
+        if ways.sums == 0 {
             return Ok(());
         }
-        if let Some(row) = self.rows.get_mut(source.row) {
-            if let Some(entry) = row.entries.get_mut(source.entry) {
-                entry.sums |= sums;
-            }
-        }
-        self.read(alloc, state, token, source, known.list, behind, sums)
+        self.hold_sums(source, ways.sums);
+        self.read(alloc, state, token, source, known.list, behind, ways.sums)
     }
 }
