@@ -172,10 +172,29 @@ impl Found {
         Ok(())
     }
 
-    fn hold(&mut self, settling: &Settling) -> Result<(), NoMemory>
-        ensures { OnOk result (self.new ≡ with_entry self.old settling.now) }
+    fn hold(
+        &mut self,
+        place: usize,
+        list: usize,
+        behind: &Option<State>,
+        is_sum: bool,
+        how: How,
+    ) -> Result<(), NoMemory>
+        ensures { OnOk result (self.new ≡ with_entry self.old (record {
+          place = place;
+          list = list;
+          behind = behind.now;
+          is_sum = is_sum;
+          how = how;
+        })) }
     {
-        self.settlings.push(*settling)?;
+        self.settlings.push(Settling {
+            place,
+            list,
+            behind: *behind,
+            is_sum,
+            how,
+        })?;
         Ok(())
     }
 
@@ -188,7 +207,13 @@ impl Found {
     {
         self.hold_list(settling.place, settling.list)?;
         self.hold_if(settling.is_sum, settling.place)?;
-        self.hold(settling)
+        self.hold(
+            settling.place,
+            settling.list,
+            &settling.behind,
+            settling.is_sum,
+            settling.how,
+        )
     }
 
     fn add_settling(
