@@ -1,19 +1,17 @@
 -- What the rows of a sheet show.
-use Rattle.std.proofs.Common.{◌≡◌, ℕ, ◌+◌, ◌*◌, List, [], ◌∷◌, ◌++◌, Some, Contains, refl, sym, ap, ◌∙◌, subst, arith, length, slice_get}
-use Rattle.std.specs.Int.{bit_at}
+use Rattle.std.proofs.Common.{◌≡◌, ℕ, List, [], ◌∷◌, ◌++◌, Some, Contains, sym, ap, ◌∙◌, subst}
 use Rattle.std.proofs.lemmas.Option.{same_Some}
 use Rattle.tree_core.specs.declared.token.Tok.{Tok}
 use Rattle.tree_core.specs.declared.token.Sort.{Sort}
 use Rattle.md_reader.specs.declared.types.Sym.{Sym}
 use Rattle.md_reader.specs.declared.types.Sym.TheVariants as grammar_symbol
-use Rattle.lr_tables.specs.Symbols.{number}
 use Rattle.lr_check_sets.specs.Trees.{May}
 use Rattle.lr_check_sets.specs.Automaton.{Automaton, walk}
 use Rattle.lr_check_sets.proofs.Rows.{at_contains}
 use Rattle.lr_check_found.specs.declared.places.Place.{Place}
 use Rattle.lr_check_found.specs.declared.settlings.Settling.{Settling}
 use Rattle.lr_check_found.specs.Lists.{IsList, IsBehindToken}
-use Rattle.lr_check_found.specs.Found.{FoundView, place_of, IsPlaceAt, IsSettlingAt, SumAt, Settles}
+use Rattle.lr_check_found.specs.Found.{FoundView, place_of, IsPlaceAt, IsSettlingAt, Settles}
 use Rattle.lr_check_found.specs.Sound.{IsFound}
 use Rattle.lr_check_found.specs.Adding.{list_number}
 use Rattle.lr_check_found.proofs.Deriving.{IsSum, sum_of}
@@ -23,7 +21,7 @@ use Rattle.lr_check_complete.specs.declared.sheet.Row.{Row}
 use Rattle.lr_check_complete.specs.declared.sheet.Sheet.{Sheet}
 use Rattle.lr_check_complete.specs.Sets.{HasPlace, HasSettling, HasSum}
 use Rattle.lr_check_complete.specs.Kids.{OnlyIn, SecondIn, SecondAt, BothIn}
-use Rattle.lr_check_complete.specs.Sheets.{In, IsRowAt, IsRow, IsSumLine, IsAllLine, IsSheet, IsJoinedAt, IsJoinedLine, HasKid, StandsIn}
+use Rattle.lr_check_complete.specs.Sheets.{In, IsRow, IsSumLine, IsAllLine, IsSheet, IsJoinedAt, IsJoinedLine, HasKid, StandsIn}
 use Rattle.lr_check_complete.specs.Pairs.{IsWider, ArePaired}
 use Rattle.lr_check_complete.proofs.Kids_found.{one_place}
 use Rattle.lr_check_complete.proofs.Both.{same_behind}
@@ -92,7 +90,8 @@ leaf_shown A f s found right row q list k is joined l there all n x at stands =
 -- the two kids of a place of the row
 pub both_shown : (A : Automaton) (f : FoundView) (s : Sheet) → IsFound A f → IsSheet s f → (row : Row) (q p set : ℕ) (k : Tok) (w v : Sort) (firsts : List Line) → IsRow s q k row →
     ArePaired s f row set firsts p w v → (n : ℕ) (x : Place) → IsPlaceAt f n x → StandsIn row x → BothIn A f n x p w v
-both_shown A f s found right row q p set k w v firsts is paired n x there stands = record { each = λ m may. record { places = λ t fit. place m may t fit; second = λ t u j fit sum ws. second m may t u j fit sum ws } }
+both_shown A f s found right row q p set k w v firsts is paired n x there stands =
+    record { each = λ m may. record { places = λ t fit. place m may t fit; second = λ t u j fit sum ws. second m may t u j fit sum ws } }
   where
     place : (m : Tok) → May m v → (t : Tok) → May t w → HasPlace f p t m
     place m may t fit =

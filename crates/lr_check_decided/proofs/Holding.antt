@@ -1,5 +1,5 @@
 -- Marks of calm classes as they are held.
-use Rattle.std.proofs.Common.{◌≡◌, ℕ, List, [], ◌∷◌, ◌++◌, Contains, sym, subst, inl, inr, ◌⊎◌, arith}
+use Rattle.std.proofs.Common.{◌≡◌, ℕ, List, [], ◌∷◌, ◌++◌, Contains, subst, inl, inr, ◌⊎◌, arith}
 use Rattle.lr_tables.proofs.Members.{In, In-cases, Contains-In, In-Contains}
 use Rattle.tree_core.specs.declared.token.Tok.{Tok}
 use Rattle.lr_check_sets.specs.Automaton.{Automaton}

@@ -26,4 +26,6 @@ loop-number-preserved c = record {
 }
 
 pub returns-clause-none : goal.returns-clause-none
-returns-clause-none c = λ i e x s at. c.loop-number.invariant.calm i (let lt = slice_get_within c.args.found.now.settlings i e at in omega (arith, lt, ap length c.settlings-number-end.ensures)) e x s at
+returns-clause-none c = λ i e x s at.
+    let lt = slice_get_within c.args.found.now.settlings i e at in
+    c.loop-number.invariant.calm i (omega (arith, lt, ap length c.settlings-number-end.ensures)) e x s at

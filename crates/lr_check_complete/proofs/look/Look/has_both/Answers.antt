@@ -1,7 +1,4 @@
-use Rattle.std.proofs.Common.{List, subst}
-use Rattle.lr_check_complete.specs.declared.sheet.Line.{Line}
 use Rattle.lr_check_complete.specs.Looks.{automaton}
-use Rattle.lr_check_complete.specs.Pairs.{ArePaired}
 use Rattle.lr_check_complete.proofs.Showing.{both_shown}
 use Rattle.lr_check_complete.proofs.look.Look.has_both.Goals as goal
 
