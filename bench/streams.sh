@@ -13,11 +13,13 @@ if command -v "${CC:-cc}" >/dev/null; then
 fi
 
 python3 - "$program" "$library" "$here/examples/vax.gg" "$work" <<'PY'
+import fcntl
 import os
 import resource
 import signal
 import subprocess
 import sys
+import termios
 import threading
 import time
 
@@ -53,8 +55,8 @@ def see(what, found, status, out="", report=""):
 
 
 def redirected(how, *words):
-    """The answer of a command whose streams the shell redirects; pipes whose reader left are no signals."""
-    return answer(["sh", "-c", f"trap '' PIPE; exec \"$@\" {how}", "sh", program, *words], timeout=60)
+    """The answer of a command whose streams the shell redirects."""
+    return answer(["sh", "-c", f'exec "$@" {how}', "sh", program, *words], timeout=60)
 
 
 RUN, CHECK, NONE = ("run", "hi.s", "7"), ("check", description), ("check", "none")
@@ -114,4 +116,135 @@ FILES = (
 for words, status, report in FILES:
     see(words, answer([program, *words], timeout=60), status, "", report)
 see("a name of two lines", answer([program, "run", "a name\nof two lines.s", "7"]), DONE, "Hi", ENDED)
+
+
+class Running:
+    """A command in the background, with pipes as its streams."""
+
+    def __init__(self, *words, **more):
+        pipes = {name: subprocess.PIPE for name in ("stdin", "stdout", "stderr")}
+        self.child = subprocess.Popen([program, *words], bufsize=0, **pipes, **more)
+
+    def feed(self, content, pause):
+        """Feeds the input a byte at a time."""
+        threading.Thread(target=slowly, args=(self.child.stdin, content, pause)).start()
+        self.child.stdin = None
+
+    def close(self):
+        """Ends the input."""
+        self.child.stdin.close()
+        self.child.stdin = None
+
+    def wait_until_full(self):
+        """Waits until the output's pipe holds all that it can, and long enough for the next write."""
+        held, room = bytearray(4), fcntl.fcntl(self.child.stdout, fcntl.F_GETPIPE_SZ)
+        while int.from_bytes(held, sys.byteorder) < room:
+            time.sleep(0.01)
+            fcntl.ioctl(self.child.stdout, termios.FIONREAD, held)
+        time.sleep(1)
+
+    def answer(self):
+        out, report = self.child.communicate(timeout=60)
+        return self.child.returncode, out, report
+
+
+def slowly(stream, content, pause):
+    for byte in content:
+        stream.write(bytes([byte]))
+        stream.flush()
+        time.sleep(pause)
+    stream.close()
+
+
+def without_reader(words):
+    """The answer of a command whose output's reader left before it began."""
+    reader, writer = os.pipe()
+    os.close(reader)
+    done = subprocess.run([program, *words], stdin=subprocess.DEVNULL, stdout=writer, stderr=subprocess.PIPE)
+    os.close(writer)
+    return done.returncode, b"", done.stderr
+
+
+def limited(words, length):
+    """The answer of a command whose output is a file that takes so many bytes, where no signal tells so."""
+
+    def limit():
+        signal.signal(signal.SIGXFSZ, signal.SIG_IGN)
+        resource.setrlimit(resource.RLIMIT_FSIZE, (length, length))
+
+    with open("limited", "wb") as out:
+        done = subprocess.run([program, *words], stdin=subprocess.DEVNULL, stdout=out, stderr=subprocess.PIPE, preexec_fn=limit)
+    with open("limited", "rb") as out:
+        return done.returncode, out.read(), done.stderr
+
+
+def through_pipe(content, *words, **more):
+    """The answer of a command that reads the content from a pipe in place of a file, a byte at a time."""
+    run = Running(*words, **more)
+    run.close()
+    time.sleep(0.1)
+    with open("pipe.s", "wb") as pipe:
+        slowly(pipe, content, 0.002)
+    return run.answer()
+
+
+# Pipes: without a reader, with one that leaves, and slow ones.
+see("no reader", without_reader(RUN), WRITE, "", FAILED)
+see("no reader, nothing written", without_reader(("run", "hi.s", "1")), SPENT, "", "spent 1\n")
+gone = Running("meaning", "many.c", "1000000")
+gone.close()
+gone.child.stdout.read(1)
+gone.child.stdout.close()
+gone.child.stdout = None
+see("the reader leaves", (gone.child.wait(60), b"", gone.child.stderr.read()), WRITE, "", FAILED)
+given = bytes(range(256))
+slow = Running("meaning", "echo.c", "1000")
+slow.feed(given, 0.001)
+see("a slow input", slow.answer(), DONE, given, ENDED)
+see("a slow file", through_pipe(HI.encode(), "run", "pipe.s", "7"), DONE, "Hi", ENDED)
+see("a slow file that ends early", through_pipe(HI[:72].encode(), "run", "pipe.s", "7"), CUT, "", "ggvax: line 7: Cut\n")
+
+# A file that takes so many bytes and no more: what is in it is a front.
+fronts = 0
+for words in (("image", "hi.s"), ("text", "hi.img"), RUN):
+    whole = answer([program, *words])
+    for length in range(len(whole[1])):
+        see(f"{words[0]}, {length} bytes", limited(words, length), WRITE, whole[1][:length], FAILED)
+        fronts += 1
+    see(f"{words[0]}, all bytes", limited(words, len(whole[1])), whole[0], whole[1], whole[2].decode())
+print(f"{fronts} outputs are full behind some bytes")
+
+if library:
+    preload = {"LD_PRELOAD": library}
+    # A file that is cut to nothing when some of its bytes were read counts as those.
+    for length in range(len(HI)):
+        put("shrinks.s", HI)
+        put("front.s", HI[:length])
+        found = answer([program, "run", "shrinks.s", "7"], env={"SHRINK": str(length), **preload})
+        status, out, report = answer([program, "run", "front.s", "7"])
+        see(f"a file shrinks behind {length} bytes", found, status, out, report.decode())
+    print(f"{len(HI)} files shrink while they are read")
+
+    # A signal every millisecond breaks off what waits: it is done again.
+    interrupted, counts = {"env": {"INTERRUPTED": "interrupted", **preload}}, []
+
+    def see_interrupted(what, found, out):
+        see(what, found, DONE, out, ENDED)
+        with open("interrupted") as file:
+            counts.append([int(count) for count in file.read().split()])
+
+    slow = Running("meaning", "echo.c", "1000", **interrupted)
+    slow.feed(given, 0.005)
+    see_interrupted("an input and signals", slow.answer(), given)
+    see_interrupted("a file and signals", through_pipe(HI.encode(), "run", "pipe.s", "7", **interrupted), "Hi")
+    full = Running("meaning", "many.c", "1000000", **interrupted)
+    full.close()
+    full.wait_until_full()
+    see_interrupted("an output and signals", full.answer(), bytes(65 + i % 26 for i in range(300000)))
+    opens, reads, writes = map(sum, zip(*counts))
+    print(f"signals broke off {opens} opens, {reads} reads and {writes} writes")
+    wrong += not (opens and reads and writes)
+
+print(f"{counted} answers, {wrong} wrong")
+sys.exit(1 if wrong else 0)
 PY
