@@ -65,10 +65,10 @@ class Done:
     """What a program left: its status, what it wrote and told, its processor seconds, and the most MiB that it held. It leaves files in
     the folder where it is run."""
 
-    def __init__(self, words, given=b""):
+    def __init__(self, words, given=b"", **more):
         put("given", given)
         with open("given", "rb") as given, open("written", "wb") as written, open("report", "wb") as report:
-            child = subprocess.Popen(words, stdin=given, stdout=written, stderr=report)
+            child = subprocess.Popen(words, stdin=given, stdout=written, stderr=report, **more)
             _, status, used = os.wait4(child.pid, 0)
         self.status = child.returncode = os.waitstatus_to_exitcode(status)
         self.written, self.report = open("written", "rb").read(), open("report", "rb").read()

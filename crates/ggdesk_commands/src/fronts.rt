@@ -60,7 +60,7 @@ fn stops(alloc: Global, text: &str, call: usize) -> Result<bool, AllocError> {
         matches!(written, Err(Status::WriteFault))
             && front.len() == call
             && text.as_bytes().starts_with(front)
-            && report.bytes() == b"ggvax: output failed\n",
+            && report.bytes() == b"ggvax: output failed\n".as_slice(),
     )
 }
 
