@@ -19,7 +19,7 @@ import resource
 import sys
 import time
 
-from common import PARTS, TAIL, Done, functions, listed, put, written
+from common import PARTS, Done, functions, listed, put, written
 from mutants import mutant
 
 program, here, work = sys.argv[1:4]
@@ -154,10 +154,10 @@ def seeds():
     examples = sorted(os.listdir(f"{here}/examples"))
     found = {"gg": [read(f"examples/{name}") for name in examples if name.endswith(".gg")] + [read("bench/reloads.gg")]}
     found["c"] = [read(f"examples/{name}") for name in examples if name.endswith(".c")]
-    found["c"] += [(part.format(n=0) + TAIL).encode() for part in PARTS] + [functions(5)[0].encode()]
+    found["c"] += [functions(1, parts=[part])[0].encode() for part in PARTS] + [functions(5)[0].encode()]
     found["s"], found["img"] = [], []
-    for source in found["c"]:
-        put("seed.c", source)
+    for name in ("hanoi.c", "printing.c", "queens.c", "wild.c"):
+        put("seed.c", read(f"examples/{name}"))
         found["s"].append(written([program, "compile", VAX, "seed.c"]))
     for text in found["s"]:
         put("seed.s", text)
