@@ -1,5 +1,6 @@
 // A source compiled by the shipped description, or by it with fewer registers, and run on both sides.
 
+use crate::fronts::stops_of;
 use crate::world::{SOURCE, TEXT, folder_of, put_file, ran, refusal};
 use cmd_check::{Accepted, read_accepted};
 use cmd_compile::text::text_of;
@@ -99,6 +100,17 @@ fn both(
         return Ok(run);
     }
     format!(in alloc; "{run}, by its meaning {meaning}")
+}
+
+/// How the writing of a source's text ends at each of its calls that fails, or how the source is refused.
+pub fn written_of(alloc: Global, opened: &Opened, source: &str) -> Result<String, AllocError> {
+    match &opened.accepted {
+        Ok(accepted) => match compiled(alloc, accepted, source)? {
+            Ok(text) => stops_of(alloc, text.as_str()),
+            Err(told) => Ok(told),
+        },
+        Err(told) => String::from_str(alloc, told.as_str()),
+    }
 }
 
 /// What both sides of a source leave behind, or how it is refused.

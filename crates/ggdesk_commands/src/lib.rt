@@ -3,4 +3,6 @@
 
 pub mod both;
 pub mod commands;
+pub mod fronts;
+pub mod large;
 pub mod world;

@@ -1,6 +1,7 @@
 // What a command finds in memory: files, an input, sinks, and the calls of each that fail.
 ghost use Rattle.std.specs.Prelude.{◌<◌};
 
+use crate::large::large_description;
 use cmd_meaning::run_source;
 use cmd_run::run_text;
 use cmd_session::Status;
@@ -9,6 +10,9 @@ use gg_base::{Bytes, Name};
 use gg_outside::{MemFile, MemFolder, MemSink, MemSource};
 use gg_texts::{M_GG, VAX_GG};
 use std::alloc::{AllocError, Global};
+
+/// The file of the large description.
+const LARGE: &str = "h";
 
 /// The files of the commands: the text and the source that both sides are told of.
 pub const TEXT: &str = "a.s";
@@ -84,7 +88,7 @@ pub fn ran(
 }
 
 /// What the folder, the input and the sinks of one call do: the numbers of their calls that fail, how many bytes a call takes, and the
-/// lengths up to which blanks are put behind the file `s` and the input.
+/// lengths up to which a byte, else a blank, is put behind the file `s` and the input.
 #[derive(Drop)]
 pub struct World {
     folder: Vec<u64>,
@@ -94,6 +98,7 @@ pub struct World {
     most: usize,
     file_length: usize,
     input_length: usize,
+    fill: u8,
 }
 
 // The number behind the name of a mark and `=`.
@@ -104,7 +109,7 @@ fn numbered(mark: &str) -> Option<(&str, u32)> {
 
 impl World {
     /// The world of marks between blanks: `folder=N`, `input=N`, `out=N` and `report=N` are calls that fail, counted from 0; `most=N` is
-    /// how many bytes a call takes, else one; `file=N` and `given=N` are lengths.
+    /// how many bytes a call takes, else one; `file=N` and `given=N` are lengths, and `fill=N` is the byte up to them.
     pub fn of(alloc: Global, marks: &str) -> Result<World, AllocError> {
         let mut world = World {
             folder: Vec::new(alloc),
@@ -114,6 +119,7 @@ impl World {
             most: 1,
             file_length: 0,
             input_length: 0,
+            fill: b' ',
         };
         for mark in marks.split(' ') {
             match numbered(mark) {
@@ -124,6 +130,7 @@ impl World {
                 Some(("most", count)) => world.most = count as usize,
                 Some(("file", length)) => world.file_length = length as usize,
                 Some(("given", length)) => world.input_length = length as usize,
+                Some(("fill", byte)) => world.fill = byte as u8,
                 _ => {}
             }
         }
@@ -131,11 +138,11 @@ impl World {
     }
 }
 
-// The bytes of a text, with blanks behind them up to that length.
-fn padded(alloc: Global, text: &str, length: usize) -> Result<Vec<u8>, AllocError> {
+// The bytes of a text, with a byte behind them up to that length.
+fn padded(alloc: Global, text: &str, length: usize, fill: u8) -> Result<Vec<u8>, AllocError> {
     let mut bytes = Vec::from_slice(alloc, text.as_bytes())?;
     if bytes.len() < length {
-        bytes.resize(length, b' ')?;
+        bytes.resize(length, fill)?;
     }
     Ok(bytes)
 }
@@ -172,13 +179,17 @@ fn shown(alloc: Global, bytes: &[u8]) -> Result<String, AllocError> {
         .collect(alloc)
 }
 
-// The files of the whole program's folder: the shipped description, the small one, and the file of a row.
-fn files_of(alloc: Global, file: &str, length: usize) -> Result<Vec<MemFile>, AllocError> {
-    let bytes = padded(alloc, file, length)?;
+// The files of the whole program's folder: the shipped description, the small one, and the file of a row; the large one, where its first
+// file is asked for by that name.
+fn files_of(alloc: Global, words: &[String], file: &[u8]) -> Result<Vec<MemFile>, AllocError> {
     let mut files = Vec::new(alloc);
     put_file(alloc, &mut files, "d", VAX_GG.as_bytes())?;
     put_file(alloc, &mut files, "m", M_GG.as_bytes())?;
-    put_file(alloc, &mut files, "s", bytes.as_slice())?;
+    put_file(alloc, &mut files, "s", file)?;
+    if words.get(1).is_some_and(|name| name.as_str() == LARGE) {
+        let large = large_description(alloc)?;
+        put_file(alloc, &mut files, LARGE, large.as_bytes())?;
+    }
     Ok(files)
 }
 
@@ -195,7 +206,7 @@ fn left_on_a_line(
 }
 
 /// What the whole program leaves behind: its status, what its output gained, a bar, and what its report gained. The folder has the
-/// shipped description as `d`, the small one as `m`, and the file `s`.
+/// shipped description as `d`, the small one as `m`, the large one as `h`, and the file `s`.
 pub fn called(
     alloc: Global,
     words: &str,
@@ -204,8 +215,9 @@ pub fn called(
     world: World,
 ) -> Result<String, AllocError> {
     let words = words_of(alloc, words)?;
-    let files = files_of(alloc, file, world.file_length)?;
-    let given = padded(alloc, input, world.input_length)?;
+    let bytes = padded(alloc, file, world.file_length, world.fill)?;
+    let files = files_of(alloc, words.as_slice(), bytes.as_slice())?;
+    let given = padded(alloc, input, world.input_length, world.fill)?;
     let most = at_least_one(world.most);
     let mut folder = MemFolder::new(alloc, files, world.folder);
     let mut input = MemSource::new(given, most, world.input);
