@@ -41,7 +41,7 @@ program, plain, generator, work, examples = sys.argv[1:6]
 texts, changed, first_seed, long = (int(word) for word in sys.argv[6:10])
 DONE, FRAME_FULL, NO_IMAGE = 0, 14, 23
 CHANGED_MOST = 4096  # images of up to so many bytes are changed
-ROOM = 65_536  # KiB of memory in which a changed image is read
+ROOM = 8192  # KiB of memory in which a changed image is read
 BATCH = 1000
 HEAD = "\t.data\n\t.text\n\t.globl\t_main\n_main:\n\t.word\t0\n"
 os.chdir(work)
