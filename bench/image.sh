@@ -1,8 +1,8 @@
 #!/bin/sh
-# Compares `ggvax image` and `ggvax text` with a plain Rust program: the images of generated texts and of compiled programs byte for byte,
-# and whether each is read back as its text; and what is said of changed images: that they are none, or the one text whose image they are.
-# Without the plain program it tells how long the images of examples/ are, how long a long text and chains of branches take, of which each
-# lengthens the one before it, and what a count of what isn't there costs.
+# Compares `ggvax image`, `ggvax text` and `ggdesk images` with a plain Rust program: the images of generated texts and of compiled programs
+# byte for byte, and whether each is read back as its text; and what is said of changed images: that they are none, or the one text whose
+# image they are. Without the plain program it tells how long the images of examples/ are, how long a long text and chains of branches take,
+# of which each lengthens the one before it, and what a count of what isn't there costs.
 # Usage: bench/image.sh [TEXTS [CHANGED [SEED [MEBIBYTES]]]]; TEXTS (default 2000) generated texts and as many compiled programs from the
 # seed SEED (default 1) on, CHANGED (default 200000) changed images of them, and a long text of MEBIBYTES (default 64) MiB.
 # VAX_REFERENCE names the folder of the plain program, a Cargo project whose commands are `image A`, `text I`, `gentext S`, `gensim S` and
@@ -17,9 +17,14 @@ long=${4:-64}
 
 program=$(program_of ggvax)
 [ -n "$program" ] || skip "BUILT names a folder without ggvax"
-plain=$(plain_of "${VAX_REFERENCE:-}")
-if [ -n "$plain" ]; then
-    mv "$plain" "$work/images"
+desk=$(program_of ggdesk)
+[ -n "$desk" ] || echo "there is no ggdesk: no changed image is read"
+plain=
+if copy_plain "${VAX_REFERENCE:-}"; then
+    # The plain program gets a command that answers rows of bytes.
+    cp "$here/bench/image_rows.rs" "$work/plain/src/rows.rs"
+    sed -i 's/^mod text;$/mod rows;\n&/; s/^ *\["echo", a\] => .*$/["rows"] => text_done(rows::answers()),\n&/' "$work/plain/src/main.rs"
+    mv "$(build_plain)" "$work/images"
     plain=$work/images
     rm -rf "$work/plain" "$work/target"
 else
@@ -28,21 +33,22 @@ fi
 generator=$(plain_of "${C_REFERENCE:-}")
 [ -n "$generator" ] || echo "C_REFERENCE names no folder of a generator: no program is compiled"
 
-python3 - "$program" "$plain" "$generator" "$work" "$here/examples" "$texts" "$changed" "$seed" "$long" <<'PY'
+python3 - "$program" "$desk" "$plain" "$generator" "$work" "$here/examples" "$texts" "$changed" "$seed" "$long" <<'PY'
 import glob
 import os
 import random
+import subprocess
 import sys
 from concurrent.futures import ThreadPoolExecutor
 
-from common import Done, answer, put, written
+from common import Done, answer, answered, put, written
 
-program, plain, generator, work, examples = sys.argv[1:6]
-texts, changed, first_seed, long = (int(word) for word in sys.argv[6:10])
+program, desk, plain, generator, work, examples = sys.argv[1:7]
+texts, changed, first_seed, long = (int(word) for word in sys.argv[7:11])
 DONE, FRAME_FULL, NO_IMAGE = 0, 14, 23
 CHANGED_MOST = 4096  # images of up to so many bytes are changed
-ROOM = 8192  # KiB of memory in which a changed image is read
-BATCH = 1000
+ROOM = 8192  # KiB of memory in which the command reads a changed image
+BATCH = 1000  # of which the command reads the first alone, and those that are images
 HEAD = "\t.data\n\t.text\n\t.globl\t_main\n_main:\n\t.word\t0\n"
 os.chdir(work)
 chance = random.Random(first_seed)
@@ -155,40 +161,53 @@ def change(image, others):
     return bytes(image)
 
 
-def changed_image(turn):
-    return f"changed{turn}", change(chance.choice(pool), pool)
+def with_input(words, given):
+    return subprocess.run(words, input=given, stdout=subprocess.PIPE, check=True).stdout.decode("latin-1")
 
 
-taken = []
-
-
-def judge_image(named):
-    """What is wrong with the answers about a changed image, or nothing. It is read in little memory."""
-    name, image = named
-    path = f"{name}.img"
-    put(path, image)
-    mine = answer(["sh", "-c", f'ulimit -v {ROOM} && exec "$0" text "$1"', program, path])
-    wanted = answer([plain, "text", path])
-    if mine != wanted or mine[0] not in (DONE, NO_IMAGE):
-        return f"{image.hex()}: {mine[0]} {mine[2]!r}, wanted {wanted[0]} {wanted[2]!r}"
-    os.remove(path)
-    if mine[0] == NO_IMAGE:
-        return None
-    taken.append(name)
-    put(f"{name}.s", mine[1])
+def judge_changed(name, image, told):
+    """What is wrong with the command's answer about a changed image of which this is told, or nothing. It is read in little memory, and an
+    image's text has that image."""
+    put(f"{name}.img", image)
+    status, text, report = answer(["sh", "-c", f'ulimit -v {ROOM} && exec "$0" text "$1"', program, f"{name}.img"])
+    os.remove(f"{name}.img")
+    if status == NO_IMAGE:
+        return None if told == "no image" else f"{image.hex()}: {report!r}, wanted {told}"
+    if status != DONE or told != text.decode().replace("\t", "~").replace("\n", "|"):
+        return f"{image.hex()}: {status} {report!r}, wanted {told}"
+    put(f"{name}.s", text)
     again = answer([program, "image", f"{name}.s"])
     os.remove(f"{name}.s")
     return None if again == (DONE, image, b"") else f"{image.hex()}: the image of its text is another one"
+
+
+def compare_changed():
+    """Compares what is told of changed images; the command reads some of them."""
+    wrong, read, images = 0, 0, 0
+    with ThreadPoolExecutor(os.cpu_count()) as threads:
+        for begin in range(0, changed, BATCH):
+            some = [change(chance.choice(pool), pool) for _ in range(min(BATCH, changed - begin))]
+            rows = "".join(f"bytes {image.hex()}\n" for image in some).encode()
+            mine, wanted = answered(desk, "images", rows), with_input([plain, "rows"], rows)
+            pairs = list(zip(mine.splitlines(), wanted.splitlines(), strict=True))
+            told = [line.rpartition(" -> ")[2] for _, line in pairs]
+            asked = [at for at, text in enumerate(told) if at == 0 or text != "no image"]
+            lines = list(threads.map(lambda at: judge_changed(f"changed{at}", some[at], told[at]), asked))
+            lines += [f"{line}, wanted {text}" for line, text in pairs if line != text]
+            read, images = read + len(asked), images + sum(text != "no image" for text in told)
+            wrong += sum(line is not None for line in lines)
+            for line in [line for line in lines if line][:3]:
+                print(line[-2000:])
+    print(f"{changed} changed images, of which {images} are images: {wrong} differ;", end=" ")
+    print(f"the command read {read} of them, in {ROOM // 1024} MiB each", flush=True)
+    return wrong
 
 
 def compare():
     wrong = tell("generated texts", in_batches(texts, generated, judge_text))
     if generator:
         wrong += tell("compiled programs", in_batches(texts, words_of, judge_program))
-    if pool:
-        wrong += tell(f"changed images, each read in {ROOM // 1024} MiB", in_batches(changed, changed_image, judge_image))
-        print(f"{len(taken)} of them are images", flush=True)
-    return wrong
+    return wrong + (compare_changed() if pool and desk else 0)
 
 
 # Long texts.
@@ -244,9 +263,9 @@ def measure(name, text, rounds=1):
 
 
 def compare_long():
-    """A long text takes about as long as its reading, and a chain twice as long takes about twice the time."""
+    """The image of a long text takes at most three times its reading and loading, and a chain twice as long at most three times as long."""
     _, ratio = measure(f"text of {long} MiB", ordinary(long * 1_048_576))
-    slow = ratio > 4
+    slow = ratio > 3
     for name, made in (("forward", forward), ("backward", backward)):
         for count, link, reach, own in ((20_000, 100, 127, 2), (150, 20_000, 32_767, 3)):
             half, _ = measure(f"{count // 2} branches {name} of {reach} bytes", made(count // 2, link, reach, own))
