@@ -165,11 +165,16 @@ def with_input(words, given):
     return subprocess.run(words, input=given, stdout=subprocess.PIPE, check=True).stdout.decode("latin-1")
 
 
+def read_within(room, path):
+    """The command's answer about an image, in so many KiB of memory."""
+    return answer(["sh", "-c", f'ulimit -v {room} && exec "$0" text "$1"', program, path])
+
+
 def judge_changed(name, image, told):
     """What is wrong with the command's answer about a changed image of which this is told, or nothing. It is read in little memory, and an
     image's text has that image."""
     put(f"{name}.img", image)
-    status, text, report = answer(["sh", "-c", f'ulimit -v {ROOM} && exec "$0" text "$1"', program, f"{name}.img"])
+    status, text, report = read_within(ROOM, f"{name}.img")
     os.remove(f"{name}.img")
     if status == NO_IMAGE:
         return None if told == "no image" else f"{image.hex()}: {report!r}, wanted {told}"
@@ -276,20 +281,19 @@ def compare_long():
 
 
 def compare_counts():
-    """A count of what isn't there takes no more memory than what is there."""
+    """A count of what isn't there takes no more memory than what is there: each such image is refused in eight times its length."""
     put("counts.s", ordinary(4 * 1_048_576))
-    image = Done([program, "image", "counts.s"]).written
-    put("counts.img", image)
-    whole = Done([program, "text", "counts.img"]).peak
-    print(f"an image of {len(image):,} bytes is read in {whole:.0f} MiB;", end=" ")
-    peaks = []
+    image = written([program, "image", "counts.s"])
+    room = 4096 + 8 * len(image) // 1024
+    wrong = 0
     for place in counts_of(image):
         put("counts.img", image[:place] + b"\xff" * 4 + image[place + 4 :])
-        done = Done([program, "text", "counts.img"])
-        assert done.status == NO_IMAGE, (done.status, done.report)
-        peaks.append(done.peak)
-    print(f"with a count of 4,294,967,295 {', '.join(f'{peak:.0f}' for peak in peaks)} MiB", flush=True)
-    return max(peaks) > 1.1 * whole
+        status, _, report = read_within(room, "counts.img")
+        if status != NO_IMAGE:
+            wrong += 1
+            print(f"a count of 4,294,967,295 at {place} of {len(image)} bytes: {status} {report!r}")
+    print(f"4 counts of 4,294,967,295 in an image of {len(image):,} bytes, each read in {room:,} KiB: {wrong} differ", flush=True)
+    return wrong
 
 
 def tell_examples():
@@ -302,7 +306,7 @@ def tell_examples():
 
 
 tell_examples()
-wrong = compare() if plain else 0
-slow = compare_counts() | compare_long()
+wrong = compare_counts() + (compare() if plain else 0)
+slow = compare_long()
 sys.exit(1 if wrong or slow else 0)
 PY
