@@ -7,6 +7,8 @@ pub enum Subject {
     Syntax,
     /// Assembly texts: what they hold or their first wrong line, and whether they are written back byte for byte.
     Assembly,
+    /// Binary images: those of texts, and the texts of those that bytes are.
+    Images,
     /// Texts on the machine: instructions at their edges, operands, and each way to end.
     Machine,
     /// Terms with their normal forms, and rules with the effects of their patterns.
@@ -28,9 +30,10 @@ pub enum Subject {
 }
 
 /// The subjects with their names.
-pub static SUBJECTS: [(&str, Subject); 11] = [
+pub static SUBJECTS: [(&str, Subject); 12] = [
     ("syntax", Subject::Syntax),
     ("assembly", Subject::Assembly),
+    ("images", Subject::Images),
     ("machine", Subject::Machine),
     ("terms", Subject::Terms),
     ("trees", Subject::Trees),
