@@ -59,6 +59,7 @@ impl From<AsmFault> for Refusal {
 
 /// Runs the passes of these names, one after another, over the code whose text the bytes are. What is written is the text of a code that
 /// behaves as that one does, whatever passes these are.
+#[tactic(auto, using(crate::proofs::Rewriting::rewritten))]
 pub fn rewrite_text(alloc: Global, names: &[String], bytes: &[u8]) -> Result<Rewritten, Refusal>
     ensures { IfOk result (λ r. IsRewritten bytes.now (string_bytes r.text)) }
 {
