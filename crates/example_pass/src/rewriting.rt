@@ -81,6 +81,9 @@ pub fn rewrite_text(alloc: Global, names: &[String], bytes: &[u8]) -> Result<Rew
     let code = run_passes(&mut passes, code)?;
     let mut text = String::new(alloc);
     write_code(&code, &mut text)?;
-    let changes = passes.iter().map(|pass| pass.changes()).collect(alloc)?;
+    let mut changes = Vec::new(alloc);
+    for pass in &passes {
+        changes.push(pass.changes())?;
+    }
     Ok(Rewritten { text, changes })
 }
