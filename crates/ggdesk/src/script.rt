@@ -7,6 +7,7 @@ use ggdesk_commands::commands::answer_commands;
 use ggdesk_images::images::answer_images;
 use ggdesk_machine::assembly::answer_assembly;
 use ggdesk_machine::machine::answer_machine;
+use ggdesk_passes::passes::answer_passes;
 use ggdesk_rules::check::answer_checks;
 use ggdesk_rules::tables::answer_tables;
 use ggdesk_rules::templates::answer_templates;
@@ -28,6 +29,7 @@ fn answer_rows(
         Subject::Assembly => answer_assembly(alloc, rows, told),
         Subject::Images => answer_images(alloc, rows, told),
         Subject::Machine => answer_machine(alloc, rows, told),
+        Subject::Passes => answer_passes(alloc, rows, told),
         Subject::Terms => answer_terms(alloc, rows, told),
         Subject::Trees => answer_trees(alloc, rows, told),
         Subject::Types => answer_types(alloc, rows, told),

@@ -11,6 +11,8 @@ pub enum Subject {
     Images,
     /// Texts on the machine: instructions at their edges, operands, and each way to end.
     Machine,
+    /// Lists of passes over assembly texts: what they lead to, and how many changes each has made.
+    Passes,
     /// Terms with their normal forms, and rules with the effects of their patterns.
     Terms,
     /// Trees and programs of trees: whether they are well typed or valid, and how they run.
@@ -30,11 +32,12 @@ pub enum Subject {
 }
 
 /// The subjects with their names.
-pub static SUBJECTS: [(&str, Subject); 12] = [
+pub static SUBJECTS: [(&str, Subject); 13] = [
     ("syntax", Subject::Syntax),
     ("assembly", Subject::Assembly),
     ("images", Subject::Images),
     ("machine", Subject::Machine),
+    ("passes", Subject::Passes),
     ("terms", Subject::Terms),
     ("trees", Subject::Trees),
     ("types", Subject::Types),
