@@ -72,7 +72,7 @@ SOURCES = {
     "one function of loops": statements("while(a>5)if(a<9)a--;else break;"),
     "one function of calls in conditions": statements("if(f(a)&&f(2)||x)a=f(a)?f(3):4;"),
     "one expression": source(itertools.repeat("+1"), "int main(){return 1", ";}\n"),
-    "one initialiser": source(itertools.repeat("1,"), "int a[]={", "1};int main(){return a[3];}\n"),
+    "one initialiser": source(itertools.repeat("1,"), "char a[]={", "1};int main(){return a[3];}\n"),
     "one literal": source(itertools.repeat("a"), 'char a[]="', '";int main(){return a[3];}\n'),
     "one name over its length": source(itertools.repeat("a"), "int ", ";int main(){return 0;}\n"),
     "10,000 globals": source(
