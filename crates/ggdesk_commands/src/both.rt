@@ -60,7 +60,8 @@ fn written(
     source: &SourceText,
 ) -> Result<Result<String, String>, AllocError> {
     let mut report = MemSink::new(alloc, 1, Vec::new(alloc));
-    match text_of(alloc, accepted, source.program(), &mut report) {
+    let mut passes = Vec::new(alloc);
+    match text_of(alloc, accepted, source.program(), &mut passes, &mut report) {
         Ok(text) => Ok(Ok(text)),
         Err(status) => Ok(Err(refusal(alloc, status, &report)?)),
     }

@@ -9,6 +9,8 @@ use gg_base::{Bytes, Name};
 use gg_outside::{MemFile, MemFolder, MemSink, MemSource};
 use gg_texts::{M_GG, VAX_GG};
 use std::alloc::{AllocError, Global};
+use vax_codes::{JumpChain, NeedlessTest};
+use vax_passes::{DeadTail, NextJump, Pass};
 
 /// The files of the commands: the text and the source that both sides are told of.
 pub const TEXT: &str = "a.s";
@@ -83,8 +85,8 @@ pub fn ran(
     left(alloc, status, &out, &report)
 }
 
-/// What the folder, the input and the sinks of one call do: the numbers of their calls that fail, how many bytes a call takes, and the
-/// lengths up to which blanks are put behind the file `s` and the input.
+/// What the folder, the input and the sinks of one call do: the numbers of their calls that fail, how many bytes a call takes, the
+/// lengths up to which blanks are put behind the file `s` and the input, and the passes that the call is given.
 #[derive(Drop)]
 pub struct World {
     folder: Vec<u64>,
@@ -94,6 +96,7 @@ pub struct World {
     most: usize,
     file_length: usize,
     input_length: usize,
+    passes: Vec<Box<dyn Pass>>,
 }
 
 // The number behind the name of a mark and `=`.
@@ -102,9 +105,22 @@ fn numbered(mark: &str) -> Option<(&str, u32)> {
     Some((name, number.parse::<u32>().ok()?))
 }
 
+// Adds the pass of that name, if it is one.
+fn put_pass(alloc: Global, passes: &mut Vec<Box<dyn Pass>>, name: &str) -> Result<(), AllocError> {
+    match name {
+        "chain" => passes.push(Box::new(alloc, JumpChain::new(alloc))?)?,
+        "next" => passes.push(Box::new(alloc, NextJump::new(alloc))?)?,
+        "dead" => passes.push(Box::new(alloc, DeadTail::new(alloc))?)?,
+        "test" => passes.push(Box::new(alloc, NeedlessTest::new(alloc))?)?,
+        _ => {}
+    }
+    Ok(())
+}
+
 impl World {
     /// The world of marks between blanks: `folder=N`, `input=N`, `out=N` and `report=N` are calls that fail, counted from 0; `most=N` is
-    /// how many bytes a call takes, else one; `file=N` and `given=N` are lengths.
+    /// how many bytes a call takes, else one; `file=N` and `given=N` are lengths; `chain`, `next`, `dead` and
+    /// `test` are the passes `JumpChain`, `NextJump`, `DeadTail` and `NeedlessTest`, in the order of the call's list.
     pub fn of(alloc: Global, marks: &str) -> Result<World, AllocError> {
         let mut world = World {
             folder: Vec::new(alloc),
@@ -114,6 +130,7 @@ impl World {
             most: 1,
             file_length: 0,
             input_length: 0,
+            passes: Vec::new(alloc),
         };
         for mark in marks.split(' ') {
             match numbered(mark) {
@@ -124,7 +141,8 @@ impl World {
                 Some(("most", count)) => world.most = count as usize,
                 Some(("file", length)) => world.file_length = length as usize,
                 Some(("given", length)) => world.input_length = length as usize,
-                _ => {}
+                Some(_) => {}
+                None => put_pass(alloc, &mut world.passes, mark)?,
             }
         }
         Ok(world)
@@ -211,6 +229,7 @@ pub fn called(
     let mut input = MemSource::new(given, most, world.input);
     let mut out = MemSink::new(alloc, most, world.out);
     let mut report = MemSink::new(alloc, most, world.report);
+    let mut passes = world.passes;
     let status = ggvax(
         alloc,
         words.as_slice(),
@@ -218,6 +237,7 @@ pub fn called(
         &mut input,
         &mut out,
         &mut report,
+        &mut passes,
     );
     left_on_a_line(alloc, status, &out, &report)
 }
