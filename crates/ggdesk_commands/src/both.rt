@@ -1,6 +1,6 @@
 // A source compiled by the shipped description, or by it with fewer registers, and run on both sides.
 
-use crate::world::{SOURCE, TEXT, folder_of, put_file, ran, refusal};
+use crate::world::{SOURCE, TEXT, World, call, folder_of, put_file, ran, refusal};
 use cmd_check::{Accepted, read_accepted};
 use cmd_compile::text::text_of;
 use cmd_files::read_file;
@@ -85,13 +85,13 @@ fn compiled(
 // What the text and the source leave behind.
 fn both(
     alloc: Global,
-    text: &str,
+    text: &[u8],
     source: &str,
     count: u64,
     input: &str,
 ) -> Result<String, AllocError> {
     let mut files = Vec::new(alloc);
-    put_file(alloc, &mut files, TEXT, text.as_bytes())?;
+    put_file(alloc, &mut files, TEXT, text)?;
     put_file(alloc, &mut files, SOURCE, source.as_bytes())?;
     let mut folder = MemFolder::new(alloc, files, Vec::new(alloc));
     let run = ran(alloc, &mut folder, true, count, input)?;
@@ -112,9 +112,24 @@ pub fn told_of(
 ) -> Result<String, AllocError> {
     match &opened.accepted {
         Ok(accepted) => match compiled(alloc, accepted, source)? {
-            Ok(text) => both(alloc, text.as_str(), source, count, input),
+            Ok(text) => both(alloc, text.as_bytes(), source, count, input),
             Err(told) => Ok(told),
         },
         Err(told) => String::from_str(alloc, told.as_str()),
+    }
+}
+
+/// What both sides of a source leave behind, the text being what `compile` writes in that world; or how the source is refused.
+pub fn told_by(
+    alloc: Global,
+    world: World,
+    source: &str,
+    count: u64,
+    input: &str,
+) -> Result<String, AllocError> {
+    let left = call(alloc, "compile,d,s", source, "", world)?;
+    match left.status {
+        Status::Done => both(alloc, left.out.bytes(), source, count, input),
+        status => refusal(alloc, status, &left.report),
     }
 }

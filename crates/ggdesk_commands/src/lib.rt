@@ -3,4 +3,5 @@
 
 pub mod both;
 pub mod commands;
+pub mod passes;
 pub mod world;

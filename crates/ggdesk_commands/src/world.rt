@@ -1,6 +1,7 @@
 // What a command finds in memory: files, an input, sinks, and the calls of each that fail.
 ghost use Rattle.std.specs.Prelude.{◌<◌};
 
+use crate::passes::{Counted, PassName, Refusing, Twice};
 use cmd_meaning::run_source;
 use cmd_run::run_text;
 use cmd_session::Status;
@@ -86,7 +87,7 @@ pub fn ran(
 }
 
 /// What the folder, the input and the sinks of one call do: the numbers of their calls that fail, how many bytes a call takes, the
-/// lengths up to which blanks are put behind the file `s` and the input, and the passes that the call is given.
+/// lengths up to which blanks are put behind the file `s` and the input, and the passes that it is given, in order.
 #[derive(Drop)]
 pub struct World {
     folder: Vec<u64>,
@@ -96,7 +97,7 @@ pub struct World {
     most: usize,
     file_length: usize,
     input_length: usize,
-    passes: Vec<Box<dyn Pass>>,
+    passes: Vec<PassName>,
 }
 
 // The number behind the name of a mark and `=`.
@@ -105,22 +106,10 @@ fn numbered(mark: &str) -> Option<(&str, u32)> {
     Some((name, number.parse::<u32>().ok()?))
 }
 
-// Adds the pass of that name, if it is one.
-fn put_pass(alloc: Global, passes: &mut Vec<Box<dyn Pass>>, name: &str) -> Result<(), AllocError> {
-    match name {
-        "chain" => passes.push(Box::new(alloc, JumpChain::new(alloc))?)?,
-        "next" => passes.push(Box::new(alloc, NextJump::new(alloc))?)?,
-        "dead" => passes.push(Box::new(alloc, DeadTail::new(alloc))?)?,
-        "test" => passes.push(Box::new(alloc, NeedlessTest::new(alloc))?)?,
-        _ => {}
-    }
-    Ok(())
-}
-
 impl World {
     /// The world of marks between blanks: `folder=N`, `input=N`, `out=N` and `report=N` are calls that fail, counted from 0; `most=N` is
-    /// how many bytes a call takes, else one; `file=N` and `given=N` are lengths; `chain`, `next`, `dead` and
-    /// `test` are the passes `JumpChain`, `NextJump`, `DeadTail` and `NeedlessTest`, in the order of the call's list.
+    /// how many bytes a call takes, else one; `file=N` and `given=N` are lengths. Each of `chain`, `next`, `dead`, `test`, `twice`,
+    /// `counted=N` and `refusing=N` is a pass, as `PassName` says.
     pub fn of(alloc: Global, marks: &str) -> Result<World, AllocError> {
         let mut world = World {
             folder: Vec::new(alloc),
@@ -141,8 +130,14 @@ impl World {
                 Some(("most", count)) => world.most = count as usize,
                 Some(("file", length)) => world.file_length = length as usize,
                 Some(("given", length)) => world.input_length = length as usize,
+                Some(("counted", changes)) => world.passes.push(PassName::Counted(changes))?,
+                Some(("refusing", calls)) => world.passes.push(PassName::Refusing(calls))?,
                 Some(_) => {}
-                None => put_pass(alloc, &mut world.passes, mark)?,
+                None => {
+                    if let Some(name) = PassName::of(mark) {
+                        world.passes.push(name)?;
+                    }
+                }
             }
         }
         Ok(world)
@@ -200,27 +195,22 @@ fn files_of(alloc: Global, file: &str, length: usize) -> Result<Vec<MemFile>, Al
     Ok(files)
 }
 
-// A status, what was written, a bar, and what was told, on one line.
-fn left_on_a_line(
-    alloc: Global,
-    status: Status,
-    out: &MemSink,
-    report: &MemSink,
-) -> Result<String, AllocError> {
-    let out = shown(alloc, out.bytes())?;
-    let report = shown(alloc, report.bytes())?;
-    format!(in alloc; "{} {out}|{report}", status as u8)
+/// What one call of the whole program left: its status, its output and its report.
+#[derive(Drop)]
+pub struct Left {
+    pub status: Status,
+    pub out: MemSink,
+    pub report: MemSink,
 }
 
-/// What the whole program leaves behind: its status, what its output gained, a bar, and what its report gained. The folder has the
-/// shipped description as `d`, the small one as `m`, and the file `s`.
-pub fn called(
+/// Calls the whole program. The folder has the shipped description as `d`, the small one as `m`, and the file `s`.
+pub fn call(
     alloc: Global,
     words: &str,
     file: &str,
     input: &str,
     world: World,
-) -> Result<String, AllocError> {
+) -> Result<Left, AllocError> {
     let words = words_of(alloc, words)?;
     let files = files_of(alloc, file, world.file_length)?;
     let given = padded(alloc, input, world.input_length)?;
@@ -229,7 +219,24 @@ pub fn called(
     let mut input = MemSource::new(given, most, world.input);
     let mut out = MemSink::new(alloc, most, world.out);
     let mut report = MemSink::new(alloc, most, world.report);
-    let mut passes = world.passes;
+    let mut passes: Vec<Box<dyn Pass>> = Vec::new(alloc);
+    for name in world.passes {
+        match name {
+            PassName::Chain => passes.push(Box::new(alloc, JumpChain::new(alloc))?)?,
+            PassName::Next => passes.push(Box::new(alloc, NextJump::new(alloc))?)?,
+            PassName::Dead => passes.push(Box::new(alloc, DeadTail::new(alloc))?)?,
+            PassName::Test => passes.push(Box::new(alloc, NeedlessTest::new(alloc))?)?,
+            PassName::Twice => {
+                let next = NextJump::new(alloc);
+                passes.push(Box::new(alloc, Twice::new(next))?)?;
+            }
+            PassName::Counted(changes) => {
+                let counted = Counted::new(u64::from(changes));
+                passes.push(Box::new(alloc, counted)?)?;
+            }
+            PassName::Refusing(calls) => passes.push(Box::new(alloc, Refusing::new(calls))?)?,
+        }
+    }
     let status = ggvax(
         alloc,
         words.as_slice(),
@@ -239,7 +246,25 @@ pub fn called(
         &mut report,
         &mut passes,
     );
-    left_on_a_line(alloc, status, &out, &report)
+    Ok(Left {
+        status,
+        out,
+        report,
+    })
+}
+
+/// What the whole program leaves behind: its status, what its output gained, a bar, and what its report gained.
+pub fn called(
+    alloc: Global,
+    words: &str,
+    file: &str,
+    input: &str,
+    world: World,
+) -> Result<String, AllocError> {
+    let left = call(alloc, words, file, input, world)?;
+    let out = shown(alloc, left.out.bytes())?;
+    let report = shown(alloc, left.report.bytes())?;
+    format!(in alloc; "{} {out}|{report}", left.status as u8)
 }
 
 /// A status and what was told with it.

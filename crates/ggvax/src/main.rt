@@ -5,7 +5,6 @@ use cmd_session::Status;
 use cmd_top::ggvax;
 use gg_base::NoMemory;
 use gg_outside::{StdFolder, StdSink, StdSource};
-use std::alloc::Global;
 use std::env;
 use std::io::ErrorKind;
 use std::process::ExitCode;
@@ -21,16 +20,6 @@ fn command_words(rt: HostRuntime) -> Result<Vec<String>, NoMemory> {
     }
 }
 
-// The passes that the program runs, in this order.
-fn shipped_passes(alloc: Global) -> Result<Vec<Box<dyn Pass>>, NoMemory> {
-    let mut passes: Vec<Box<dyn Pass>> = Vec::new(alloc);
-    passes.push(Box::new(alloc, JumpChain::new(alloc))?)?;
-    passes.push(Box::new(alloc, NextJump::new(alloc))?)?;
-    passes.push(Box::new(alloc, DeadTail::new(alloc))?)?;
-    passes.push(Box::new(alloc, NeedlessTest::new(alloc))?)?;
-    Ok(passes)
-}
-
 fn run(rt: HostRuntime) -> Result<Status, NoMemory> {
     let alloc = rt.alloc();
     let words = command_words(rt)?;
@@ -38,7 +27,11 @@ fn run(rt: HostRuntime) -> Result<Status, NoMemory> {
     let mut input = StdSource::new(rt)?;
     let mut out = StdSink::out(rt)?;
     let mut report = StdSink::err(rt)?;
-    let mut passes = shipped_passes(alloc)?;
+    let mut passes: Vec<Box<dyn Pass>> = Vec::new(alloc);
+    passes.push(Box::new(alloc, JumpChain::new(alloc))?)?;
+    passes.push(Box::new(alloc, NextJump::new(alloc))?)?;
+    passes.push(Box::new(alloc, DeadTail::new(alloc))?)?;
+    passes.push(Box::new(alloc, NeedlessTest::new(alloc))?)?;
     Ok(ggvax(
         alloc,
         words.as_slice(),
