@@ -80,9 +80,9 @@ fn read_and_load<F: Folder, O: Sink, E: Sink>(
 }
 
 /// The command `load D K`: reads the machine description `description`, makes the source of so many functions, from 1 to 1,000, compiles
-/// it, runs the passes over its code, reads the text again, and runs both sides on no input with the number 100,000,000. The output of the text's run goes to `out`,
-/// and then a line to `report`: the sizes, how many turns and instructions the sides took, and their end. A refusal writes its lines to
-/// `report`. Nothing of the input is taken, and nothing is written to `out` before both sides were run.
+/// it, runs the passes over its code, reads the text again, and runs both sides on no input with the number 100,000,000. The output of the
+/// text's run goes to `out`, and then a line to `report`: the sizes, how many turns and instructions the sides took, and their end. A
+/// refusal writes its lines to `report`. Nothing of the input is taken, and nothing is written to `out` before both sides were run.
 pub fn load_generated<F: Folder, O: Sink, E: Sink>(
     alloc: Global,
     description: &str,

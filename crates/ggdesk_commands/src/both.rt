@@ -9,6 +9,7 @@ use cmd_session::Status;
 use gg_outside::{MemFolder, MemSink};
 use gg_texts::VAX_GG;
 use std::alloc::{AllocError, Global};
+use vax_passes::Pass;
 
 // The line of the shipped description that names its registers.
 const POOL: &str = "pool r0 r1 r2 r3 r4 r5\n";
@@ -60,7 +61,7 @@ fn written(
     source: &SourceText,
 ) -> Result<Result<String, String>, AllocError> {
     let mut report = MemSink::new(alloc, 1, Vec::new(alloc));
-    let mut passes = Vec::new(alloc);
+    let mut passes: Vec<Box<dyn Pass>> = Vec::new(alloc);
     match text_of(alloc, accepted, source.program(), &mut passes, &mut report) {
         Ok(text) => Ok(Ok(text)),
         Err(status) => Ok(Err(refusal(alloc, status, &report)?)),
