@@ -72,8 +72,10 @@ pub record Finds (name : List ℕ) (at : Outside) (d : Content) : Type 0 where
 
 -- what the command came to: the file gave no accepted description, or by one that was come to
 pub data Leaves (by : Passing) (result : Status) (name : List ℕ) (functions : ℕ) (at : Outside) : Type 0 where
-  NoDescription : (untouched : IsUntouched at.out) (refused : NotAccepted name at.folder result at.report) → Leaves by result name functions at
-  Behind : (d : Content) (finds : Finds name at d) (loads : Loads by d functions result at.out at.report) → Leaves by result name functions at
+  NoDescription : (untouched : IsUntouched at.out) (refused : NotAccepted name at.folder result at.report)
+      → Leaves by result name functions at
+  Behind : (d : Content) (finds : Finds name at d) (loads : Loads by d functions result at.out at.report)
+      → Leaves by result name functions at
 
 -- the statuses that come
 abbrev pub MayCome : Status → Type 0

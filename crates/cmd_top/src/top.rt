@@ -79,8 +79,8 @@ pub fn ggvax<F: Folder, I: Source, O: Sink, E: Sink>(
         → IsExact source_form source_runner result (call_of source count (intake I.Source input.old input.new)
         (outside F.Folder O.Sink E.Sink folder.old folder.new out.old out.new report.old report.new)) }
 
-    // `load D K`: the same of the machine description, and of the generated source of K functions, of its text by the passes and of what both
-    // sides' runs came to; and that no other status comes.
+    // `load D K`: the same of the machine description, and of the generated source of K functions, of its text by the passes and of what
+    // both sides' runs came to; and that no other status comes.
     ensures load { (d : List ℕ) (k : ℕ) → SaysLoad (spelled words.now) d k
         → LoadLeaves (passing (λ p n c e. wrote p n c e) (λ p. made p) passes.old.items passes.new.items) result d k
         (outside F.Folder O.Sink E.Sink folder.old folder.new out.old out.new report.old report.new) }
