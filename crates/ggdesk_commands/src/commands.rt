@@ -2,14 +2,15 @@
 // the report:
 // - `REGISTERS@SOURCE@N@INPUT`: the source compiled by the shipped description with so many registers in its pool, or as it is, and both
 //   sides run with that number and that input: what `run` of the text leaves behind, and what `meaning` of the source leaves, where that
-//   differs; or how the source is refused. A description is read and checked once for the rows that name it one behind another.
-// - `passes@SOURCE@N@INPUT@MARKS`: the same of the text that the whole program writes with the passes of the marks.
+//   differs; or how the source is refused. A description is read and checked once for the rows that name it one behind another. Marks may
+//   stand behind the input, with `@` between: the shipped passes that the text is written by.
 // - `text@TEXT@N@INPUT`: what `run` of that assembly text leaves behind; `~` stands for a TAB there and `/` for a line feed.
 // - `source@SOURCE@N@INPUT`: what `meaning` of that source leaves behind.
 // - `ggvax@WORDS@FILE@INPUT@MARKS`: what the whole program leaves behind, by words between commas, where the folder has the shipped
 //   description as `d`, the small one as `m`, and the file `s`; `→` stands for a TAB there and `¶` for a line feed. The marks are told with
 //   `World`.
-use crate::both::{Opened, open, told_by, told_of};
+use crate::both::{Opened, open, told_of};
+use crate::passes::PassName;
 use crate::world::{SOURCE, TEXT, World, called, folder_of, ran};
 use gg_base::NoMemory;
 use std::alloc::{AllocError, Global};
@@ -37,6 +38,7 @@ fn answer_run(
     file: &str,
     count: u64,
     input: &str,
+    names: &[PassName],
 ) -> Result<String, AllocError> {
     match kind {
         "text" => {
@@ -52,7 +54,7 @@ fn answer_run(
             if opened.registers.as_str() != registers {
                 *opened = open(alloc, registers)?;
             }
-            told_of(alloc, opened, file, count, input)
+            told_of(alloc, opened, file, count, input, names)
         }
     }
 }
@@ -73,8 +75,7 @@ fn answer(alloc: Global, opened: &mut Opened, row: &str) -> Result<String, Alloc
         return called(alloc, first, &file, third, world);
     }
     match second.parse::<u64>() {
-        Ok(count) if kind == "passes" => told_by(alloc, world, first, count, third),
-        Ok(count) => answer_run(alloc, opened, kind, first, count, third),
+        Ok(count) => answer_run(alloc, opened, kind, first, count, third, &world.passes),
         Err(_) => String::from_str(alloc, "no number"),
     }
 }

@@ -97,7 +97,7 @@ pub struct World {
     most: usize,
     file_length: usize,
     input_length: usize,
-    passes: Vec<PassName>,
+    pub passes: Vec<PassName>,
 }
 
 // The number behind the name of a mark and `=`.
@@ -195,33 +195,31 @@ fn files_of(alloc: Global, file: &str, length: usize) -> Result<Vec<MemFile>, Al
     Ok(files)
 }
 
-/// What one call of the whole program left: its status, its output and its report.
-#[derive(Drop)]
-pub struct Left {
-    pub status: Status,
-    pub out: MemSink,
-    pub report: MemSink,
+// A status, what was written, a bar, and what was told, on one line.
+fn left_on_a_line(
+    alloc: Global,
+    status: Status,
+    out: &MemSink,
+    report: &MemSink,
+) -> Result<String, AllocError> {
+    let out = shown(alloc, out.bytes())?;
+    let report = shown(alloc, report.bytes())?;
+    format!(in alloc; "{} {out}|{report}", status as u8)
 }
 
-/// Calls the whole program. The folder has the shipped description as `d`, the small one as `m`, and the file `s`.
-pub fn call(
+// Runs the whole program with the passes of those names.
+fn run_program(
     alloc: Global,
-    words: &str,
-    file: &str,
-    input: &str,
-    world: World,
-) -> Result<Left, AllocError> {
-    let words = words_of(alloc, words)?;
-    let files = files_of(alloc, file, world.file_length)?;
-    let given = padded(alloc, input, world.input_length)?;
-    let most = at_least_one(world.most);
-    let mut folder = MemFolder::new(alloc, files, world.folder);
-    let mut input = MemSource::new(given, most, world.input);
-    let mut out = MemSink::new(alloc, most, world.out);
-    let mut report = MemSink::new(alloc, most, world.report);
+    words: &[String],
+    names: &[PassName],
+    folder: &mut MemFolder,
+    input: &mut MemSource,
+    out: &mut MemSink,
+    report: &mut MemSink,
+) -> Result<Status, AllocError> {
     let mut passes: Vec<Box<dyn Pass>> = Vec::new(alloc);
-    for name in world.passes {
-        match name {
+    for name in names {
+        match *name {
             PassName::Chain => passes.push(Box::new(alloc, JumpChain::new(alloc))?)?,
             PassName::Next => passes.push(Box::new(alloc, NextJump::new(alloc))?)?,
             PassName::Dead => passes.push(Box::new(alloc, DeadTail::new(alloc))?)?,
@@ -237,23 +235,11 @@ pub fn call(
             PassName::Refusing(calls) => passes.push(Box::new(alloc, Refusing::new(calls))?)?,
         }
     }
-    let status = ggvax(
-        alloc,
-        words.as_slice(),
-        &mut folder,
-        &mut input,
-        &mut out,
-        &mut report,
-        &mut passes,
-    );
-    Ok(Left {
-        status,
-        out,
-        report,
-    })
+    Ok(ggvax(alloc, words, folder, input, out, report, &mut passes))
 }
 
-/// What the whole program leaves behind: its status, what its output gained, a bar, and what its report gained.
+/// What the whole program leaves behind: its status, what its output gained, a bar, and what its report gained. The folder has the
+/// shipped description as `d`, the small one as `m`, and the file `s`.
 pub fn called(
     alloc: Global,
     words: &str,
@@ -261,10 +247,24 @@ pub fn called(
     input: &str,
     world: World,
 ) -> Result<String, AllocError> {
-    let left = call(alloc, words, file, input, world)?;
-    let out = shown(alloc, left.out.bytes())?;
-    let report = shown(alloc, left.report.bytes())?;
-    format!(in alloc; "{} {out}|{report}", left.status as u8)
+    let words = words_of(alloc, words)?;
+    let files = files_of(alloc, file, world.file_length)?;
+    let given = padded(alloc, input, world.input_length)?;
+    let most = at_least_one(world.most);
+    let mut folder = MemFolder::new(alloc, files, world.folder);
+    let mut input = MemSource::new(given, most, world.input);
+    let mut out = MemSink::new(alloc, most, world.out);
+    let mut report = MemSink::new(alloc, most, world.report);
+    let status = run_program(
+        alloc,
+        words.as_slice(),
+        world.passes.as_slice(),
+        &mut folder,
+        &mut input,
+        &mut out,
+        &mut report,
+    )?;
+    left_on_a_line(alloc, status, &out, &report)
 }
 
 /// A status and what was told with it.
