@@ -56,9 +56,9 @@ chance = random.Random(first_seed)
 
 def in_batches(count, make, judge):
     """What is said of so many things, which are made one after another, and judged side by side."""
-    with ThreadPoolExecutor(os.cpu_count()) as pool:
+    with ThreadPoolExecutor(os.cpu_count()) as threads:
         for begin in range(0, count, BATCH):
-            yield from pool.map(judge, [make(turn) for turn in range(begin, min(count, begin + BATCH))])
+            yield from threads.map(judge, [make(turn) for turn in range(begin, min(count, begin + BATCH))])
 
 
 def tell(what, judged):
