@@ -1,9 +1,9 @@
-"""Files of the greatest lengths, each of one shape that is heavy for some part of a command."""
+"""Files of any length, each of one shape that is heavy for some part of a command. A shape is a head, parts and a tail."""
 import itertools
 
-from common import functions
+from common import PARTS, TAIL
 
-SOURCE, DESCRIPTION = 1_048_576, 262_144
+DESCRIPTION = 262_144
 
 
 def filled(head, parts, tail, length):
@@ -17,17 +17,21 @@ def filled(head, parts, tail, length):
     return "".join(made) + tail
 
 
-def source(parts, head="", tail="int main(){return 0;}\n"):
-    return filled(head, parts, tail, SOURCE)
+def source(parts, head="", tail=TAIL):
+    return head, parts, tail
 
 
-def statements(part, head="int x;int*p;int f(int a){return a;}"):
-    """One function of such statements."""
-    return source(itertools.repeat(part), head + "int main(){int a;a=0;", "return 0;}\n")
+def forever(part):
+    return itertools.repeat(part)
 
 
 def counted(part):
     return (part.format(n=n) for n in itertools.count())
+
+
+def statements(part, head="int x;int*p;int f(int a){return a;}"):
+    """One function of such statements."""
+    return source(forever(part), head + "int main(){int a;a=0;", "return 0;}\n")
 
 
 def expression(inside):
@@ -66,21 +70,21 @@ DEEP = {
     "99 ands and ors in brackets": expression("a" + "&&(a||(a" * 49 + "))" * 49),
 }
 SOURCES = {
-    "functions": functions()[0],
-    "one line": functions()[0].replace("\n", " "),
+    "functions": source(PARTS[n % len(PARTS)].format(n=n) for n in itertools.count()),
+    "one line": source(PARTS[n % len(PARTS)].format(n=n).replace("\n", " ") for n in itertools.count()),
     "one function": statements("a=a*3+f(a);"),
     "one function of loops": statements("while(a>5)if(a<9)a--;else break;"),
     "one function of calls in conditions": statements("if(f(a)&&f(2)||x)a=f(a)?f(3):4;"),
-    "one expression": source(itertools.repeat("+1"), "int main(){return 1", ";}\n"),
-    "one initialiser": source(itertools.repeat("1,"), "char a[]={", "1};int main(){return a[3];}\n"),
-    "one literal": source(itertools.repeat("a"), 'char a[]="', '";int main(){return a[3];}\n'),
-    "one name over its length": source(itertools.repeat("a"), "int ", ";int main(){return 0;}\n"),
+    "one expression": source(forever("+1"), "int main(){return 1", ";}\n"),
+    "one initialiser": source(forever("1,"), "char a[]={", "1};int main(){return a[3];}\n"),
+    "one literal": source(forever("a"), 'char a[]="', '";int main(){return a[3];}\n'),
+    "one name over its length": source(forever("a"), "int ", ";int main(){return 0;}\n"),
     "10,000 globals": source(
         itertools.chain((f"int g{n};" for n in range(10_000)), ["int main(){"], itertools.cycle(f"g{n}+=g{n // 2};" for n in range(10_000))),
         tail="return 0;}\n",
     ),
     "30,000 literals": source(
-        itertools.chain((f'"{n}",' for n in range(30_000)), ["0};int main(){char*q;"], itertools.repeat('q="and another";')),
+        itertools.chain((f'"{n}",' for n in range(30_000)), ["0};int main(){char*q;"], forever('q="and another";')),
         "char*s[30001]={",
         "return 0;}\n",
     ),
@@ -88,11 +92,11 @@ SOURCES = {
     "names that differ at their end": source(counted("int " + "n" * 56 + "{n};")),
     "blocks with a local": statements("{int b;b=a;}"),
     "functions of 32 parameters": source(counted("int f{n}(" + ",".join(f"int a{n}" for n in range(32)) + "){{return a31;}}\n")),
-    "declarations of one function": source(itertools.repeat("int f(int a);"), tail="int f(int a){return a;}int main(){return f(0);}\n"),
+    "declarations of one function": source(forever("int f(int a);"), tail="int f(int a){return a;}int main(){return f(0);}\n"),
     "locals of one function": source(counted("int a{n};"), "int main(){", "return 0;}\n"),
-    "marks": source(itertools.repeat("(")),
-    "blanks": " " * SOURCE,
-    "line feeds": "\n" * SOURCE,
+    "marks": source(forever("(")),
+    "blanks": source(forever(" ")),
+    "line feeds": source(forever("\n")),
 }
 
 HEAD = """version 1
@@ -132,18 +136,25 @@ def descriptions(shipped):
     classes = [f"c{n}" for n in range(62)]
     declared = HEAD.replace("class stmt", "".join(f"class {name} Value l\n" for name in classes) + "class stmt")
     chains = (f"rule {a} : {b}\n  give %1\n" for a, b in itertools.permutations(classes, 2))
-    ten = "  do addl3 %3,%2,%0\n" * 8
     return {
         "999 rules of 15 symbols": rules(f"rule reg : {digits(n)} Plus One Plus One One\n  give fresh\n" for n in range(999)),
         "999 rules of 16 symbols": rules(f"rule reg : {digits(n, 15)} One\n  give fresh\n" for n in range(999)),
         "the shipped one with 850 patterns more": with_patterns(shipped),
         "996 chain rules of 62 classes": rules(itertools.islice(chains, 996), declared, "rule c0 : One\n  give $%1\n" + RETURNS),
-        "rules of 8 lines and 4 restrictions": rules(
-            f"rule reg : Plus reg Plus Const {digits(n, 4)} Const\n  if range 4 0 {n}\n" + "  if range 4 -9 9\n" * 3 + ten + "  give reuse\n"
-            for n in range(16)
+        "rules of 8 lines and 4 restrictions": filled(
+            shipped,
+            (
+                f"rule reg : Plus reg Plus Const {digits(n % 16, 4)} Const\n  if range 4 0 {n}\n"
+                + "  if range 4 -9 9\n" * 3
+                + "  do addl3 %4,%2,%0\n" * 8
+                + "  give reuse\n"
+                for n in range(850)
+            ),
+            "",
+            DESCRIPTION,
         ),
-        "a line of 250,000 bytes in a rule": rules([f"rule reg : Const\n  do movl $%1,{'r' * 250_000}\n  give fresh\n"]),
-        "operands of many holes": rules([f"rule reg : Const\n  do movl {'%1' * 120_000},%0\n  give fresh\n"]),
+        "a line of 250,000 bytes in a rule": shipped + f"rule reg : Const\n  do movl $%1,{'r' * 250_000}\n  give fresh\n",
+        "operands of many holes": shipped + f"rule reg : Const\n  do movl {'%1' * 120_000},%0\n  give fresh\n",
         "lines copied for three sizes": HEAD.replace("version 1", "version 2") + "each b w l\n" + RETURNS + "# @^~\n" * 43_000,
         "one word": "a" * DESCRIPTION,
         "blanks": " " * DESCRIPTION,
@@ -155,11 +166,6 @@ def descriptions(shipped):
 START = "\t.data\n\t.text\n\t.globl\t_main\n_main:\n\t.word\t0\n\tret\n"
 
 
-def forever(part):
-    return itertools.repeat(part)
-
-
-# The head, the parts and the tail of texts, of which each has as many parts as there is room for.
 DATA = "\t.data\n"
 FAR = START + "L0:\n" + "\tclrl\tr0\n" * 70 + "L1:\n"
 TEXTS = {

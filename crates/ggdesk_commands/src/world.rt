@@ -136,7 +136,7 @@ impl World {
                 Some(("most", count)) => world.most = count as usize,
                 Some(("file", length)) => world.file_length = length as usize,
                 Some(("given", length)) => world.input_length = length as usize,
-                Some(("fill", byte)) => world.fill = byte as u8,
+                Some(("fill", byte)) => world.fill = (byte % 0x100) as u8,
                 Some(("counted", changes)) => world.passes.push(PassName::Counted(changes))?,
                 Some(("refusing", calls)) => world.passes.push(PassName::Refusing(calls))?,
                 Some(_) => {}
