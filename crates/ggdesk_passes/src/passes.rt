@@ -1,8 +1,8 @@
 // Rows of the subject `passes`: lists of passes over assembly texts. A row is a list of passes, joined by +, a blank and a text, in which ~
 // stands for a tab and | for a line feed, without its first two lines; `again` in front has the list run over what it gave. Each row is
 // written with the text that the passes lead to and the number of changes of each; or with `no memory` and these numbers. Besides `next`,
-// `dead`, `chain` and `test` there are `once`, which is `next` at its first call alone, and `refuse`, which gives the code back, but finds no
-// memory at its second call.
+// `dead`, `chain` and `test` there are `once`, which is `next` at its first call alone, and `refuse`, which gives the code back, but finds
+// no memory at its second call.
 use crate::own::{Once, Refuse};
 use gg_base::NoMemory;
 use std::alloc::{AllocError, Global};
