@@ -113,24 +113,24 @@ def try_image(name, chance):
 TRIED = {"gg": try_description, "c": try_source, "s": try_text, "img": try_image}
 
 
-def trouble_of(kind, data):
-    """What is wrong with the runs of a file, or nothing."""
+def trouble_of(kind, data, turn):
+    """What is wrong with the runs of a file, or nothing. Inputs, and whether a source is compiled, go by the turn."""
     put(f"tried.{kind}", data)
     try:
-        TRIED[kind](f"tried.{kind}", random.Random(seed))
+        TRIED[kind](f"tried.{kind}", random.Random(turn))
     except Trouble as trouble:
         return str(trouble)
     return None
 
 
-def smaller(kind, data, most=60):
+def smaller(kind, data, turn, most=60):
     """The file without the pieces, halves first and then ever smaller ones, without which it gives trouble too."""
     end, size = time.monotonic() + most, max(1, len(data) // 2)
     while size and time.monotonic() < end:
         at = 0
         while at < len(data) and time.monotonic() < end:
             rest = data[:at] + data[at + size :]
-            if trouble_of(kind, rest):
+            if trouble_of(kind, rest, turn):
                 data = rest
             else:
                 at += size
@@ -138,8 +138,8 @@ def smaller(kind, data, most=60):
     return data
 
 
-def keep(kind, data, trouble):
-    data = smaller(kind, data)
+def keep(kind, data, turn, trouble):
+    data = smaller(kind, data, turn)
     name = f"{here}/bench/hostile/{hashlib.sha256(data).hexdigest()[:8]}.{kind}"
     put(name, data)
     print(f"{name}: {trouble}", flush=True)
@@ -168,18 +168,19 @@ def seeds():
 chance, files, bad = random.Random(seed), 0, 0
 for name in sorted(os.listdir(f"{here}/bench/hostile")):
     with open(f"{here}/bench/hostile/{name}", "rb") as file:
-        trouble = trouble_of(name.rsplit(".", 1)[1], file.read())
+        trouble = trouble_of(name.rsplit(".", 1)[1], file.read(), seed)
     bad += bool(trouble)
     print(f"bench/hostile/{name}: {trouble or 'as it should'}")
 right, end = seeds(), time.monotonic() + seconds
 while time.monotonic() < end:
     kind = chance.choice(("gg", "c", "c", "c", "s", "s", "s", "img", "img", "img"))
     data = mutant(chance, kind, right[kind])
-    trouble = trouble_of(kind, data)
     files += 1
+    turn = f"{seed} {files}"
+    trouble = trouble_of(kind, data, turn)
     if trouble:
         bad += 1
-        keep(kind, data, trouble)
+        keep(kind, data, turn, trouble)
 for words, statuses in ended.items():
     print(f"{words}: {listed(statuses, ' of status ')}")
 print(f"{files} files, {bad} gave trouble; at most {longest[0]:.1f} s ({longest[1]}) and {largest[0]:.0f} MiB ({largest[1]})")

@@ -2,8 +2,8 @@
 # What the commands take of files of the greatest lengths, each of one shape that is heavy for some part (bench/shapes.py): processor
 # seconds, memory, and how large the stack became. Each run has a stack of 2 MiB, must end with a status other than 2 and by no signal, and
 # within 60 seconds and 4 GiB. The table is written in the form of docs/BENCHMARKS.md.
-# Usage: bench/limits.sh [LENGTH [WORD]]: sources and texts have at most LENGTH bytes (default 67,108,864, the most that a text has; a source
-# has at most 1,048,576); with WORD only the shapes whose command and name have it.
+# Usage: bench/limits.sh [LENGTH [WORD]]: sources and texts have at most LENGTH bytes (default 67,108,864, the most that a text has; a
+# source has at most 1,048,576); with WORD only the shapes whose command and name have it.
 # It needs a C compiler for the stacks.
 set -eu
 . "$(dirname -- "$0")/common.sh"

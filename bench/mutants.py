@@ -110,6 +110,6 @@ WAYS = {
 def mutant(chance, kind, seeds):
     """One of the seeds of that kind of file, changed one to three times."""
     data = chance.choice(seeds)
-    for _ in range(chance.choice((1, 1, 2, 3))):
+    for _ in range(chance.choice((1, 1, 1, 1, 2, 3))):
         data = chance.choice(WAYS[kind])(chance, data, chance.choice(seeds))
     return data

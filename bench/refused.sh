@@ -1,7 +1,7 @@
 #!/bin/sh
 # Refuses a command one of its requests for memory: each of the first 300, each whose number is a power of two, and each of the last 20; and
-# then that one with all behind it. Each run must end with status 2, or with the answer of the run that gets all its memory. What it wrote is
-# a front of what that run writes, and at status 2 it told a front of the line of that status.
+# then that one with all behind it. Each run must end with status 2, or with the answer of the run that gets all its memory. What it wrote
+# is a front of what that run writes, and at status 2 it told a front of the line of that status.
 # Usage: bench/refused.sh [SECONDS [SEED]]; behind those, for SECONDS (default 0), requests picked at random from the seed SEED (default 1).
 # It needs a C compiler, and a program that has its memory from the system's C library.
 set -eu

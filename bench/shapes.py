@@ -80,7 +80,11 @@ SOURCES = {
     "one literal": source(forever("a"), 'char a[]="', '";int main(){return a[3];}\n'),
     "one name over its length": source(forever("a"), "int ", ";int main(){return 0;}\n"),
     "10,000 globals": source(
-        itertools.chain((f"int g{n};" for n in range(10_000)), ["int main(){"], itertools.cycle(f"g{n}+=g{n // 2};" for n in range(10_000))),
+        itertools.chain(
+            (f"int g{n};" for n in range(10_000)),
+            ["int main(){"],
+            itertools.cycle(f"g{n}+=g{n // 2};" for n in range(10_000)),
+        ),
         tail="return 0;}\n",
     ),
     "30,000 literals": source(
@@ -175,7 +179,11 @@ TEXTS = {
     "labels of 64 bytes": (START, counted("_" + "n" * 55 + "{n:08}:\n"), ""),
     "jumps to labels": (START, (f"L{n}:\n\tjbr\tL{n // 2}\n" for n in itertools.count()), ""),
     # Each jump just reaches its label until the one before it grows; the first is too far from its own.
-    "jumps that grow one after the other": (FAR, (f"L{n + 2}:\n\tjbr\tL{n}\n" + "\tclrl\tr0\n" * 30 + "\tret\n" for n in itertools.count()), ""),
+    "jumps that grow one after the other": (
+        FAR,
+        (f"L{n + 2}:\n\tjbr\tL{n}\n" + "\tclrl\tr0\n" * 30 + "\tret\n" for n in itertools.count()),
+        "",
+    ),
     "jumps that grow, close by": (FAR, (f"L{n + 2}:\n\tjbr\tL{max(0, n - 61)}\n" for n in itertools.count()), ""),
     "lines of `.globl`": (START, forever("\t.globl\t_main\n"), ""),
     "bytes of the data area": (DATA, forever("\t.byte\t1\n"), START[len(DATA) :]),

@@ -1,6 +1,6 @@
-/* Preloaded into a program, it makes its streams worse. Where INTERRUPTED names a file, a signal comes every millisecond and breaks off what
-   the program waits for; at its end the file gets the numbers of opens, reads and writes that were broken off. Where SHRINK is a number, a
-   file is cut to nothing as soon as so many bytes of it were read. */
+/* Preloaded into a program, it makes its streams worse. Where INTERRUPTED names a file, a signal comes every millisecond and breaks off
+   what the program waits for; at its end the file gets the numbers of opens, reads and writes that were broken off. Where SHRINK is a
+   number, a file is cut to nothing as soon as so many bytes of it were read. */
 #define _GNU_SOURCE
 #include <errno.h>
 #include <fcntl.h>
