@@ -3,6 +3,9 @@
 // written with the text that the passes lead to and the number of changes of each; or with `no memory` and these numbers. Besides `next`,
 // `dead`, `chain` and `test` there are `once`, which is `next` at its first call alone, and `refuse`, which gives the code back, but finds
 // no memory at its second call.
+ghost use Rattle.std.specs.Prelude.{◌≡◌, true, IfSome};
+ghost use Rattle.vax_core.specs.Valid.{is_code};
+
 use crate::own::{Once, Refuse};
 use gg_base::NoMemory;
 use std::alloc::{AllocError, Global};
@@ -14,7 +17,10 @@ use vax_writer::write_code;
 
 const HEAD: &str = "\t.data\n\t.text\n";
 
-fn read(alloc: Global, row: &str) -> Option<Code> {
+// The code of a row's text.
+fn read(alloc: Global, row: &str) -> Option<Code>
+    ensures { IfSome result (λ code. is_code code ≡ true) }
+{
     let lines: Result<String, AllocError> = row
         .chars()
         .map(|letter| match letter {
