@@ -21,7 +21,7 @@ pub struct Rewritten {
 /// Why no text is written.
 #[derive(Debug, Drop, Error)]
 pub enum Refusal {
-    #[error("a word is no pass; there are chain, next, dead, test and both")]
+    #[error("a word names no pass")]
     Word,
     /// The first line that is not of the grammar, counted from 1.
     #[error("line {line}: {kind:?}")]
@@ -59,7 +59,7 @@ impl From<AsmFault> for Refusal {
 
 /// Runs the passes of these names, one after another, over the code whose text the bytes are. What is written is the text of a code that
 /// behaves as that one does, whatever passes these are.
-#[tactic(auto, using(crate::proofs::Rewriting::rewritten))]
+#[tactic(auto, using(crate::proofs::Making::rewritten))]
 pub fn rewrite_text(alloc: Global, names: &[String], bytes: &[u8]) -> Result<Rewritten, Refusal>
     ensures { IfOk result (λ r. IsRewritten bytes.now (string_bytes r.text)) }
 {
