@@ -4,19 +4,16 @@
 ghost use Rattle.c_lowered.specs.Lowered.{SoundProgramsAreLowered, TypedProgramsAreLowered, SourcesAreLowered};
 
 /// The law: the trees of a sound program are lowered. It does nothing.
-#[tactic(auto, using(crate::proofs::Lowered::sound_programs_are_lowered))]
 pub fn sound_programs_are_lowered()
     ensures { SoundProgramsAreLowered }
 {}
 
 /// The law: so are those of a typed program. It does nothing.
-#[tactic(auto, using(crate::proofs::Lowered::typed_programs_are_lowered))]
 pub fn typed_programs_are_lowered()
     ensures { TypedProgramsAreLowered }
 {}
 
 /// The law: so are those of the program that bytes are the source of. It does nothing.
-#[tactic(auto, using(crate::proofs::Lowered::sources_are_lowered))]
 pub fn sources_are_lowered()
     ensures { SourcesAreLowered }
 {}

@@ -1,7 +1,7 @@
 -- The lines of passes, one by one; and passes that no one called.
 use Rattle.std.proofs.Common.{◌≡◌, ◌≤◌, ◌<◌, ℕ, zero, suc, ◌+◌, ◌-◌, List, [], ◌∷◌, ◌++◌, length, drop, get_or, min, zero-le, append-nil, append_assoc, refl, sym, ap, ap₂, ◌∙◌, arith}
 use Rattle.std.proofs.lemmas.List.{drop_more, drop_all}
-use Rattle.vax_passes.proofs.Turns.{rise_same}
+use Rattle.vax_passes.specs.Leads.{Rise}
 use Rattle.cmd_compile.specs.Lines.{pass_line, pass_lines}
 use Rattle.cmd_compile.specs.Passing.{rises, AreKept}
 
@@ -31,6 +31,11 @@ more_lines before behind lines line whole n lt less is e =
     let turn : pass_lines n (rises (drop n before) (drop n behind)) ≡ pass_line (n + 1) (get_or behind n 0 - get_or before n 0) ++ rest =
     ap (pass_lines n) (ap₂ rises (drop_more before n 0 lt) (drop_more behind n 0 less)) in
     append_assoc lines line rest ∙ ap (λ (l : List ℕ). lines ++ l) (ap (λ (l : List ℕ). l ++ rest) is ∙ sym turn) ∙ e
+
+-- no number of changes fell
+rise_same : {P : Type 0} (made : P → ℕ) (passes : List P) → Rise made passes passes
+rise_same made [] = tt
+rise_same made (p ∷ passes) = (omega arith, rise_same made passes)
 
 -- passes stay as they are
 pub kept_same : {P V : Type 0} (vtable : P → V) (made : P → ℕ) (passes : List P) → AreKept vtable made passes passes

@@ -14,7 +14,7 @@ use Rattle.vax_reader.proofs.TextLaws.{unique}
 use Rattle.vax_target_meaning.specs.Vax.{vax}
 use Rattle.vax_machine_lists.specs.Sound.{AllBelow}
 use Rattle.vax_alike.specs.Alike.{Alike}
-use Rattle.vax_alike.proofs.Following.{alike_runs_follow}
+use Rattle.vax_alike.specs.Laws.{AlikeRunsFollow}
 use Rattle.cmd_files.specs.Forms.{IsReadAs}
 use Rattle.cmd_run.specs.Texts.{text_form}
 use Rattle.gg_compile.specs.Needs.{AllFit}
@@ -33,11 +33,11 @@ below [] all = tt
 below (b ∷ bytes) all = (all.0, below bytes all.1)
 
 -- what behaves like a code that keeps a program keeps it
-alike_codes_keep : (p : AProgram) (c d : Code) → Alike c d → Keeps p c → Keeps p d
-alike_codes_keep p c d alike k = record {
+alike_codes_keep : AlikeRunsFollow → (p : AProgram) (c d : Code) → Alike c d → Keeps p c → Keeps p d
+alike_codes_keep law p c d alike k = record {
   loads = alike.loads k.loads;
   follows = λ input bytes.
-      alike_runs_follow _ c d input (alike.runs k.loads input (below input bytes)) (k.follows input bytes);
+      law _ c d input (alike.runs k.loads input (below input bytes)) (k.follows input bytes);
 }
 
 pub is_code_of : (d : Content) (p : AProgram) (q : TreeProgram) (c : Code) → q ≡ lowered p → SelectedAll vax d q c → is_code c ≡ true
@@ -53,9 +53,9 @@ pub is_passed_text : (by : Passing) (c d : Code) (bytes : List ℕ) → by.leads
     → IsPassedText by c bytes
 is_passed_text by c d bytes led valid alike text = record { code = d; led = led; valid = valid; alike = alike; text = text }
 
-pub is_text_by : (by : Passing) (d : Content) (p : AProgram) (c : Code) (bytes : List ℕ) → IsCodeOf d p c → IsPassedText by c bytes
+pub is_text_by : AlikeRunsFollow → (by : Passing) (d : Content) (p : AProgram) (c : Code) (bytes : List ℕ) → IsCodeOf d p c → IsPassedText by c bytes
     → IsTextBy by d p bytes
-is_text_by by d p c bytes of t = record {
+is_text_by law by d p c bytes of t = record {
   is_text = record {
     fit = of.fit;
     first = c;
@@ -63,7 +63,7 @@ is_text_by by d p c bytes of t = record {
     code = t.code;
     alike = t.alike;
     read = read_as bytes t.code (record { valid = t.valid; text = t.text });
-    keeps = ∥∥₁_map of.keeps (alike_codes_keep p c t.code t.alike);
+    keeps = ∥∥₁_map of.keeps (alike_codes_keep law p c t.code t.alike);
   };
   led = t.led;
 }

@@ -13,6 +13,7 @@ use gg_base::NoMemory;
 use gg_compile::{Accepted, CompileFault, compile};
 use gg_outside::Sink;
 use std::alloc::Global;
+use vax_alike::laws::alike_runs_follow;
 use vax_core::Code;
 use vax_passes::{Pass, run_passes};
 use vax_writer::write_code;
@@ -72,6 +73,7 @@ pub fn text_of<E: Sink>(
         (change E.Sink report.old report.new)) }
     ensures kept { AreKept (λ p. p.vtable) (λ p. made p) passes.old.items passes.new.items }
 {
+    alike_runs_follow();
     let code = match selected_code(alloc, accepted, source, report) {
         Ok(code) => code,
         Err(status) => return Err(status),

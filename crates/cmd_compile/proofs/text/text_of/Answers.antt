@@ -6,4 +6,4 @@ pub returns-in-Err-clause-kept : goal.returns-in-Err-clause-kept
 returns-in-Err-clause-kept g c = kept_same _ _ _
 
 pub returns-in-Ok-passed_text-clause-text : goal.returns-in-Ok-passed_text-clause-text
-returns-in-Ok-passed_text-clause-text g c = is_text_by _ _ _ c.in-Ok.code _ c.in-Ok.ensures.code c.in-Ok-passed_text.ensures.text
+returns-in-Ok-passed_text-clause-text g c = is_text_by c.alike_runs_follow.ensures _ _ _ c.in-Ok.code _ c.in-Ok.ensures.code c.in-Ok-passed_text.ensures.text
