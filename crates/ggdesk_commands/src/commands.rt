@@ -2,7 +2,8 @@
 // the report:
 // - `REGISTERS@SOURCE@N@INPUT`: the source compiled by the shipped description with so many registers in its pool, or as it is, and both
 //   sides run with that number and that input: what `run` of the text leaves behind, and what `meaning` of the source leaves, where that
-//   differs; or how the source is refused. A description is read and checked once for the rows that name it one behind another.
+//   differs; or how the source is refused. A description is read and checked once for the rows that name it one behind another. Marks may
+//   stand behind the input, with `@` between: the shipped passes that the text is written by.
 // - `text@TEXT@N@INPUT`: what `run` of that assembly text leaves behind; `~` stands for a TAB there and `/` for a line feed.
 // - `source@SOURCE@N@INPUT`: what `meaning` of that source leaves behind.
 // - `writes@SOURCE@1@`: how the writing of the text of that source ends at each of its calls that fails, one for each byte.
@@ -47,6 +48,7 @@ fn answer_run(
     file: &str,
     count: u64,
     input: &str,
+    marks: &str,
 ) -> Result<String, AllocError> {
     match kind {
         "text" => {
@@ -64,7 +66,8 @@ fn answer_run(
         }
         registers => {
             open_with(alloc, opened, registers)?;
-            told_of(alloc, opened, file, count, input)
+            let world = World::of(alloc, marks)?;
+            told_of(alloc, opened, file, count, input, &world.passes)
         }
     }
 }
@@ -95,12 +98,12 @@ fn answer(alloc: Global, opened: &mut Opened, row: &str) -> Result<String, Alloc
     ) else {
         return String::from_str(alloc, "no row");
     };
+    let marks = parts.next().unwrap_or("");
     if kind == "ggvax" || kind == "fronts" {
-        let marks = parts.next().unwrap_or("");
         return answer_call(alloc, kind, first, second, third, marks);
     }
     match second.parse::<u64>() {
-        Ok(count) => answer_run(alloc, opened, kind, first, count, third),
+        Ok(count) => answer_run(alloc, opened, kind, first, count, third, marks),
         Err(_) => String::from_str(alloc, "no number"),
     }
 }

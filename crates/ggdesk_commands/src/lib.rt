@@ -5,4 +5,5 @@ pub mod both;
 pub mod commands;
 pub mod fronts;
 pub mod large;
+pub mod passes;
 pub mod world;

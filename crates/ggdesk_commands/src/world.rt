@@ -2,6 +2,7 @@
 ghost use Rattle.std.specs.Prelude.{◌<◌};
 
 use crate::large::large_description;
+use crate::passes::{Counted, PassName, Refusing, Twice};
 use cmd_meaning::run_source;
 use cmd_run::run_text;
 use cmd_session::Status;
@@ -10,6 +11,8 @@ use gg_base::{Bytes, Name};
 use gg_outside::{MemFile, MemFolder, MemSink, MemSource};
 use gg_texts::{M_GG, VAX_GG};
 use std::alloc::{AllocError, Global};
+use vax_codes::{JumpChain, NeedlessTest};
+use vax_passes::{DeadTail, NextJump, Pass};
 
 /// The file of the large description.
 const LARGE: &str = "h";
@@ -87,8 +90,8 @@ pub fn ran(
     left(alloc, status, &out, &report)
 }
 
-/// What the folder, the input and the sinks of one call do: the numbers of their calls that fail, how many bytes a call takes, and the
-/// lengths up to which a byte, else a blank, is put behind the file `s` and the input.
+/// What the folder, the input and the sinks of one call do: the numbers of their calls that fail, how many bytes a call takes, the
+/// lengths up to which a byte, else a blank, is put behind the file `s` and the input, and the passes that it is given, in order.
 #[derive(Drop)]
 pub struct World {
     folder: Vec<u64>,
@@ -99,6 +102,7 @@ pub struct World {
     file_length: usize,
     input_length: usize,
     fill: u8,
+    pub passes: Vec<PassName>,
 }
 
 // The number behind the name of a mark and `=`.
@@ -109,7 +113,8 @@ fn numbered(mark: &str) -> Option<(&str, u32)> {
 
 impl World {
     /// The world of marks between blanks: `folder=N`, `input=N`, `out=N` and `report=N` are calls that fail, counted from 0; `most=N` is
-    /// how many bytes a call takes, else one; `file=N` and `given=N` are lengths, and `fill=N` is the byte up to them.
+    /// how many bytes a call takes, else one; `file=N` and `given=N` are lengths, and `fill=N` is the byte up to them. Each of `chain`,
+    /// `next`, `dead`, `test`, `twice`, `counted=N` and `refusing=N` is a pass, as `PassName` says.
     pub fn of(alloc: Global, marks: &str) -> Result<World, AllocError> {
         let mut world = World {
             folder: Vec::new(alloc),
@@ -120,6 +125,7 @@ impl World {
             file_length: 0,
             input_length: 0,
             fill: b' ',
+            passes: Vec::new(alloc),
         };
         for mark in marks.split(' ') {
             match numbered(mark) {
@@ -131,7 +137,14 @@ impl World {
                 Some(("file", length)) => world.file_length = length as usize,
                 Some(("given", length)) => world.input_length = length as usize,
                 Some(("fill", byte)) => world.fill = (byte % 0x100) as u8,
-                _ => {}
+                Some(("counted", changes)) => world.passes.push(PassName::Counted(changes))?,
+                Some(("refusing", calls)) => world.passes.push(PassName::Refusing(calls))?,
+                Some(_) => {}
+                None => {
+                    if let Some(name) = PassName::of(mark) {
+                        world.passes.push(name)?;
+                    }
+                }
             }
         }
         Ok(world)
@@ -205,6 +218,37 @@ fn left_on_a_line(
     format!(in alloc; "{} {out}|{report}", status as u8)
 }
 
+// Runs the whole program with the passes of those names.
+fn run_program(
+    alloc: Global,
+    words: &[String],
+    names: &[PassName],
+    folder: &mut MemFolder,
+    input: &mut MemSource,
+    out: &mut MemSink,
+    report: &mut MemSink,
+) -> Result<Status, AllocError> {
+    let mut passes: Vec<Box<dyn Pass>> = Vec::new(alloc);
+    for name in names {
+        match *name {
+            PassName::Chain => passes.push(Box::new(alloc, JumpChain::new(alloc))?)?,
+            PassName::Next => passes.push(Box::new(alloc, NextJump::new(alloc))?)?,
+            PassName::Dead => passes.push(Box::new(alloc, DeadTail::new(alloc))?)?,
+            PassName::Test => passes.push(Box::new(alloc, NeedlessTest::new(alloc))?)?,
+            PassName::Twice => {
+                let next = NextJump::new(alloc);
+                passes.push(Box::new(alloc, Twice::new(next))?)?;
+            }
+            PassName::Counted(changes) => {
+                let counted = Counted::new(u64::from(changes));
+                passes.push(Box::new(alloc, counted)?)?;
+            }
+            PassName::Refusing(calls) => passes.push(Box::new(alloc, Refusing::new(calls))?)?,
+        }
+    }
+    Ok(ggvax(alloc, words, folder, input, out, report, &mut passes))
+}
+
 /// What the whole program leaves behind: its status, what its output gained, a bar, and what its report gained. The folder has the
 /// shipped description as `d`, the small one as `m`, the large one as `h`, and the file `s`.
 pub fn called(
@@ -223,14 +267,15 @@ pub fn called(
     let mut input = MemSource::new(given, most, world.input);
     let mut out = MemSink::new(alloc, most, world.out);
     let mut report = MemSink::new(alloc, most, world.report);
-    let status = ggvax(
+    let status = run_program(
         alloc,
         words.as_slice(),
+        world.passes.as_slice(),
         &mut folder,
         &mut input,
         &mut out,
         &mut report,
-    );
+    )?;
     left_on_a_line(alloc, status, &out, &report)
 }
 

@@ -2,4 +2,4 @@ use Rattle.gg_headline_laws.proofs.Compiling as laws
 use Rattle.gg_headline_laws.proofs.laws.compile_comes_to.Goals as goal
 
 pub returns : goal.returns
-returns c = laws.compile_comes_to
+returns g c = laws.compile_comes_to _
