@@ -22,6 +22,10 @@ pub record HasFirst (s : Sheet) (set : ℕ) (firsts : List Line) (p : ℕ) (t : 
   pub places : (m : Tok) → In set m → In kid.places m
   pub lines : (l : Line) → Contains kid.lines.items l → (c : Line) × (Contains firsts c × IsWider l c)
 
+-- the same, if the token may begin a tree of the sort
+pub record HasFirstIf (s : Sheet) (set : ℕ) (firsts : List Line) (p : ℕ) (w : Sort) (t : Tok) : Type 0 where
+  pub first : May t w → HasFirst s set firsts p t
+
 -- behind the first kid's list the second, which begins with the token, has all that the row asks for
 pub record HasSecond (s : Sheet) (f : FoundView) (r : Row) (c : Line) (m : Tok) : Type 0 where
   pub state : ℕ

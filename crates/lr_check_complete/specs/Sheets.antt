@@ -2,8 +2,10 @@
 use Rattle.std.specs.Prelude.{◌≡◌, ℕ, ◌+◌, ◌*◌, List, Option, Some, Contains, true, slice_get}
 use Rattle.std.specs.Int.{bit_at}
 use Rattle.tree_core.specs.declared.token.Tok.{Tok}
+use Rattle.tree_core.specs.declared.token.Sort.{Sort}
 use Rattle.md_reader.specs.declared.types.Sym.{Sym}
 use Rattle.lr_tables.specs.Symbols.{number}
+use Rattle.lr_check_sets.specs.Trees.{May}
 use Rattle.lr_check_found.specs.declared.places.Place.{Place}
 use Rattle.lr_check_found.specs.declared.settlings.Settling.{Settling}
 use Rattle.lr_check_found.specs.Lists.{IsList, IsBehindToken}
@@ -78,6 +80,10 @@ pub record HasKid (s : Sheet) (f : FoundView) (r : Row) (p : ℕ) (t : Tok) (low
   pub is : IsRow s p t kid
   pub within : (b : Tok) → In r.places b → In kid.places b
   pub joined : (l : Line) → Contains kid.lines.items l → IsJoinedLine f r lower l
+
+-- the same, if the token may begin a tree of the sort
+pub record HasKidIf (s : Sheet) (f : FoundView) (r : Row) (p : ℕ) (w : Sort) (t : Tok) (lower : ℕ) : Type 0 where
+  pub kid : May t w → HasKid s f r p t lower
 
 -- the place is one of the row's
 pub record StandsIn (r : Row) (x : Place) : Type 0 where

@@ -6,7 +6,7 @@ ghost use Rattle.lr_check_complete.specs.declared.sheet.Line.{Line};
 ghost use Rattle.lr_check_complete.specs.Looks.{automaton, WasFound, IsShownRight};
 ghost use Rattle.lr_check_complete.specs.Kids.{BothIn, AtPlaces};
 ghost use Rattle.lr_check_complete.specs.Sheets.{In, IsSheet};
-ghost use Rattle.lr_check_complete.specs.Pairs.{IsWider, HasFirst, HasSecond, ArePaired};
+ghost use Rattle.lr_check_complete.specs.Pairs.{IsWider, HasFirstIf, HasSecond, ArePaired};
 
 use crate::look::Look;
 use crate::masks::{has, is_within, with};
@@ -121,7 +121,7 @@ fn has_first(
     wanted: Sort,
     token: Tok,
 ) -> bool
-    ensures { IsTrue result → May token wanted → HasFirst sheet.now set firsts.now over token }
+    ensures { IsTrue result → HasFirstIf sheet.now set firsts.now over wanted token }
 {
     if !may(token, wanted) {
         return true;
@@ -140,7 +140,7 @@ fn has_all_first(
     wanted: Sort,
     begins: &[Tok],
 ) -> bool
-    ensures { IsTrue result → (t : Tok) → Contains begins.now t → May t wanted → HasFirst sheet.now set firsts.now over t }
+    ensures { IsTrue result → (t : Tok) → Contains begins.now t → HasFirstIf sheet.now set firsts.now over wanted t }
 {
     begins.iter().all(|token| has_first(sheet, set, firsts, over, wanted, *token))
 }

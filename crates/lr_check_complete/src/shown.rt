@@ -2,14 +2,13 @@
 ghost use Rattle.std.specs.Prelude.{◌≡◌, ℕ, Some, [], ◌∷◌, IsTrue, Contains};
 ghost use Rattle.tree_core.specs.declared.token.Tok.{Tok};
 ghost use Rattle.md_reader.specs.declared.types.Sym.TheVariants as grammar_symbol;
-ghost use Rattle.lr_check_sets.specs.Trees.{May};
 ghost use Rattle.lr_check_found.specs.Adding.{list_number};
 ghost use Rattle.lr_check_found.specs.declared.settlings.Settling.{Settling};
 ghost use Rattle.lr_check_found.specs.Found.{IsSettlingAt, Settles};
 ghost use Rattle.lr_check_complete.specs.declared.sheet.Line.{Line};
 ghost use Rattle.lr_check_complete.specs.Looks.{WasFound, IsShownRight};
 ghost use Rattle.lr_check_complete.specs.Kids.{OnlyIn, SecondAt, AtPlaces};
-ghost use Rattle.lr_check_complete.specs.Sheets.{In, IsSheet, IsAllLine, IsJoinedLine, HasKid, StandsAt};
+ghost use Rattle.lr_check_complete.specs.Sheets.{In, IsSheet, IsAllLine, IsJoinedLine, HasKid, HasKidIf, StandsAt};
 
 use crate::look::Look;
 use crate::masks::{both, has, is_within};
@@ -169,7 +168,7 @@ impl<'a> Look<'a> {
     // The same of the only kid, if it may begin with the token.
     fn has_only_from(&self, sheet: &Sheet, row: &Row, over: State, wanted: Sort, token: Tok) -> bool
         requires { WasFound self.now }
-        ensures { IsTrue result → May token wanted → HasKid sheet.now self.now.found.now row.now over token 0 }
+        ensures { IsTrue result → HasKidIf sheet.now self.now.found.now row.now over wanted token 0 }
     {
         if !may(token, wanted) {
             return true;
@@ -186,7 +185,7 @@ impl<'a> Look<'a> {
         kids: &[Tok],
     ) -> bool
         requires { WasFound self.now }
-        ensures { IsTrue result → (t : Tok) → Contains kids.now t → May t wanted → HasKid sheet.now self.now.found.now row.now over t 0 }
+        ensures { IsTrue result → (t : Tok) → Contains kids.now t → HasKidIf sheet.now self.now.found.now row.now over wanted t 0 }
     {
         kids.iter().all(|token| self.has_only_from(sheet, row, over, wanted, *token))
     }
