@@ -1,4 +1,4 @@
-use Rattle.lr_check_complete.proofs.Turns.{looks_there, looks_none, looks_turn_at, looks_all, looks_map}
+use Rattle.lr_check_complete.proofs.Turns.{looks_none, looks_turn_at, looks_all, looks_map}
 use Rattle.lr_check_complete.proofs.look.Look.both.Goals as goal
 
 pub loop-token-init : goal.loop-token-init
@@ -11,6 +11,3 @@ loop-token-preserved c = λ q k frame kid. looks_turn_at c.args.self.now _ _ _ _
 pub returns : goal.returns
 returns c = λ q k frame kid. looks_map c.args.self.now _ _ _ _ (λ g n d x at. record { each = λ m may. g m (c.tokens-token-items.ensures m) may n d x at })
     (looks_all c.args.self.now _ _ _ _ _ (c.loop-token.invariant q k frame kid) c.loop-token-test.false)
-
-pub returns-then-are_both_shown : goal.returns-then-are_both_shown
-returns-then-are_both_shown c = λ q k frame kid. looks_there c.args.self.now _ _ (c.in_ok-are_both_shown.ensures c.if-are_both_shown.true)
