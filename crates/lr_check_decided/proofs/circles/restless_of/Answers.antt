@@ -41,8 +41,8 @@ returns-in-Some-first_unmarked-clause-some c =
       c.in_ok-marks.ensures.long,
     )
 
-pub returns-in-None-first_unmarked-clause-none : goal.returns-in-None-first_unmarked-clause-none
-returns-in-None-first_unmarked-clause-none c = λ s is.
+pub returns-in_ok-hold-in-None-first_unmarked-clause-none : goal.returns-in_ok-hold-in-None-first_unmarked-clause-none
+returns-in_ok-hold-in-None-first_unmarked-clause-none c = λ s is.
     let t = c.args.tables.now in
     let f = c.args.found.now in
     let e = c.args.settling.now in

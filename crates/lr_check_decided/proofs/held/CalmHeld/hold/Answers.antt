@@ -1,3 +1,4 @@
+use Rattle.std.proofs.Common.{rules}
 use Rattle.lr_check_decided.specs.declared.held.CalmAt.{CalmAt}
 use Rattle.lr_check_decided.proofs.Holding.{more_right}
 use Rattle.lr_check_decided.proofs.held.CalmHeld.hold.Goals as goal
