@@ -98,11 +98,15 @@ impl<'a> Machine<'a> {
             let caller = self.store.enter(Activation {
                 locals,
                 parameters: values,
+                block: 0,
             });
-            self.count(
-                Frame::ForCall(caller, active),
-                Control::Block(&function.body),
-            )
+            match self.store.claim(self.program.objects.as_slice(), function.block) {
+                Ok(()) => self.count(
+                    Frame::ForCall(caller, active, function.block),
+                    Control::Block(&function.body),
+                ),
+                Err(finish) => Ok(self.count_end(finish)),
+            }
         } else {
             Ok(self.count_end(Finish::Deep))
         }

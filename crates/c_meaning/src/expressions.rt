@@ -98,6 +98,10 @@ impl<'a> Machine<'a> {
             Spot::Local(_) => self.stop(Finish::Wild),
             Spot::Parameter(_) => self.stop(Finish::Wild),
             Spot::Memory(address) => self.give(address),
+            Spot::InBlock(offset) => {
+                let address = self.store.place_in_block(offset);
+                self.give(address)
+            }
         }
     }
 
@@ -162,6 +166,7 @@ impl<'a> Machine<'a> {
             )),
             ValueFrame::Forget => Ok(self.quit(Flow::Onward)),
             ValueFrame::Begin(local, rest) => Ok(self.begin(local, value, rest)),
+            ValueFrame::Store(of, offset, rest) => Ok(self.store_in_block(of, offset, value, rest)),
             ValueFrame::If(a) => Ok(self.choose(
                 value,
                 Control::Perform(a),

@@ -13,7 +13,7 @@ ghost use Rattle.c_meaning.specs.Runner.{Makes, Steps, Does, Goes, Waiting, Coun
 use crate::current::Current;
 use crate::flow::{Event, Flow};
 use crate::frame::{Control, Frame, ValueFrame};
-use crate::store::{Store, zeros};
+use crate::store::{Activation, Store, zeros};
 use c_program::Program;
 use c_types::Expression;
 use gg_base::{Finish, NoMemory};
@@ -49,11 +49,16 @@ impl<'a> Machine<'a> {
             }),
             Some(main) => {
                 let locals = zeros(alloc, main.locals.as_slice().len())?;
+                let mut store = Store::begin(alloc, locals, area, input);
+                let control = match store.claim(program.objects.as_slice(), main.block) {
+                    Ok(()) => Control::Block(&main.body),
+                    Err(finish) => Control::Stop(finish),
+                };
                 Ok(Machine {
                     program,
-                    control: Current::of(Control::Block(&main.body)),
+                    control: Current::of(control),
                     frames: Vec::new(alloc),
-                    store: Store::begin(alloc, locals, area, input),
+                    store,
                 })
             }
         }
@@ -97,7 +102,7 @@ impl<'a> Machine<'a> {
                 alloc, callee, done, to, rest, value,
             ),
             Some(Frame::ForFlow(_)) => Ok(self.give(value)),
-            Some(Frame::ForCall(_, _)) => Ok(self.give(value)),
+            Some(Frame::ForCall(_, _, _)) => Ok(self.give(value)),
         }
     }
 
@@ -108,13 +113,21 @@ impl<'a> Machine<'a> {
         match self.frames.pop() {
             None => Ok(self.stop(Finish::Ended(flow.answer()))),
             Some(Frame::ForFlow(frame)) => self.go_on(frame, flow),
-            Some(Frame::ForCall(caller, active)) => {
-                self.store.leave(caller, active);
-                Ok(self.give(flow.answer()))
+            Some(Frame::ForCall(caller, active, block)) => {
+                Ok(self.give_back_to(caller, active, block, flow.answer()))
             }
             Some(Frame::ForValue(_)) => Ok(self.quit(flow)),
             Some(Frame::ForArgument(_, _, _, _)) => Ok(self.quit(flow)),
         }
+    }
+
+    // A call with a block of so many bytes is left with an answer, and its caller goes on.
+    fn give_back_to(&mut self, caller: Activation, active: u32, block: u32, answer: u32) -> Event {
+        if !self.store.release(self.program.objects.as_slice(), block) {
+            return self.stop(Finish::Wild);
+        }
+        self.store.leave(caller, active);
+        self.give(answer)
     }
 
     /// This is done next.

@@ -15,7 +15,7 @@ pub record IsTypedUnit (p : AProgram) : Type 0 where
 -- the frame need of a function, by its number in order of definition
 abbrev pub need_in : Option ARoutine → ℕ
 need_in None = 0
-need_in (Some r) = need_of r.locals r.body
+need_in (Some r) = need_of r.locals r.block r.body
 
 abbrev pub need_at : AProgram → ℕ → ℕ
 need_at p n = need_in (slice_get p.routines n)

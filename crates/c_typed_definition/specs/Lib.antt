@@ -2,8 +2,10 @@
 -- docs/READING.md.
 pub mod Initialisers
 pub mod Forms
+pub mod Rooms
 pub mod State
 pub mod Declarations
+pub mod Automatics
 pub mod Statements
 pub mod Signatures
 pub mod Headings

@@ -17,15 +17,15 @@ use Rattle.c_typed_expressions.specs.Phrases.{first}
 use Rattle.c_typed_scope.specs.Scopes.{enter, leave}
 use Rattle.c_typed_expressions.specs.Expressions.{type_exp}
 use Rattle.c_typed_definition.specs.State.{State, with_area}
-use Rattle.c_typed_definition.specs.Declarations.{type_locals}
+use Rattle.c_typed_definition.specs.Automatics.{type_locals}
 use Rattle.c_program.specs.Statements.{AnAction, SomeActions, NoActions, MoreActions, DeclareOf, BlockOf, EvaluateOf}
 use Rattle.c_program.specs.Statements.{BreakOf, ContinueOf, ReturnOf, IfOf, IfElseOf, WhileOf, DoOf, ForOf}
 
 abbrev pub entered : State → State
-entered s = record { scope = enter s.scope; locals = s.locals; registers = s.registers; area = s.area }
+entered s = record { scope = enter s.scope; locals = s.locals; registers = s.registers; room = s.room; area = s.area }
 
 abbrev pub left : State → State
-left s = record { scope = leave s.scope; locals = s.locals; registers = s.registers; area = s.area }
+left s = record { scope = leave s.scope; locals = s.locals; registers = s.registers; room = s.room; area = s.area }
 
 abbrev pub jump : Bool → ℕ → AnAction → State → Result (AnAction × State) Fault
 jump true at a s = Ok (a, s)

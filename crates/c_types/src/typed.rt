@@ -18,6 +18,9 @@ pub enum Variable {
     Static(u32),
 }
 
+/// The most bytes of a function's memory locals, and those of the stack on which they lie.
+pub const BLOCK_LIMIT: u32 = 262_144;
+
 /// What a call calls.
 #[derive(Clone, Copy, Debug, PartialEq, Eq)]
 pub enum Callee {
