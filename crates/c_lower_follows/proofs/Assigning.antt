@@ -15,7 +15,8 @@ use Rattle.c_meaning.specs.State.{State}
 use Rattle.c_meaning.specs.Values.{Rest, RestAt, read_at, store_at}
 use Rattle.c_lower_scheme.specs.Trees.{Tree, Loc, Arg, Indir, Item, AssignLoc, divides, reads, breaks, stable, is_leaf}
 use Rattle.c_lower_scheme.specs.Parts.{Lowered, Where, InLoc, InArg, InMem, Located, Assignable, is_nil}
-use Rattle.c_lower_scheme.specs.Places.{held, saving, saved, next_if, integer_of, read_from, assign_to}
+use Rattle.c_lower_scheme.specs.Saving.{saving, saved, next_if}
+use Rattle.c_lower_scheme.specs.Places.{held, integer_of, read_from, assign_to}
 use Rattle.c_lower_scheme.specs.Values.{must}
 use Rattle.c_lower_scheme.specs.Assignments.{ready_so, must_hold, assign_ready, stays, must_keep, update_so, update_ready, postfix_so, postfix}
 use Rattle.c_lower_scheme.proofs.Facts.{leaf_inert, next_grows, must_not}

@@ -17,7 +17,7 @@ use Rattle.c_meaning.specs.Values.{Rest, chosen}
 use Rattle.c_lower_scheme.specs.Trees.{Tree, Num, Item, AssignLoc, Cbr, Ret, divides, reads, breaks, stable}
 use Rattle.c_lower_scheme.specs.Spelling.{spelled_all}
 use Rattle.c_lower_scheme.specs.Parts.{Lowered, Pair, Emitted, Lowering, due, over, over_two, Destination, InLocal, AsResult, delivered}
-use Rattle.c_lower_scheme.specs.Places.{saving, next_if}
+use Rattle.c_lower_scheme.specs.Saving.{saving, next_if}
 use Rattle.c_lower_scheme.specs.Conditions.{valued, effective, mapped, test}
 use Rattle.c_lower_scheme.specs.Values.{must, join_so, join, binary, joined}
 use Rattle.c_lower_scheme.proofs.Facts.{stable_inert, must_not}

@@ -22,7 +22,8 @@ use Rattle.c_meaning.specs.Values.{Rest, RestAt, written, store_at}
 use Rattle.c_lower_scheme.specs.Trees.{Tree, Loc, Item, AssignLoc, AssignArg, AssignMem, divides, stable}
 use Rattle.c_lower_scheme.specs.Spelling.{spelled_all}
 use Rattle.c_lower_scheme.specs.Parts.{Lowered, Where, InLoc, InArg, InMem, Located, Assignable, Emitted, InLocal}
-use Rattle.c_lower_scheme.specs.Places.{saving, saved, integer_of, fitted, assign_to}
+use Rattle.c_lower_scheme.specs.Saving.{saving, saved}
+use Rattle.c_lower_scheme.specs.Places.{integer_of, fitted, assign_to}
 use Rattle.c_lower_scheme.specs.Assignments.{store_drop, store_low_at, store_low, fill_low, fill_drop}
 use Rattle.c_lower_scheme.proofs.Facts.{stable_inert}
 use Rattle.c_lower_follows.proofs.Values.{SmallTree, Small, worth_small}

@@ -9,7 +9,7 @@ use Rattle.c_lower_scheme.specs.Trees.{Tree, Num, Gaddr, Loc, Arg, Indir, Conv, 
 use Rattle.c_lower_scheme.specs.Spelling.{spelled, spelled_all}
 use Rattle.c_lower_scheme.specs.Calls.{pushes}
 use Rattle.tree_core.specs.declared.program.TreeFn.{TreeFn}
-use Rattle.c_lower_scheme.specs.Places.{next_if}
+use Rattle.c_lower_scheme.specs.Saving.{next_if}
 use Rattle.c_lower_scheme.specs.Values.{must}
 
 pub all_lowered : (count : ℕ) (gs : List ARoutine) (l : ℕ) → length (lower_all count gs l) ≡ length gs

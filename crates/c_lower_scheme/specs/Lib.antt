@@ -2,6 +2,7 @@
 -- given, or what is emitted for it. See docs/READING.md.
 pub mod Trees
 pub mod Spelling
+pub mod Saving
 pub mod Parts
 pub mod Places
 pub mod Conditions

@@ -20,7 +20,7 @@ use Rattle.c_meaning.specs.State.{Call, State}
 use Rattle.c_meaning.specs.Values.{Rest, ALoop, or_trap, store_at}
 
 abbrev pub activation : Activation → Call
-activation c = record { locals = c.locals.items; parameters = c.parameters.items }
+activation c = record { locals = c.locals.items; parameters = c.parameters.items; block = c.block }
 
 abbrev pub state : Store → State
 state s = record { call = activation s.call; area = s.area.items; input = s.input.now; active = s.active }

@@ -44,7 +44,7 @@ impl<'a> Store<'a> {
         if w32::sub(end, begin) < block {
             return Err(Finish::Trapped);
         }
-        self.call.block = begin;
+        self.call.block = Some(begin);
         if self.put(INT, Spot::Memory(pointer), w32::add(begin, block)) {
             Ok(())
         } else {
@@ -58,9 +58,9 @@ impl<'a> Store<'a> {
         if block == 0 {
             return true;
         }
-        match address(objects, pointer_number(objects)) {
-            None => false,
-            Some(pointer) => self.put(INT, Spot::Memory(pointer), self.call.block),
+        match (self.call.block, address(objects, pointer_number(objects))) {
+            (Some(begin), Some(pointer)) => self.put(INT, Spot::Memory(pointer), begin),
+            _ => false,
         }
     }
 }

@@ -89,7 +89,7 @@ impl<'a> Machine<'a> {
         function: &'a Routine,
         values: Vec<u32>,
     ) -> Result<Event, NoMemory>
-        ensures { IfOk result (λ event. Makes self.old (λ κ. called (Some (routine function.now))
+        ensures { IfOk result (λ event. Makes self.old (λ κ. called self.old.program.now.objects (Some (routine function.now))
             (tasks_of self.old) values.items (with_value κ)) 2 event self.new) }
     {
         let active = self.store.active;
@@ -98,7 +98,7 @@ impl<'a> Machine<'a> {
             let caller = self.store.enter(Activation {
                 locals,
                 parameters: values,
-                block: 0,
+                block: None,
             });
             match self.store.claim(self.program.objects.as_slice(), function.block) {
                 Ok(()) => self.count(

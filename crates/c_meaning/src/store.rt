@@ -2,7 +2,7 @@
 
 ghost use Rattle.std.specs.Prelude.{◌≡◌, ◌<◌, ◌+◌, [], IfOk, is_some, unwrap_or, replicate, drop};
 ghost use Rattle.std.specs.Option.{option_copied};
-ghost use Rattle.c_meaning.specs.State.{access_size, held, put_local, put, put_zeros, spot_of, address, place_in_block, loaded};
+ghost use Rattle.c_meaning.specs.State.{access_size, held, put_local, put, put_zeros, spot_of, address, block_address, loaded};
 ghost use Rattle.c_meaning.specs.declared.store.Spot.TheVariants.{Memory};
 ghost use Rattle.c_meaning.specs.Parts.{state, activation, got_byte};
 
@@ -29,7 +29,7 @@ pub enum Spot {
 pub(crate) struct Activation {
     pub(crate) locals: Vec<u32>,
     pub(crate) parameters: Vec<u32>,
-    pub(crate) block: u32,
+    pub(crate) block: Option<u32>,
 }
 
 /// What a program reads and changes: the call that runs, the data area, the input that is left, and how many calls are
@@ -93,7 +93,7 @@ impl<'a> Store<'a> {
         input: &'a [u8],
     ) -> Store<'a>
         ensures { state result ≡ record {
-          call = record { locals = locals.items; parameters = []; block = 0 };
+          call = record { locals = locals.items; parameters = []; block = None };
           area = area.items;
           input =
               input.now;
@@ -103,7 +103,7 @@ impl<'a> Store<'a> {
         let call = Activation {
             locals,
             parameters: Vec::new(alloc),
-            block: 0,
+            block: None,
         };
         Store {
             call,
@@ -122,15 +122,15 @@ impl<'a> Store<'a> {
             Spot::Local(number) => self.call.locals.get(number as usize).copied(),
             Spot::Parameter(number) => self.call.parameters.get(number as usize).copied(),
             Spot::Memory(address) => self.load(of, address),
-            Spot::InBlock(offset) => self.load(of, self.place_in_block(offset)),
+            Spot::InBlock(offset) => self.load(of, self.block_address(offset)?),
         }
     }
 
-    /// The address of an offset in the block of the call that runs.
-    pub(crate) fn place_in_block(&self, offset: u32) -> u32
-        ensures { result ≡ place_in_block (state self.now) offset }
+    /// The address of an offset in the block of the call that runs. None where it has no block.
+    pub(crate) fn block_address(&self, offset: u32) -> Option<u32>
+        ensures { result ≡ block_address (activation self.now.call) offset }
     {
-        w32::add(self.call.block, offset)
+        Some(w32::add(self.call.block?, offset))
     }
 
     // The value of a type in memory.
@@ -184,14 +184,17 @@ impl<'a> Store<'a> {
                 }
             }
             Spot::Memory(address) => self.keep(of, address, value),
-            Spot::InBlock(offset) => self.keep(of, self.place_in_block(offset), value),
+            Spot::InBlock(offset) => match self.block_address(offset) {
+                None => false,
+                Some(address) => self.keep(of, address, value),
+            },
         }
     }
 
     /// Puts zeros into so many elements of the block, from an offset on. False where a byte of them lies outside the data area.
     pub(crate) fn put_zeros(&mut self, of: CType, offset: u32, count: u32) -> bool
-        ensures done { result ≡ is_some (put_zeros of offset count (state self.old)) }
-        ensures new { IfSome (put_zeros of offset count (state self.old)) (λ st. state self.new ≡ st) }
+        ensures done { result ≡ is_some (put_zeros of offset count (Some (state self.old))) }
+        ensures new { IfSome (put_zeros of offset count (Some (state self.old))) (λ st. state self.new ≡ st) }
     {
         let mut next = offset;
         for _ in 0..count {
