@@ -266,8 +266,8 @@ fn typed_unit(alloc: Global, ast: &Ast) -> Result<Program, TypeFault>
 pub fn check(alloc: Global, ast: &Ast) -> Result<Program, TypeFault>
     requires { HasTokens (unit_of ast.now) }
     ensures computed { Gives (λ p. program p.held) result (type_text (unit_of ast.now).externals ast.now.body_ends (unit_of ast.now).end) }
-    ensures found { IfOk result (λ p. IsText (unit_of ast.now).externals (program p.held)) }
-    ensures only { (p : AProgram) → IsText (unit_of ast.now).externals p → OnlyAnswer (λ p. program p.held) result p }
+    ensures found { IfOk result (λ p. IsText (unit_of ast.now).externals ast.now.body_ends (unit_of ast.now).end (program p.held)) }
+    ensures only { (p : AProgram) → IsText (unit_of ast.now).externals ast.now.body_ends (unit_of ast.now).end p → OnlyAnswer (λ p. program p.held) result p }
     ensures refused { IfErr result (λ e. Refused (TextFault (unit_of ast.now).externals ast.now.body_ends (unit_of ast.now).end) e) }
     ensures first { (f : Fault) → TextFault (unit_of ast.now).externals ast.now.body_ends (unit_of ast.now).end f → OnlyFault result f }
 {
