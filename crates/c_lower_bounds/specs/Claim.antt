@@ -17,7 +17,7 @@ pub record FitsFrame (need : ℕ) (f : TreeFn) : Type 0 where
 -- Each function that a program is lowered to fits the frame that the program's function needs.
 abbrev pub EachFunctionFits : Type 0
 EachFunctionFits = (p : AProgram) (n : ℕ) (g : ARoutine) (f : TreeFn)
-    → slice_get p.routines n ≡ Some g → slice_get (lowered p).functions n ≡ Some f → FitsFrame (need_of g.locals g.body) f
+    → slice_get p.routines n ≡ Some g → slice_get (lowered p).functions n ≡ Some f → FitsFrame (need_of g.locals g.block g.body) f
 
 -- what a function and the one that it is lowered to have in common; the locals that are wanted in registers are its `register` locals
 pub record SameFunction (g : ARoutine) (f : TreeFn) : Type 0 where
