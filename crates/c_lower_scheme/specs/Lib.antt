@@ -15,4 +15,5 @@ pub mod Zeros
 pub mod Flow
 pub mod Statements
 pub mod Programs
+pub mod BlockExample
 pub mod Examples
