@@ -7,9 +7,9 @@ use Rattle.tree_core.specs.declared.program.Object.{Object}
 use Rattle.c_types.specs.declared.types.CType.{CType}
 use Rattle.c_types.specs.declared.types.CType.TheVariants as types
 use Rattle.c_types.specs.declared.types.Integer.TheVariants as ints
-use Rattle.c_meaning.specs.declared.store.Spot.TheVariants.{Memory}
-use Rattle.c_meaning.specs.State.{State, address}
-use Rattle.c_meaning.specs.Values.{Rest, Behind, or_wild, or_trap, read_at, store_at}
+use Rattle.c_meaning.specs.declared.store.Spot.TheVariants.{Memory, InBlock}
+use Rattle.c_meaning.specs.State.{State, address, put, put_zeros}
+use Rattle.c_meaning.specs.Values.{Rest, Behind, or_wild, or_trap, written, read_at, store_at}
 
 abbrev int : CType
 int = types.Integer ints.Int
@@ -42,3 +42,11 @@ abbrev pub released : List Object → ℕ → Behind → Behind
 released objects zero κ w = κ w
 released objects (suc n) κ w = λ st. or_wild st.call.block (λ b.
     or_wild (address objects (pointer_number objects)) (λ pointer. store_at int (Memory pointer) b (λ v. κ w))) st
+
+-- what the block holds at an offset as a type becomes a value
+abbrev pub block_set : CType → ℕ → ℕ → (State → Runs) → State → Runs
+block_set t o v κ st = written (put t (InBlock o) v st) v (λ v. κ)
+
+-- so many elements of the block become 0
+abbrev pub zeros_set : CType → ℕ → ℕ → (State → Runs) → State → Runs
+zeros_set t o count κ st = written (put_zeros t o count (Some st)) 0 (λ v. κ)

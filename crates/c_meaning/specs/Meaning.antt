@@ -15,12 +15,13 @@ use Rattle.c_program.specs.Statements.{ADeclaration, KeepOf, ClearOf, BeginOf, S
 use Rattle.c_program.specs.Statements.{SomeActions, NoActions, MoreActions, DeclareOf, BlockOf, EvaluateOf, BreakOf, ContinueOf}
 use Rattle.c_program.specs.Statements.{ReturnOf, IfOf, IfElseOf, WhileOf, DoOf, ForOf}
 use Rattle.c_program.specs.Programs.{AProgram}
-use Rattle.c_meaning.specs.declared.store.Spot.TheVariants.{Memory, InBlock}
+use Rattle.c_meaning.specs.declared.store.Spot.TheVariants.{Memory}
 use Rattle.c_meaning.specs.declared.flow.Flow.TheVariants.{Onward, Broke, Continued, Returned}
-use Rattle.c_meaning.specs.State.{State, address, spot_of, put_local, put, put_zeros}
+use Rattle.c_meaning.specs.State.{State, address, spot_of, put_local}
 use Rattle.c_meaning.specs.Values.{Rest, RestAll, RestAt, Behind, ALoop, plain_loop, for_loop, Look, Body, Next}
 use Rattle.c_meaning.specs.Values.{chosen, logical, or_wild, or_trap, written, read_at, store_at, step_at, address_of}
 use Rattle.c_meaning.specs.Values.{located, array_address}
+use Rattle.c_meaning.specs.Blocks.{block_set, zeros_set}
 use Rattle.c_meaning.specs.Calls.{passed, call}
 
 -- the program, and what the tasks mean
@@ -98,14 +99,6 @@ module _ (p : AProgram) (next : Next) where
   -- an automatic local becomes a value
   abbrev pub local_set : ℕ → ℕ → (State → Runs) → State → Runs
   local_set n v κ st = written (put_local n v st) v (λ v. κ)
-
-  -- what the block holds at an offset as a type becomes a value
-  abbrev pub block_set : CType → ℕ → ℕ → (State → Runs) → State → Runs
-  block_set t o v κ st = written (put t (InBlock o) v st) v (λ v. κ)
-
-  -- so many elements of the block become 0
-  abbrev pub zeros_set : CType → ℕ → ℕ → (State → Runs) → State → Runs
-  zeros_set t o count κ st = written (put_zeros t o count (Some st)) 0 (λ v. κ)
 
   -- Declarations: a static local keeps its value, and an automatic one is 0 before its initialiser is evaluated.
   abbrev pub declared : List ADeclaration → Behind → State → Runs

@@ -27,9 +27,9 @@ use Rattle.c_meaning.specs.declared.machine.Machine.{Machine}
 use Rattle.c_meaning.specs.State.{State}
 use Rattle.c_meaning.specs.Values.{Rest, Behind, Next, Look, chosen, logical, or_trap, read_at, store_at, step_at}
 use Rattle.c_meaning.specs.Values.{address_of}
-use Rattle.c_meaning.specs.Blocks.{released}
+use Rattle.c_meaning.specs.Blocks.{released, block_set}
 use Rattle.c_meaning.specs.Calls.{passed, answer, call}
-use Rattle.c_meaning.specs.Meaning.{expr, arguments, dropped, turned, look_at, turn_at, local_set, block_set, declared, followed}
+use Rattle.c_meaning.specs.Meaning.{expr, arguments, dropped, turned, look_at, turn_at, local_set, declared, followed}
 use Rattle.c_meaning.specs.Meaning.{stmt, stmts}
 use Rattle.c_meaning.specs.Programs.{means, finished}
 use Rattle.c_meaning.specs.Parts.{activation, state, maybe_bor, loop_of, combined, changed}
@@ -81,7 +81,7 @@ module _ (p : AProgram) where
   resume (waiting.Change t s op x) κ y = changed t s op x y (with_value κ)
   resume waiting.Forget κ v = κ (Leaves Onward)
   resume (waiting.Begin n ds) κ v = local_set p (means p) n v (declared p (means p) (map declaration ds.now) (with_flow κ))
-  resume (waiting.Store t o ds) κ v = block_set p (means p) t o v (declared p (means p) (map declaration ds.now) (with_flow κ))
+  resume (waiting.Store t o ds) κ v = block_set t o v (declared p (means p) (map declaration ds.now) (with_flow κ))
   resume (waiting.If a) κ v = λ st. chosen v (stmt p (means p) (act a.now.value) (with_flow κ) st) (κ (Leaves Onward) st)
   resume (waiting.IfElse a b) κ v = λ st. chosen v (stmt p (means p) (act a.now.value) (with_flow κ) st)
       (stmt p (means p) (act b.now.value) (with_flow κ) st)

@@ -1,32 +1,26 @@
 -- The heading of a function: its earlier declaration, its result and its parameters.
 -- This is how the code computes it; the rules of typing are the relations of c_typed_law.
 use Rattle.std.specs.Prelude.{ℕ, nat_lt, Bool, true, false, ◌&&◌, List, [], ◌∷◌}
-use Rattle.std.specs.Prelude.{◌++◌, length, map, slice_get, slice_index_or, Option, Some, None, Result, Ok, if◌then◌else◌}
+use Rattle.std.specs.Prelude.{◌++◌, length, slice_get, Option, Some, None, Result, Ok, if◌then◌else◌}
 use Rattle.c_phrases.specs.declared.operator.Spec.{Spec}
 use Rattle.c_phrases.specs.declared.operator.Spec.TheVariants as specs
 use Rattle.c_phrases.specs.declared.tree.Named.{Named}
 use Rattle.c_types.specs.declared.types.CType.{CType}
 use Rattle.c_types.specs.declared.types.Integer.{Integer}
 use Rattle.c_types.specs.declared.typed.Variable.TheVariants as variables
-use Rattle.c_types.specs.declared.fault.TypeKind.TheVariants.{Twice, BadType, DataFull}
+use Rattle.c_types.specs.declared.fault.TypeKind.TheVariants.{Twice, BadType}
 use Rattle.c_types.specs.Answers.{Fault, bad}
 use Rattle.c_types.specs.Types.{same_type, is_scalar, size_of}
 use Rattle.c_typed_scope.specs.declared.entry.Entry.{Entry}
 use Rattle.c_typed_scope.specs.declared.entry.Entry.TheVariants as entries
 use Rattle.c_typed_scope.specs.declared.entry.Signature.{Signature}
-use Rattle.c_phrases.specs.Units.{SomeItems, AParam, AFunction}
-use Rattle.c_typed_expressions.specs.Phrases.{params_in}
-use Rattle.c_typed_scope.specs.Scopes.{Scope, is_taken, enter, leave}
+use Rattle.c_phrases.specs.Units.{AParam, AFunction}
+use Rattle.c_typed_scope.specs.Scopes.{Scope, is_taken}
 use Rattle.c_typed_expressions.specs.Expressions.{written}
-use Rattle.c_typed_scope.specs.Layout.{aligned}
-use Rattle.c_typed_addressed.specs.Marks.{Marks, no_marks}
-use Rattle.c_typed_addressed.specs.Statements.{addressed}
-use Rattle.c_typed_definition.specs.Rooms.{Room, room_for, no_room, is_parameter_addressed, offset_in, with_parameter_in}
+use Rattle.c_typed_definition.specs.Rooms.{is_parameter_addressed, offset_in, with_parameter_in}
 use Rattle.c_typed_definition.specs.State.{State, named_state, with_room}
-use Rattle.c_program.specs.Statements.{ADeclaration, SomeActions, MoreActions, DeclareOf}
 use Rattle.c_program.specs.Programs.{ARoutine}
-use Rattle.c_program.specs.Need.{need_of}
-use Rattle.c_typed_definition.specs.Signatures.{parameter_type, signature_of}
+use Rattle.c_typed_definition.specs.Signatures.{signature_of}
 
 -- the text so far: what is in scope, the functions that were declared, and those that are typed; and the offsets where the bodies of the
 -- text's functions end, in order
@@ -118,45 +112,5 @@ with_declared None spec f t = record {
   ends = t.ends;
 }
 
--- what a call of a function does: it stores the parameters that are memory locals, and then its statements follow
-abbrev pub with_stores : List ADeclaration → SomeActions → SomeActions
-with_stores [] body = body
-with_stores (d ∷ ds) body = MoreActions (DeclareOf (d ∷ ds)) body
-
--- the memory locals of a function take at most 262,144 bytes; the place is the end of its body
-unfoldable pub fits_stack : ℕ → Room → Result (Unit {0}) Fault
-fits_stack at room = if nat_lt 262144 room.length then bad at DataFull else Ok tt
-
-abbrev pub end_in : Text → ℕ
-end_in t = slice_index_or t.ends (length t.bodies) 0
-
-abbrev pub body_of : Spec → AFunction → List CType → List ℕ → ℕ → SomeActions → ARoutine
-body_of spec f locals registers block body = record {
-  name = f.name;
-  result = written spec f.stars;
-  parameters =
-      map parameter_type (params_in f.params);
-  locals = locals;
-  registers = registers;
-  block = block;
-  body = body;
-  need = need_of locals block body;
-}
-
--- the routine of a body, behind which this state is left
-abbrev pub routine_of : Spec → AFunction → State → SomeActions → ARoutine
-routine_of spec f s row = body_of spec f s.locals s.registers (aligned s.room.length 4) (with_stores s.room.stores row)
-
 abbrev pub with_body : ARoutine → Text → Text
 with_body b t = record { state = t.state; declared = t.declared; bodies = t.bodies ++ b ∷ []; ends = t.ends }
-
--- the variables of a definition to which `&` is applied
-abbrev pub marks_in : AFunction → Option SomeItems → Marks
-marks_in f None = no_marks
-marks_in f (Some row) = addressed (params_in f.params) row
-
-abbrev pub entered_function : AFunction → State → State
-entered_function f s = record { scope = enter s.scope; locals = []; registers = []; room = room_for (marks_in f f.body); area = s.area }
-
-abbrev pub left_function : State → State
-left_function s = record { scope = leave s.scope; locals = []; registers = []; room = no_room; area = s.area }

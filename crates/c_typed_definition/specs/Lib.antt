@@ -9,4 +9,5 @@ pub mod Automatics
 pub mod Statements
 pub mod Signatures
 pub mod Headings
+pub mod Bodies
 pub mod Texts

@@ -26,8 +26,8 @@ use Rattle.c_typed_definition.specs.Statements.{type_items}
 use Rattle.c_program.specs.Programs.{ARoutine, AProgram}
 use Rattle.c_typed_definition.specs.Signatures.{parameter_type, signature_of, services, service_names, known}
 use Rattle.c_typed_definition.specs.Headings.{Text, earlier_by, is_below, head_of, parameter_form, with_parameter}
-use Rattle.c_typed_definition.specs.Headings.{agrees, with_state, with_declared, fits_stack, end_in, routine_of, with_body}
-use Rattle.c_typed_definition.specs.Headings.{entered_function, left_function}
+use Rattle.c_typed_definition.specs.Headings.{agrees, with_state, with_declared, with_body}
+use Rattle.c_typed_definition.specs.Bodies.{fits_stack, end_in, routine_of, entered_function, left_function}
 
 module _ (names : List (List ℕ × Entry)) (signatures : List Signature) where
   -- a length in a parameter's brackets, and its literals

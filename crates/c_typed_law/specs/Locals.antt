@@ -1,113 +1,45 @@
 -- Declarations of the variables of a block: automatic ones, memory locals among them, and static ones, which are objects.
-use Rattle.std.specs.Prelude.{◌≡◌, ℕ, ◌+◌, ◌-◌, ◌*◌, nat_lt, not, ◌&&◌, Bool, true, false, List, [], ◌∷◌, ◌++◌, length, Option, Some, None}
+use Rattle.std.specs.Prelude.{◌≡◌, ℕ, not, ◌&&◌, Bool, true, false, List, [], ◌∷◌, ◌++◌, length, Option, Some, None}
 use Rattle.c_phrases.specs.declared.operator.Spec.{Spec}
 use Rattle.c_phrases.specs.declared.operator.Storage.{Storage}
 use Rattle.c_phrases.specs.declared.operator.Storage.TheVariants as storages
-use Rattle.c_phrases.specs.Phrases.{AnExp, SomeExps, no_exps, exps}
 use Rattle.c_types.specs.declared.types.CType.{CType}
-use Rattle.c_types.specs.declared.fault.TypeKind.TheVariants.{BadInit, BadType}
 use Rattle.c_types.specs.Answers.{Fault}
 use Rattle.c_types.specs.Types.{size_of}
-use Rattle.c_typed_operators.specs.Rules.{fits}
-use Rattle.c_types.specs.Typed.{AnExpression, Constant, ConvertTo}
+use Rattle.c_types.specs.Typed.{Constant}
 use Rattle.c_typed_scope.specs.declared.entry.Entry.{Entry}
 use Rattle.c_typed_scope.specs.declared.entry.Signature.{Signature}
 use Rattle.c_phrases.specs.Units.{AnInit, value, elements, ADeclarator}
 use Rattle.c_program.specs.Statements.{ADeclaration, KeepOf, ClearOf, BeginOf, StoreOf}
-use Rattle.c_typed_expressions.specs.Phrases.{first, init_in, brackets_in}
+use Rattle.c_typed_expressions.specs.Phrases.{init_in, brackets_in}
 use Rattle.c_typed_expressions.specs.Expressions.{written}
-use Rattle.c_typed_expressions.specs.Relations.{Joint, FirstOf, Unless, IsTyped, FirstFault}
-use Rattle.c_typed_definition.specs.Forms.{text_of, given_count, own_length}
+use Rattle.c_typed_expressions.specs.Relations.{Joint, FirstOf}
 use Rattle.c_typed_definition.specs.Rooms.{offset_in, is_next_addressed}
-use Rattle.c_typed_definition.specs.State.{State, with_area, with_local, with_register}
-use Rattle.c_typed_definition.specs.Automatics.{memory_variable, memory_array, zeros, text_stored}
-use Rattle.c_typed_law.specs.Tests.{With, Without, Lacking, Never}
-use Rattle.c_typed_law.specs.Values.{IsLength, LengthFault}
+use Rattle.c_typed_definition.specs.State.{State, with_local, with_register}
+use Rattle.c_typed_definition.specs.Automatics.{memory_variable}
+use Rattle.c_typed_law.specs.Tests.{Never}
+use Rattle.c_typed_law.specs.Arrays.{Done, IsGiven, GivenFault, IsStored, IsArray, ArrayFault}
 use Rattle.c_typed_law.specs.Forms.{IsAutomaticForm, AutomaticFormFault}
 use Rattle.c_typed_law.specs.Objects.{IsObject, ObjectFault}
 
--- what declarations do, and the state that they leave
-abbrev pub Done : Type 0
-Done = List ADeclaration × State
-
 -- names of the functions that are defined in the text, and their signatures
 module _ (names : List (List ℕ × Entry)) (signatures : List Signature) where
-  -- a value is converted to a type
-  abbrev pub IsGiven : CType → AnExp → State → AnExpression × State → Type 0
-  IsGiven t e s r = Joint (IsTyped names signatures s.scope e s.area) (λ x. Joint (With (fits t x.0) (λ y. y ≡ ConvertTo t x.0))
-      (λ y u. u ≡ (y, with_area x.1 s))) r
-
-  abbrev pub GivenFault : CType → AnExp → State → Fault → Type 0
-  GivenFault t e s f = FirstOf (IsTyped names signatures s.scope e s.area) (FirstFault names signatures s.scope e s.area)
-      (λ x. FirstOf (With (fits t x.0) (λ y. y ≡ ConvertTo t x.0)) (Lacking (fits t x.0) (first e) BadType Never) (λ y. Never)) f
-
   -- the value that an automatic local begins with; one without a value begins with zero
   abbrev pub IsBegun : CType → ℕ → Option AnInit → List ADeclaration → State → Done → Type 0
   IsBegun t n None done s r = r ≡ (done ++ ClearOf n ∷ [], s)
   IsBegun t n (Some (elements es comma)) done s r = r ≡ (done ++ ClearOf n ∷ [], s)
-  IsBegun t n (Some (value e)) done s r = Joint (IsGiven t e s) (λ x u. u ≡ (done ++ BeginOf n x.0 ∷ [], x.1)) r
+  IsBegun t n (Some (value e)) done s r = Joint (IsGiven names signatures t e s) (λ x u. u ≡ (done ++ BeginOf n x.0 ∷ [], x.1)) r
 
   abbrev pub BegunFault : CType → ℕ → Option AnInit → State → Fault → Type 0
   BegunFault t n None s f = ⊥
   BegunFault t n (Some (elements es comma)) s f = ⊥
-  BegunFault t n (Some (value e)) s f = FirstOf (IsGiven t e s) (GivenFault t e s) (λ x. Never) f
-
-  -- a value is stored at an offset of the block
-  abbrev pub IsStored : CType → ℕ → AnExp → List ADeclaration → State → Done → Type 0
-  IsStored t o e done s r = Joint (IsGiven t e s) (λ x u. u ≡ (done ++ StoreOf t o x.0 ∷ [], x.1)) r
+  BegunFault t n (Some (value e)) s f = FirstOf (IsGiven names signatures t e s) (GivenFault names signatures t e s) (λ x. Never) f
 
   -- a memory local is 0, and then becomes its value
   abbrev pub IsMemoryBegun : CType → ℕ → Option AnInit → List ADeclaration → State → Done → Type 0
   IsMemoryBegun t o None done s r = r ≡ (done ++ StoreOf t o (Constant 0) ∷ [], s)
   IsMemoryBegun t o (Some (elements es comma)) done s r = r ≡ (done ++ StoreOf t o (Constant 0) ∷ [], s)
-  IsMemoryBegun t o (Some (value e)) done s r = IsStored t o e (done ++ StoreOf t o (Constant 0) ∷ []) s r
-
-  -- the values of a list, from left to right, each behind the element before
-  abbrev pub AreStored : CType → ℕ → SomeExps → List ADeclaration → State → Done → Type 0
-  AreStored t o no_exps done s r = r ≡ (done, s)
-  AreStored t o (exps e es) done s r = Joint (IsStored t o e done s) (λ x. AreStored t (o + size_of t) es x.0 x.1) r
-
-  abbrev pub StoredFault : CType → ℕ → SomeExps → List ADeclaration → State → Fault → Type 0
-  StoredFault t o no_exps done s f = ⊥
-  StoredFault t o (exps e es) done s f = FirstOf (IsStored t o e done s) (FirstOf (IsGiven t e s) (GivenFault t e s) (λ x. Never))
-      (λ x. StoredFault t (o + size_of t) es x.0 x.1) f
-
-  -- an array becomes nothing yet, the values of a list, or the bytes of a literal
-  abbrev pub IsArrayBegun : CType → ℕ → Option AnInit → List ADeclaration → State → Done → Type 0
-  IsArrayBegun t o None done s r = r ≡ (done, s)
-  IsArrayBegun t o (Some (elements es comma)) done s r = AreStored t o es done s r
-  IsArrayBegun t o (Some (value e)) done s r = r ≡ (done ++ text_stored t o (text_of e), s)
-
-  abbrev pub ArrayBegunFault : CType → ℕ → Option AnInit → List ADeclaration → State → Fault → Type 0
-  ArrayBegunFault t o None done s f = ⊥
-  ArrayBegunFault t o (Some (elements es comma)) done s f = StoredFault t o es done s f
-  ArrayBegunFault t o (Some (value e)) done s f = ⊥
-
-  -- the number of elements: the length, whose literals are objects, or else as many as the initialiser has
-  abbrev pub IsAutomaticLength : Option AnExp → Option AnInit → State → ℕ × State → Type 0
-  IsAutomaticLength None i s r = r ≡ (own_length i, s)
-  IsAutomaticLength (Some e) i s r = Joint (IsLength names signatures s.scope e s.area) (λ x u. u ≡ (x.0, with_area x.1 s)) r
-
-  abbrev pub AutomaticLengthFault : Option AnExp → Option AnInit → State → Fault → Type 0
-  AutomaticLengthFault None i s f = ⊥
-  AutomaticLengthFault (Some e) i s f =
-      FirstOf (IsLength names signatures s.scope e s.area) (LengthFault names signatures s.scope e s.area) (λ x. Never) f
-
-  -- an array, whose length is no less than its initialiser's; its missing elements become 0 behind the others
-  abbrev pub IsArray : CType → ADeclarator → Option AnExp → List ADeclaration → State → Done → Type 0
-  IsArray t d l done s r =
-      Joint (IsAutomaticLength l (init_in d.init) s)
-      (λ m. Joint (Without (nat_lt m.0 (given_count (init_in d.init))) (λ n. n ≡ m.0))
-      (λ n. Joint (IsArrayBegun t (offset_in (size_of t) m.1.room) (init_in d.init) done (memory_array t (n * size_of t) d m.1))
-      (λ x u. u ≡ (x.0 ++ zeros t (offset_in (size_of t) m.1.room + given_count (init_in d.init) * size_of t)
-      (n - given_count (init_in d.init)), x.1)))) r
-
-  abbrev pub ArrayFault : CType → ADeclarator → Option AnExp → List ADeclaration → State → Fault → Type 0
-  ArrayFault t d l done s f =
-      FirstOf (IsAutomaticLength l (init_in d.init) s) (AutomaticLengthFault l (init_in d.init) s)
-      (λ m. FirstOf (Without (nat_lt m.0 (given_count (init_in d.init))) (λ n. n ≡ m.0))
-      (Unless (nat_lt m.0 (given_count (init_in d.init))) d.at BadInit Never)
-      (λ n. ArrayBegunFault t (offset_in (size_of t) m.1.room) (init_in d.init) done (memory_array t (n * size_of t) d m.1))) f
+  IsMemoryBegun t o (Some (value e)) done s r = IsStored names signatures t o e (done ++ StoreOf t o (Constant 0) ∷ []) s r
 
   -- a variable that is no array: a memory local where `&` is applied to it
   abbrev pub IsVariable : Bool → CType → ADeclarator → List ADeclaration → State → Done → Type 0
@@ -121,11 +53,11 @@ module _ (names : List (List ℕ × Entry)) (signatures : List Signature) where
 
   abbrev pub IsAutomaticBy : Option (Option AnExp) → Bool → CType → ADeclarator → List ADeclaration → State → Done → Type 0
   IsAutomaticBy None is_register t d done s r = IsVariable (not is_register && is_next_addressed s.room) t d done s r
-  IsAutomaticBy (Some l) is_register t d done s r = IsArray t d l done s r
+  IsAutomaticBy (Some l) is_register t d done s r = IsArray names signatures t d l done s r
 
   abbrev pub AutomaticFaultBy : Option (Option AnExp) → Bool → CType → ADeclarator → List ADeclaration → State → Fault → Type 0
   AutomaticFaultBy None is_register t d done s f = VariableFault (not is_register && is_next_addressed s.room) t d s f
-  AutomaticFaultBy (Some l) is_register t d done s f = ArrayFault t d l done s f
+  AutomaticFaultBy (Some l) is_register t d done s f = ArrayFault names signatures t d l done s f
 
   -- an automatic variable, whose name is in scope in its own initialiser
   abbrev pub IsAutomatic : Bool → Spec → ADeclarator → List ADeclaration → State → Done → Type 0

@@ -1,9 +1,8 @@
 -- Functions and whole texts: what a text is typed as, and which fault is its first.
-use Rattle.std.specs.Prelude.{◌≡◌, ℕ, ◌+◌, nat_lt, Bool, false, is_some, List, [], ◌∷◌, length, Option, Some, None, Ok, Err}
+use Rattle.std.specs.Prelude.{◌≡◌, ℕ, ◌+◌, nat_lt, Bool, false, is_some, List, [], ◌∷◌, length, Option, Some, None}
 use Rattle.c_phrases.specs.declared.operator.Spec.{Spec}
-use Rattle.c_types.specs.declared.fault.TypeKind.TheVariants.{NoMain, DataFull}
+use Rattle.c_types.specs.declared.fault.TypeKind.TheVariants.{DataFull}
 use Rattle.c_types.specs.Answers.{Fault}
-use Rattle.c_typed_operators.specs.Table.{NoRow}
 use Rattle.c_typed_scope.specs.declared.entry.Entry.{Entry}
 use Rattle.c_typed_scope.specs.declared.entry.Signature.{Signature}
 use Rattle.c_typed_scope.specs.Scopes.{Scope, find}
@@ -16,10 +15,11 @@ use Rattle.c_typed_expressions.specs.Expressions.{integer_of, written}
 use Rattle.c_typed_expressions.specs.Relations.{Joint, FirstOf, Unless}
 use Rattle.c_typed_definition.specs.State.{State, with_area}
 use Rattle.c_typed_definition.specs.Signatures.{parameter_type, signature_of, known}
-use Rattle.c_typed_definition.specs.Headings.{Text, with_state, is_below, with_parameter, with_declared, end_in, routine_of}
-use Rattle.c_typed_definition.specs.Headings.{with_body, entered_function, left_function}
-use Rattle.c_typed_definition.specs.Texts.{any_block, stacked_if, main_of, empty_text}
+use Rattle.c_typed_definition.specs.Headings.{Text, with_state, is_below, with_parameter, with_declared, with_body}
+use Rattle.c_typed_definition.specs.Bodies.{end_in, routine_of, entered_function, left_function}
+use Rattle.c_typed_definition.specs.Texts.{empty_text}
 use Rattle.c_typed_law.specs.Tests.{Without, Never}
+use Rattle.c_typed_law.specs.Wholes.{IsWhole, WholeFault}
 use Rattle.c_typed_law.specs.Values.{IsLength, LengthFault}
 use Rattle.c_typed_law.specs.Objects.{IsObject, ObjectFault}
 use Rattle.c_typed_law.specs.Statements.{AreItems, ItemsFault}
@@ -130,20 +130,6 @@ module _ (names : List (List ℕ × Entry)) (signatures : List Signature) where
   abbrev pub ExternalsFault : List AnExternal → Text → Fault → Type 0
   ExternalsFault [] t f = ⊥
   ExternalsFault (e ∷ es) t f = FirstOf (IsExternalBy e.spec e.declared t) (ExternalFaultBy e.spec e.declared t) (ExternalsFault es) f
-
--- where some function has memory locals, the second stack lies behind the other objects
-abbrev pub IsStacked : ℕ → Text → Area → Type 0
-IsStacked end t a = stacked_if (any_block t.bodies) end t.state.area ≡ Ok a
-
--- a program has its objects, its functions, and the number of main
-abbrev pub IsWhole : ℕ → Text → AProgram → Type 0
-IsWhole end t p = Joint (IsStacked end t) (λ a. Joint (λ n. main_of t.bodies ≡ Some n)
-    (λ n u. u ≡ record { objects = a.objects; routines = t.bodies; main = n })) p
-
-abbrev pub WholeFault : Text → ℕ → Fault → Type 0
-WholeFault t end f =
-    FirstOf (IsStacked end t) (λ g. stacked_if (any_block t.bodies) end t.state.area ≡ Err g)
-    (λ a. NoRow (λ n. main_of t.bodies ≡ Some n) end NoMain) f
 
 -- The text is well typed, as this program. A call may stand before its function's definition: the functions of the
 -- whole text are known in each. Where the bodies of functions end, and the text, is told only by faults.

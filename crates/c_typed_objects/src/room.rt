@@ -1,11 +1,12 @@
 // The block of a function's memory locals, while its declarations are read.
-ghost use Rattle.std.specs.Prelude.{◌≡◌, ◌≤◌, ◌++◌, ◌∷◌, [], map, OnOk, Bool};
+ghost use Rattle.std.specs.Prelude.{◌≡◌, ◌≤◌, OnOk, Ok};
 ghost use Rattle.c_types.specs.Types.{size_of};
-ghost use Rattle.c_program.specs.Statements.{declaration};
+ghost use Rattle.c_types.specs.Answers.{Gives, ◌>>=◌};
 ghost use Rattle.c_typed_scope.specs.Layout.{aligned};
 ghost use Rattle.c_typed_addressed.specs.Views.{marks};
 ghost use Rattle.c_typed_definition.specs.Rooms.{room_for, is_next_addressed, is_parameter_addressed, one_declared, offset_in, taking};
-ghost use Rattle.c_typed_definition.specs.Rooms.{storing, with_parameter_in};
+ghost use Rattle.c_typed_definition.specs.Rooms.{with_parameter_in};
+ghost use Rattle.c_typed_definition.specs.Bodies.{fits_stack};
 ghost use Rattle.c_typed_objects.specs.Views.{room};
 
 use c_program::Declaration;
@@ -95,8 +96,7 @@ impl Room {
 
     /// The bytes of the block, a multiple of 4; DataFull, at this place, where they are too many.
     pub fn block(&self, at: u32) -> Result<u32, TypeFault>
-        ensures refused { IfErr result (λ e. (fits_stack at (room self.now) ≡ bad at DataFull) × (e ≡ TypeFault.At at DataFull)) }
-        ensures found { IfOk result (λ n. (fits_stack at (room self.now) ≡ Ok tt) × (n ≡ aligned self.now.length 4)) }
+        ensures { Gives (λ n. n) result (fits_stack at (room self.now) >>= λ ok. Ok (aligned self.now.length 4)) }
     {
         if self.length > BLOCK_LIMIT {
             refuse(at, TypeKind::DataFull)
