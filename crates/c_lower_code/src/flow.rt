@@ -230,7 +230,10 @@ pub(crate) fn stored_in_block(
 {
     let mut items = p.items;
     let place = in_block(frame, offset)?;
-    put(&mut items, Item::AssignMemory(integer_of(of), place, p.tree))?;
+    put(
+        &mut items,
+        Item::AssignMemory(integer_of(of), place, p.tree),
+    )?;
     Ok(Emitted {
         items,
         temps: p.temps,
@@ -256,11 +259,10 @@ pub(crate) fn zeros_in_block(
     let mut items = Vec::new(frame.alloc);
     put(&mut items, Item::AssignLocal(t, in_block(frame, offset)?))?;
     put(&mut items, Item::Label(l))?;
-    put(&mut items, Item::AssignMemory(
-        integer_of(of),
-        Tree::Local(t),
-        Tree::Number(0),
-    ))?;
+    put(
+        &mut items,
+        Item::AssignMemory(integer_of(of), Tree::Local(t), Tree::Number(0)),
+    )?;
     let next = binary(
         frame.alloc,
         ArithmeticOperator::Add,
@@ -268,12 +270,10 @@ pub(crate) fn zeros_in_block(
         Tree::Number(of.size()),
     )?;
     put(&mut items, Item::AssignLocal(t, next))?;
-    put(&mut items, Item::Branch(
-        Rel::Ne,
-        l,
-        Tree::Local(t),
-        in_block(frame, end)?,
-    ))?;
+    put(
+        &mut items,
+        Item::Branch(Rel::Ne, l, Tree::Local(t), in_block(frame, end)?),
+    )?;
     Ok(Emitted {
         items,
         temps: after(t)?,
@@ -282,12 +282,7 @@ pub(crate) fn zeros_in_block(
 }
 
 /// A block of so many bytes is taken: where the stack has no such room, a division by zero traps. The label l is behind it.
-pub(crate) fn claimed(
-    frame: Frame,
-    pointer: u32,
-    block: u32,
-    l: u32,
-) -> Result<Emitted, NoMemory>
+pub(crate) fn claimed(frame: Frame, pointer: u32, block: u32, l: u32) -> Result<Emitted, NoMemory>
     ensures { IfOk result (λ r. done r ≡ flows.claimed frame.locals frame.first pointer block l) }
 {
     let begin = frame.locals;
@@ -306,7 +301,10 @@ pub(crate) fn claimed(
         end,
         Tree::Local(begin),
     )?;
-    put(&mut items, Item::Branch(Rel::Geu, l, room, Tree::Number(block)))?;
+    put(
+        &mut items,
+        Item::Branch(Rel::Geu, l, room, Tree::Number(block)),
+    )?;
     let trap = binary(
         frame.alloc,
         ArithmeticOperator::Divide,
@@ -321,11 +319,10 @@ pub(crate) fn claimed(
         Tree::Local(begin),
         Tree::Number(block),
     )?;
-    put(&mut items, Item::AssignMemory(
-        Integer::Int,
-        Tree::Object(pointer),
-        behind,
-    ))?;
+    put(
+        &mut items,
+        Item::AssignMemory(Integer::Int, Tree::Object(pointer), behind),
+    )?;
     Ok(Emitted {
         items,
         temps: frame.first,

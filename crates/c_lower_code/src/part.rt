@@ -219,11 +219,10 @@ fn released(pointer: u32, local: u32, p: Lowered) -> Result<Emitted, NoMemory>
     let temps = after_if(is_saved, p.temps)?;
     let mut items = p.items;
     let tree = put_saved(&mut items, is_saved, p.temps, p.tree)?;
-    put(&mut items, Item::AssignMemory(
-        Integer::Int,
-        Tree::Object(pointer),
-        Tree::Local(local),
-    ))?;
+    put(
+        &mut items,
+        Item::AssignMemory(Integer::Int, Tree::Object(pointer), Tree::Local(local)),
+    )?;
     put(&mut items, Item::Return(tree))?;
     Ok(Emitted {
         items,

@@ -81,7 +81,11 @@ fn spelled_items(alloc: Global, items: &[Item]) -> Result<Vec<TreeItem>, NoMemor
 fn first_temporary(locals: u32, block: u32) -> Result<u32, NoMemory>
     ensures { IfOk result (λ n. n ≡ programs.first_temporary locals block) }
 {
-    if block == 0 { Ok(locals) } else { after(locals) }
+    if block == 0 {
+        Ok(locals)
+    } else {
+        after(locals)
+    }
 }
 
 // How a function is left, by the object of the stack's pointer.
@@ -96,12 +100,7 @@ fn way_out(pointer: u32, locals: u32, block: u32) -> Destination
 }
 
 // What a function is lowered in.
-fn frame_of(
-    alloc: Global,
-    pointer: u32,
-    functions: u32,
-    of: &Routine,
-) -> Result<Frame, NoMemory> {
+fn frame_of(alloc: Global, pointer: u32, functions: u32, of: &Routine) -> Result<Frame, NoMemory> {
     let locals = number_of(of.locals.as_slice().len())?;
     Ok(Frame {
         alloc,

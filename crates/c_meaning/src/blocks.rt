@@ -15,8 +15,7 @@ use tree_core::Object;
 const INT: CType = CType::Integer(Integer::Int);
 
 // The numbers of the stack's pointer and of its area: the last two objects.
-fn pointer_number(objects: &[Object]) -> u32
-{
+fn pointer_number(objects: &[Object]) -> u32 {
     objects.len().saturating_sub(2).min(0xffff_fffe) as u32
 }
 

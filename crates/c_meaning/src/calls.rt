@@ -100,7 +100,10 @@ impl<'a> Machine<'a> {
                 parameters: values,
                 block: None,
             });
-            match self.store.claim(self.program.objects.as_slice(), function.block) {
+            match self
+                .store
+                .claim(self.program.objects.as_slice(), function.block)
+            {
                 Ok(()) => self.count(
                     Frame::ForCall(caller, active, function.block),
                     Control::Block(&function.body),

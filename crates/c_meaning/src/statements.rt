@@ -15,8 +15,8 @@ ghost use Rattle.c_meaning.specs.FrameWork.{control_work};
 use crate::flow::{Event, Flow};
 use crate::frame::{Control, FlowFrame, Frame, Loop, ValueFrame};
 use crate::machine::Machine;
-use c_program::{Action, Declaration};
 use crate::store::Spot;
+use c_program::{Action, Declaration};
 use c_types::{CType, Expression};
 use gg_base::{Finish, NoMemory};
 

@@ -46,7 +46,11 @@ pub(crate) fn expression(blocks: &Blocks, e: &Expr, found: &mut Addressed)
         Expr::Index { base, index, .. } => both(blocks, base, index, found),
         Expr::StepAfter { operand, .. } => expression(blocks, operand, found),
         Expr::StepBefore { operand, .. } => expression(blocks, operand, found),
-        Expr::Prefix { operator, operand, .. } => {
+        Expr::Prefix {
+            operator,
+            operand,
+            ..
+        } => {
             expression(blocks, operand, found);
             apply(blocks, *operator, operand, found);
         }

@@ -90,6 +90,8 @@ impl Search {
             return Ok(());
         }
         let name = Vec::from_slice(alloc, name.as_slice())?;
-        self.blocks.here.add(name, Entry::Variable(CType::Void, variable))
+        self.blocks
+            .here
+            .add(name, Entry::Variable(CType::Void, variable))
     }
 }

@@ -22,8 +22,8 @@ use c_phrases::Ast;
 use c_phrases::operator::Spec;
 use c_phrases::tree::{Declarator, Declared, External};
 use c_program::Routine;
-use c_typed_expressions::Functions;
 use c_typed_addressed::Addressed;
+use c_typed_expressions::Functions;
 use c_typed_objects::{Environment, Room, object};
 use c_typed_scope::{Block, Blocks, Data, Entry, Signature, lay_stack};
 use c_typed_statements::{Builder, function, signature};
@@ -221,7 +221,11 @@ fn any_block(routines: &[Routine]) -> bool
 fn lay_if(alloc: Global, any: bool, at: u32, layout: &mut Data) -> Result<(), TypeFault>
     ensures { OnlyTurns result (area layout.new) (stacked_if any at (area layout.old)) }
 {
-    if any { lay_stack(alloc, layout, at) } else { Ok(()) }
+    if any {
+        lay_stack(alloc, layout, at)
+    } else {
+        Ok(())
+    }
 }
 
 // The typed program of a unit, or its first fault, by the definition.

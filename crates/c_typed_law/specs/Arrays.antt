@@ -76,8 +76,11 @@ module _ (names : List (List ℕ × Entry)) (signatures : List Signature) where
       Joint (IsAutomaticLength l (init_in d.init) s)
       (λ m. Joint (Without (nat_lt m.0 (given_count (init_in d.init))) (λ n. n ≡ m.0))
       (λ n. Joint (IsArrayBegun t (offset_in (size_of t) m.1.room) (init_in d.init) done (memory_array t (n * size_of t) d m.1))
-      (λ x u. u ≡ (x.0 ++ zeros t (offset_in (size_of t) m.1.room + given_count (init_in d.init) * size_of t)
-      (n - given_count (init_in d.init)), x.1)))) r
+      (λ x u. u ≡ (
+        x.0 ++ zeros t (offset_in (size_of t) m.1.room + given_count (init_in d.init) * size_of t)
+            (n - given_count (init_in d.init)),
+        x.1,
+      )))) r
 
   abbrev pub ArrayFault : CType → ADeclarator → Option AnExp → List ADeclaration → State → Fault → Type 0
   ArrayFault t d l done s f =

@@ -62,13 +62,10 @@ fn begin(
         None => Declaration::Clear(number),
         Some(given) => match &given.with {
             Initialiser::List { .. } => Declaration::Clear(number),
-            Initialiser::Value(e) => Declaration::Begin(number, value(
-                alloc,
-                functions,
-                of,
-                e,
-                environment,
-            )?),
+            Initialiser::Value(e) => Declaration::Begin(
+                number,
+                value(alloc, functions, of, e, environment)?,
+            ),
         },
     };
     done.push(first)?;
@@ -196,11 +193,7 @@ fn fill_array(
     begin_array(alloc, functions, of, offset, given, done, environment)?;
     let there = given_count(given) as u32;
     if there < count {
-        done.push(Declaration::Zeros(
-            of,
-            offset + there * of.size(),
-            count - there,
-        ))?;
+        done.push(Declaration::Zeros(of, offset + there * of.size(), count - there))?;
     }
     Ok(())
 }
@@ -340,14 +333,6 @@ pub fn automatic(
             let in_block = !is_register && environment.room.is_next_addressed();
             variable(alloc, functions, in_block, of, d, done, environment)
         }
-        Some(length) => array(
-            alloc,
-            functions,
-            of,
-            d,
-            &length.value,
-            done,
-            environment,
-        ),
+        Some(length) => array(alloc, functions, of, d, &length.value, done, environment),
     }
 }

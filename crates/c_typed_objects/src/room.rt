@@ -11,8 +11,8 @@ ghost use Rattle.c_typed_objects.specs.Views.{room};
 
 use c_program::Declaration;
 use c_typed_addressed::Addressed;
-use c_types::typed::BLOCK_LIMIT;
 use c_types::fault::refuse;
+use c_types::typed::BLOCK_LIMIT;
 use c_types::{CType, Expression, Place, TypeFault, TypeKind, Variable};
 use std::alloc::{AllocError, Global};
 
