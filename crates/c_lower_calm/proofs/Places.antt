@@ -23,19 +23,24 @@ use Rattle.c_lower_scheme.proofs.Facts.{leaf_inert}
 use Rattle.c_lower_calm.proofs.Trees.{Apart, IsCalm, IsCalmItem, AreCalm, none, next, behind}
 use Rattle.c_lower_calm.proofs.Parts.{CalmLow, CalmFound, CalmReady, inert_apart, calm_saving, calm_saved, calm_fitted, over_calm, must_apart, delivered_calm}
 
-pub calm_where : (v : Variable) → IsCalm (address_tree (where_of v))
-calm_where (variables.Automatic n) = tt
-calm_where (variables.Parameter n) = tt
-calm_where (variables.Global n) = tt
-calm_where (variables.Static n) = tt
+calm_block : (b : Bool) (size o : ℕ) → IsCalm (if b then Loc size else Bin ariths.Add (Loc size) (Num o))
+calm_block true size o = tt
+calm_block false size o = search
+
+pub calm_where : (size : ℕ) (v : Variable) → IsCalm (address_tree (where_of size v))
+calm_where size (variables.Automatic n) = tt
+calm_where size (variables.Parameter n) = tt
+calm_where size (variables.Global n) = tt
+calm_where size (variables.Static n) = tt
+calm_where size (variables.InBlock o) = calm_block (o == 0) size o
 
 calm_read : (ty : CType) (s : Where) → IsCalm (address_tree s) → IsCalm (read_from ty s)
 calm_read ty (InLoc n) h = tt
 calm_read ty (InArg n) h = tt
 calm_read ty (InMem a) h = h
 
-pub found_calm : (ty : CType) (v : Variable) (t l : ℕ) → CalmFound (found ty (where_of v) t l)
-found_calm ty v t l = record { place = calm_where v; items = none }
+pub found_calm : (size : ℕ) (ty : CType) (v : Variable) (t l : ℕ) → CalmFound (found ty (where_of size v) t l)
+found_calm size ty v t l = record { place = calm_where size v; items = none }
 
 pub pointed_calm : (ty : CType) {p : Lowered} → CalmLow p → CalmFound (pointed ty p)
 pointed_calm ty h = record { place = h.tree; items = h.items }

@@ -43,6 +43,7 @@ module _ (live scope : ℕ → Type 0) where
   variable_where (variables.Parameter m) u h = tt
   variable_where (variables.Global m) u h = tt
   variable_where (variables.Static m) u h = tt
+  variable_where (variables.InBlock o) u h = tt
 
   mutual
     pub place_where : (a : APlace) → Unless (λ x. place_mentions x a) → FitsAt scope a → FitsAt live a

@@ -20,7 +20,7 @@ HoldBytes os = (n : ℕ) (o : Object) → slice_get os n ≡ Some o → AreBytes
 
 -- what a function's statements name is there
 abbrev pub BodyStands : AProgram → ARoutine → Type 0
-BodyStands p g = StandsActs (IsThere (length p.objects) (length g.parameters) g.block) (Takes p.routines) (length p.objects) g.block g.body
+BodyStands p g = StandsActs (IsThere (length p.objects) (length g.parameters) g.block) (Takes p.routines) (length p.objects) g.body
 
 pub record IsSound (p : AProgram) : Type 0 where
   -- in each function's statements each local is in scope, each number is a longword, and each jump has its loop

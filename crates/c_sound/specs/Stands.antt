@@ -1,6 +1,6 @@
 -- Expressions and statements in which each object and parameter that is named is there, and each call has its function
 -- and as many arguments as that has parameters.
-use Rattle.std.specs.Prelude.{◌≡◌, ℕ, ◌<◌, ◌≤◌, ◌+◌, ◌*◌, List, [], ◌∷◌, length, Option, Some, None, slice_get}
+use Rattle.std.specs.Prelude.{◌≡◌, ℕ, ◌<◌, ◌+◌, ◌*◌, ◌-◌, List, [], ◌∷◌, length, Option, Some, None, slice_get}
 use Rattle.c_types.specs.Types.{size_of}
 use Rattle.c_types.specs.declared.typed.Variable.{Variable}
 use Rattle.c_types.specs.declared.typed.Variable.TheVariants as variables
@@ -41,8 +41,8 @@ Takes gs (callees.Defined n) count = IsDefined gs n count
 Takes gs callees.Putchar count = count ≡ 1
 Takes gs callees.Getchar count = count ≡ 0
 
--- which variables are there, and which calls are right; how many objects there are, and how many bytes of memory locals
-module _ (there : Variable → Type 0) (takes : Callee → ℕ → Type 0) (literals block : ℕ) where
+-- which variables are there, and which calls are right
+module _ (there : Variable → Type 0) (takes : Callee → ℕ → Type 0) (literals : ℕ) where
   abbrev mutual
     pub StandsAt : APlace → Type 0
     StandsAt (VariableAt t v) = there v
@@ -85,13 +85,15 @@ module _ (there : Variable → Type 0) (takes : Callee → ℕ → Type 0) (lite
   StandsMaybe None = Unit {0}
   StandsMaybe (Some e) = Stands e
 
+  -- what is stored in the block lies there, its first byte and its last
   abbrev pub StandsDeclared : List ADeclaration → Type 0
   StandsDeclared [] = Unit {0}
   StandsDeclared (KeepOf object ∷ ds) = StandsDeclared ds
   StandsDeclared (ClearOf n ∷ ds) = StandsDeclared ds
   StandsDeclared (BeginOf n e ∷ ds) = Stands e × StandsDeclared ds
-  StandsDeclared (StoreOf t o e ∷ ds) = (o < block) × Stands e × StandsDeclared ds
-  StandsDeclared (ZerosOf t o count ∷ ds) = (o + count * size_of t ≤ block) × StandsDeclared ds
+  StandsDeclared (StoreOf t o e ∷ ds) = there (variables.InBlock o) × Stands e × StandsDeclared ds
+  StandsDeclared (ZerosOf t o count ∷ ds) =
+      there (variables.InBlock o) × there (variables.InBlock (o + count * size_of t - 1)) × StandsDeclared ds
 
   abbrev mutual
     pub StandsAct : AnAction → Type 0

@@ -85,7 +85,7 @@ pub record BodyIsSound (signatures : List Signature) (looping : Bool) (parameter
     (acts : SomeActions) (r : State) : Type 0 where
   pub fits : (size : ℕ) → length r.locals ≤ size → ItemsOf IsToken row → FitsActs size no_local looping acts
   pub stands : (gs : List ARoutine) (objects block : ℕ) → length r.area.objects ≤ objects → r.room.length ≤ block → block ≤ 262144 →
-      AreDefined signatures gs → StandsActs (IsThere objects parameters block) (Takes gs) objects block acts
+      AreDefined signatures gs → StandsActs (IsThere objects parameters block) (Takes gs) objects acts
   pub order : InOrder (behind_acts no_local acts) parameters r
   pub grows : Grows s r
 
