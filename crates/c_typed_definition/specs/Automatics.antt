@@ -9,7 +9,7 @@ use Rattle.c_types.specs.declared.types.CType.{CType}
 use Rattle.c_types.specs.declared.typed.Variable.TheVariants as variables
 use Rattle.c_types.specs.Answers.{Fault, ◌>>=◌}
 use Rattle.c_types.specs.Types.{size_of, pointer_to}
-use Rattle.c_types.specs.Typed.{Constant}
+use Rattle.c_types.specs.Typed.{AnExpression, Constant}
 use Rattle.c_types.specs.Constants.{converted}
 use Rattle.c_typed_operators.specs.Stores.{given}
 use Rattle.c_typed_scope.specs.declared.entry.Entry.{Entry}
@@ -52,17 +52,19 @@ text_stored t offset None = []
 text_stored t offset (Some bytes) = text_stores t offset bytes
 
 module _ (names : List (List ℕ × Entry)) (signatures : List Signature) where
+  -- a value that is converted to a type
+  abbrev pub type_value : CType → AnExp → State → Result (AnExpression × State) Fault
+  type_value t e s = type_exp names signatures s.scope e s.area >>= λ x. given t (first e) x.0 >>= λ y. Ok (y, with_area x.1 s)
+
   -- the value that an automatic local begins with
   abbrev pub begun : CType → ℕ → Option AnInit → List ADeclaration → State → Doing
   begun t n None done s = Ok (done ++ ClearOf n ∷ [], s)
   begun t n (Some (elements es comma)) done s = Ok (done ++ ClearOf n ∷ [], s)
-  begun t n (Some (value e)) done s = type_exp names signatures s.scope e s.area >>= λ x. given t (first e) x.0 >>= λ y.
-      Ok (done ++ BeginOf n y ∷ [], with_area x.1 s)
+  begun t n (Some (value e)) done s = type_value t e s >>= λ x. Ok (done ++ BeginOf n x.0 ∷ [], x.1)
 
   -- a value that is stored in the block
   abbrev pub type_store : CType → ℕ → AnExp → List ADeclaration → State → Doing
-  type_store t offset e done s = type_exp names signatures s.scope e s.area >>= λ x. given t (first e) x.0 >>= λ y.
-      Ok (done ++ StoreOf t offset y ∷ [], with_area x.1 s)
+  type_store t offset e done s = type_value t e s >>= λ x. Ok (done ++ StoreOf t offset x.0 ∷ [], x.1)
 
   -- a memory local is 0, and then becomes its value
   abbrev pub memory_begun : CType → ℕ → Option AnInit → List ADeclaration → State → Doing

@@ -1,5 +1,6 @@
 -- What the code holds while it reads a function, as plain data.
-use Rattle.std.specs.Prelude.{map}
+use Rattle.std.specs.Prelude.{ℕ, List, map, Option, Some, None}
+use Rattle.std.specs.Borrow.{Bor}
 use Rattle.c_program.specs.Statements.{declaration}
 use Rattle.c_typed_scope.specs.Views.{scope, area}
 use Rattle.c_typed_addressed.specs.Views.{marks}
@@ -19,3 +20,8 @@ state d = record {
   room = room d.room;
   area = area d.layout;
 }
+
+-- what a borrowed list has, if there is one
+abbrev pub option_now : Option (Bor (List ℕ)) → Option (List ℕ)
+option_now None = None
+option_now (Some l) = Some l.now

@@ -1,5 +1,5 @@
 // The declarations of automatic variables.
-ghost use Rattle.std.specs.Prelude.{◌≡◌, ◌≤◌, map, true, None};
+ghost use Rattle.std.specs.Prelude.{◌≡◌, ◌≤◌, ◌<◌, ◌+◌, ◌*◌, ◌^◌, ◌++◌, length, map, true, None, MatchOption, OnOk};
 ghost use Rattle.c_phrases.specs.Shapes.{exp, exp_list};
 ghost use Rattle.c_phrases.specs.UnitShapes.{declarator_of, initialised_of, part};
 ghost use Rattle.c_types.specs.Types.{size_of, is_scalar};
@@ -8,7 +8,11 @@ ghost use Rattle.c_typed_scope.specs.Answers.{OnlyTurns, Turns};
 ghost use Rattle.c_typed_scope.specs.Scopes.{find};
 ghost use Rattle.c_typed_expressions.specs.Functions.{by_functions};
 ghost use Rattle.c_typed_expressions.specs.Phrases.{init_in};
-ghost use Rattle.c_typed_definition.specs.Automatics.{begun, type_store, memory_begun, type_stores, array_begun, filled_array};
+ghost use Rattle.c_typed_definition.specs.Forms.{given_count};
+ghost use Rattle.c_typed_expressions.specs.Calls.{count};
+ghost use Rattle.c_types.specs.Typed.{expression_of};
+ghost use Rattle.c_typed_objects.specs.Views.{option_now};
+ghost use Rattle.c_typed_definition.specs.Automatics.{type_value, begun, type_store, memory_begun, type_stores, array_begun, filled_array};
 ghost use Rattle.c_typed_definition.specs.Automatics.{automatic_length, automatic_array, automatic_variable, type_automatic, text_stored, zeros};
 ghost use Rattle.c_typed_objects.specs.Views.{state};
 
@@ -34,7 +38,10 @@ fn value(
     of: CType,
     e: &Expr,
     environment: &mut Environment,
-) -> Result<Expression, TypeFault> {
+) -> Result<Expression, TypeFault>
+    ensures { Turns (λ t. expression_of t) result (state environment.new)
+        (by_functions functions.now type_value of (exp e.now) (state environment.old)) }
+{
     let x = expression(
         alloc,
         functions,
@@ -122,6 +129,7 @@ fn store_list(
     done: &mut Vec<Declaration>,
     environment: &mut Environment,
 ) -> Result<(), TypeFault>
+    requires near { offset + count (exp_list es.now) * size_of of < 2 ^ 32 }
     ensures { OnlyTurns result (map declaration done.new.items, state environment.new) (by_functions functions.now type_stores
         of offset (exp_list es.now) (map declaration done.old.items) (state environment.old)) }
 {
@@ -139,7 +147,10 @@ fn store_text(
     offset: u32,
     text: Option<&[u8]>,
     done: &mut Vec<Declaration>,
-) -> Result<(), AllocError> {
+) -> Result<(), AllocError>
+    requires near { MatchOption text (Unit {0}) (λ bytes. offset + length bytes.now < 2 ^ 32) }
+    ensures { OnOk result (map declaration done.new.items ≡ map declaration done.old.items ++ text_stored of offset (option_now text)) }
+{
     let Some(text) = text else {
         return Ok(());
     };
@@ -162,6 +173,8 @@ fn begin_array(
     done: &mut Vec<Declaration>,
     environment: &mut Environment,
 ) -> Result<(), TypeFault>
+    requires near { offset + given_count (init_in (initialised_of given.now)) * size_of of < 2 ^ 32 }
+    requires scalar { 1 ≤ size_of of }
     ensures { OnlyTurns result (map declaration done.new.items, state environment.new) (by_functions functions.now array_begun
         of offset (init_in (initialised_of given.now)) (map declaration done.old.items) (state environment.old)) }
 {
@@ -187,6 +200,9 @@ fn fill_array(
     done: &mut Vec<Declaration>,
     environment: &mut Environment,
 ) -> Result<(), TypeFault>
+    requires few { given_count (init_in (initialised_of given.now)) ≤ count }
+    requires near { offset + count * size_of of < 2 ^ 32 }
+    requires scalar { 1 ≤ size_of of }
     ensures { OnlyTurns result (map declaration done.new.items, state environment.new) (by_functions functions.now filled_array
         of offset count (init_in (initialised_of given.now)) (map declaration done.old.items) (state environment.old)) }
 {

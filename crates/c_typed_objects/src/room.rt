@@ -76,6 +76,7 @@ impl Room {
     pub fn take(&mut self, align: u32, size: u32) -> u32
         requires { (1 ≤ align) × (align ≤ 4) }
         ensures offset { result ≡ offset_in align (room self.old) }
+        ensures near { result ≤ 262148 }
         ensures taken { room self.new ≡ taking align size (room self.old) }
     {
         let offset = (self.length.min(BLOCK_LIMIT + 1) + (align - 1)) / align * align;
