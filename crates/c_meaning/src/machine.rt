@@ -7,7 +7,7 @@ ghost use Rattle.c_meaning.specs.Programs.{source};
 ghost use Rattle.c_meaning.specs.declared.frame.Control.TheVariants as controls;
 ghost use Rattle.c_meaning.specs.declared.frame.Frame.TheVariants as frames;
 ghost use Rattle.gg_base.specs.Turns.{end_of};
-ghost use Rattle.c_meaning.specs.Pending.{to_come, with_value};
+ghost use Rattle.c_meaning.specs.Pending.{Leaves, before, program_of, to_come, with_value};
 ghost use Rattle.c_meaning.specs.Runner.{Makes, Steps, Does, Goes, Waiting, Counts, Reaches};
 
 use crate::current::Current;
@@ -114,20 +114,22 @@ impl<'a> Machine<'a> {
             None => Ok(self.stop(Finish::Ended(flow.answer()))),
             Some(Frame::ForFlow(frame)) => self.go_on(frame, flow),
             Some(Frame::ForCall(caller, active, block)) => {
-                Ok(self.give_back_to(caller, active, block, flow.answer()))
+                Ok(self.end_call(caller, active, block, flow))
             }
             Some(Frame::ForValue(_)) => Ok(self.quit(flow)),
             Some(Frame::ForArgument(_, _, _, _)) => Ok(self.quit(flow)),
         }
     }
 
-    // A call with a block of so many bytes is left with an answer, and its caller goes on.
-    fn give_back_to(&mut self, caller: Activation, active: u32, block: u32, answer: u32) -> Event {
+    // A call with a block of so many bytes is left so, and its caller goes on.
+    fn end_call(&mut self, caller: Activation, active: u32, block: u32, flow: Flow) -> Event
+        ensures { Makes self.old (λ κ. before (program_of self.old) (frames.ForCall caller active block) κ (Leaves flow)) 1 result self.new }
+    {
         if !self.store.release(self.program.objects.as_slice(), block) {
             return self.stop(Finish::Wild);
         }
         self.store.leave(caller, active);
-        self.give(answer)
+        self.give(flow.answer())
     }
 
     /// This is done next.

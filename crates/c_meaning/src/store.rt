@@ -58,10 +58,17 @@ pub(crate) fn access_size(of: CType) -> Option<Size>
 }
 
 /// The address of an object, by its number. None where there is no such object.
+pub(crate) fn address_at(objects: &[Object], number: usize) -> Option<u32>
+    ensures { result ≡ address objects.now number }
+{
+    Some(objects.get(number)?.address)
+}
+
+/// The same, by a number of 32 bits.
 pub(crate) fn address(objects: &[Object], number: u32) -> Option<u32>
     ensures { result ≡ address objects.now number }
 {
-    Some(objects.get(number as usize)?.address)
+    address_at(objects, number as usize)
 }
 
 /// Where a variable is kept. None for the variable of an object that there is not.
