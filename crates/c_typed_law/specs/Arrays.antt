@@ -87,4 +87,6 @@ module _ (names : List (List ℕ × Entry)) (signatures : List Signature) where
       FirstOf (IsAutomaticLength l (init_in d.init) s) (AutomaticLengthFault l (init_in d.init) s)
       (λ m. FirstOf (Without (nat_lt m.0 (given_count (init_in d.init))) (λ n. n ≡ m.0))
       (Unless (nat_lt m.0 (given_count (init_in d.init))) d.at BadInit Never)
-      (λ n. ArrayBegunFault t (offset_in (size_of t) m.1.room) (init_in d.init) done (memory_array t (n * size_of t) d m.1))) f
+      (λ n. FirstOf (IsArrayBegun t (offset_in (size_of t) m.1.room) (init_in d.init) done (memory_array t (n * size_of t) d m.1))
+      (ArrayBegunFault t (offset_in (size_of t) m.1.room) (init_in d.init) done (memory_array t (n * size_of t) d m.1))
+      (λ x. Never))) f

@@ -30,10 +30,10 @@ module _ (names : List (List ℕ × Entry)) (signatures : List Signature) where
   IsBegun t n (Some (elements es comma)) done s r = r ≡ (done ++ ClearOf n ∷ [], s)
   IsBegun t n (Some (value e)) done s r = Joint (IsGiven names signatures t e s) (λ x u. u ≡ (done ++ BeginOf n x.0 ∷ [], x.1)) r
 
-  abbrev pub BegunFault : CType → ℕ → Option AnInit → State → Fault → Type 0
-  BegunFault t n None s f = ⊥
-  BegunFault t n (Some (elements es comma)) s f = ⊥
-  BegunFault t n (Some (value e)) s f = FirstOf (IsGiven names signatures t e s) (GivenFault names signatures t e s) (λ x. Never) f
+  abbrev pub BegunFault : CType → Option AnInit → State → Fault → Type 0
+  BegunFault t None s f = ⊥
+  BegunFault t (Some (elements es comma)) s f = ⊥
+  BegunFault t (Some (value e)) s f = FirstOf (IsGiven names signatures t e s) (GivenFault names signatures t e s) (λ x. Never) f
 
   -- a memory local is 0, and then becomes its value
   abbrev pub IsMemoryBegun : CType → ℕ → Option AnInit → List ADeclaration → State → Done → Type 0
@@ -48,8 +48,8 @@ module _ (names : List (List ℕ × Entry)) (signatures : List Signature) where
   IsVariable false t d done s r = IsBegun t (length s.locals) (init_in d.init) done (with_local t d.name s) r
 
   abbrev pub VariableFault : Bool → CType → ADeclarator → State → Fault → Type 0
-  VariableFault true t d s f = BegunFault t 0 (init_in d.init) (memory_variable t d s) f
-  VariableFault false t d s f = BegunFault t 0 (init_in d.init) (with_local t d.name s) f
+  VariableFault true t d s f = BegunFault t (init_in d.init) (memory_variable t d s) f
+  VariableFault false t d s f = BegunFault t (init_in d.init) (with_local t d.name s) f
 
   abbrev pub IsAutomaticBy : Option (Option AnExp) → Bool → CType → ADeclarator → List ADeclaration → State → Done → Type 0
   IsAutomaticBy None is_register t d done s r = IsVariable (not is_register && is_next_addressed s.room) t d done s r

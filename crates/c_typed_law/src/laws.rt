@@ -13,7 +13,7 @@ ghost use Rattle.c_typed_law.specs.Texts.{IsText, TextFault};
 #[tactic(auto, using(crate::proofs::Law::text_means))]
 pub fn text_law()
     ensures { (text : List AnExternal) (ends : List ℕ) (end : ℕ)
-        → Means (type_text text ends end) (IsText text ends end) (TextFault text ends ends end) }
+        → Means (type_text text ends end) (IsText text ends end) (TextFault text ends end) }
 {}
 
 /// So does a function that computes the definition, whatever it answers with, unless memory runs out: `view` is what its answer
