@@ -9,7 +9,7 @@ use Rattle.c_types.specs.declared.types.CType.TheVariants as types
 use Rattle.c_types.specs.declared.types.Integer.TheVariants as ints
 use Rattle.c_meaning.specs.declared.store.Spot.TheVariants.{Memory, InBlock}
 use Rattle.c_meaning.specs.State.{State, address, put, put_zeros}
-use Rattle.c_meaning.specs.Values.{Rest, Behind, or_wild, or_trap, written, read_at, store_at}
+use Rattle.c_meaning.specs.Values.{Behind, or_wild, or_trap, written, read_at, store_at}
 
 abbrev int : CType
 int = types.Integer ints.Int

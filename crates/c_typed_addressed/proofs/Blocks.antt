@@ -1,5 +1,5 @@
 -- The items of a block as code holds them, one after another.
-use Rattle.std.proofs.Common.{◌≡◌, List, [], ◌∷◌, refl, ap, sym, ◌∙◌}
+use Rattle.std.proofs.Common.{◌≡◌, List, ◌∷◌, refl, ap, sym, ◌∙◌}
 use Rattle.std.specs.Global.{Vec}
 use Rattle.c_phrases.specs.declared.tree.Item.{Item}
 use Rattle.c_phrases.specs.declared.tree.Item.TheVariants as item

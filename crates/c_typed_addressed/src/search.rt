@@ -3,7 +3,7 @@ ghost use Rattle.std.specs.Prelude.{◌≡◌, OnOk};
 ghost use Rattle.c_typed_scope.specs.declared.entry.Entry.{Entry};
 ghost use Rattle.c_typed_scope.specs.Scopes.{is_taken};
 ghost use Rattle.c_typed_scope.specs.Views.{scope};
-ghost use Rattle.c_typed_addressed.specs.Marks.{marked, nothing, no_marks, more_locals, more_parameters};
+ghost use Rattle.c_typed_addressed.specs.Marks.{marked, set, no_marks};
 ghost use Rattle.c_typed_addressed.specs.Statements.{declared, at_first};
 ghost use Rattle.c_typed_addressed.specs.Views.{marks, search};
 
@@ -53,8 +53,6 @@ fn set(found: &mut Vec<bool>, number: u32)
         found[number] = true;
     }
 }
-
-ghost use Rattle.c_typed_addressed.specs.Marks.{set};
 
 /// What is in scope while a function is searched, and what is found so far.
 #[derive(Drop)]

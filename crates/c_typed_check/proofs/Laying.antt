@@ -33,9 +33,10 @@ use Rattle.c_typed_definition.specs.Initialisers.{type_length, type_element, typ
 use Rattle.c_typed_definition.specs.State.{State, with_area, measuring, counted_static, laid, with_local, with_register}
 use Rattle.c_typed_definition.specs.Declarations.{length_in, literals_in, contents_of, object_with}
 use Rattle.c_typed_definition.specs.Declarations.{plain_object, counted_array, array_object, object_by, type_object}
-use Rattle.c_typed_definition.specs.Declarations.{begun, type_automatic, type_local, type_locals}
+use Rattle.c_typed_definition.specs.Automatics.{begun, type_automatic, type_local, type_locals}
 use Rattle.c_typed_definition.specs.Statements.{entered, jump, type_full, type_condition, type_maybe, type_maybe_condition, type_return, type_statement, type_items}
-use Rattle.c_typed_definition.specs.Headings.{Text, with_declared, entered_function, agrees}
+use Rattle.c_typed_definition.specs.Headings.{Text, with_declared, agrees}
+use Rattle.c_typed_definition.specs.Bodies.{entered_function}
 use Rattle.c_typed_definition.specs.Headings.{earlier_by, head_of, is_below}
 use Rattle.c_typed_definition.specs.Signatures.{signature_of, known}
 use Rattle.c_typed_definition.specs.Texts.{type_parameter, parameter_length, type_parameters, type_body}

@@ -16,8 +16,10 @@ use Rattle.c_typed_expressions.specs.Phrases.{params_in}
 use Rattle.c_typed_expressions.specs.Expressions.{integer_of, written}
 use Rattle.c_typed_scope.specs.Scopes.{find}
 use Rattle.c_typed_definition.specs.Statements.{type_items}
-use Rattle.c_typed_definition.specs.Headings.{Text, with_declared, with_state, with_body, body_of, left_function}
-use Rattle.c_typed_definition.specs.Headings.{entered_function, agrees, earlier_by, head_of, is_below}
+use Rattle.c_typed_definition.specs.Headings.{Text, with_declared, with_state, with_body}
+use Rattle.c_typed_definition.specs.Bodies.{body_of, left_function}
+use Rattle.c_typed_definition.specs.Headings.{agrees, earlier_by, head_of, is_below}
+use Rattle.c_typed_definition.specs.Bodies.{entered_function}
 use Rattle.c_typed_definition.specs.Signatures.{signature_of, known}
 use Rattle.c_typed_definition.specs.Texts.{type_parameters, type_globals, type_body, type_introduced, type_function}
 use Rattle.c_typed_definition.specs.Texts.{type_declared, type_external, type_externals, main_of, whole_by, type_text}

@@ -1,5 +1,5 @@
 -- Declarations of automatic variables: the definition's answer is what the relations say.
-use Rattle.std.proofs.Common.{◌≡◌, ℕ, ◌+◌, ◌-◌, ◌*◌, Bool, true, false, List, [], ◌∷◌, ◌++◌, length, Option, Some, None}
+use Rattle.std.proofs.Common.{ℕ, ◌+◌, ◌-◌, ◌*◌, Bool, true, false, List, [], ◌∷◌, ◌++◌, length, Option, Some, None}
 use Rattle.std.specs.Prelude.{not, ◌&&◌}
 use Rattle.c_phrases.specs.declared.operator.Spec.{Spec}
 use Rattle.c_phrases.specs.declared.operator.Storage.{Storage}
@@ -22,7 +22,7 @@ use Rattle.c_typed_definition.specs.Forms.{text_of, form_fits, given_count, own_
 use Rattle.c_typed_definition.specs.Rooms.{offset_in, is_next_addressed}
 use Rattle.c_typed_definition.specs.State.{State, with_area, with_local, with_register}
 use Rattle.c_typed_definition.specs.Automatics.{memory_variable, memory_array, zeros, text_stored, type_value, begun, type_store}
-use Rattle.c_typed_definition.specs.Automatics.{memory_begun, type_stores, array_begun, filled_array, automatic_length}
+use Rattle.c_typed_definition.specs.Automatics.{memory_begun, type_stores, array_begun, automatic_length}
 use Rattle.c_typed_definition.specs.Automatics.{automatic_array, automatic_variable, automatic_by, type_automatic, type_local, type_locals}
 use Rattle.c_typed_law.specs.Tests.{Never}
 use Rattle.c_typed_law.specs.Forms.{IsAutomaticForm, AutomaticFormFault}

@@ -329,7 +329,7 @@ fn variable(
 }
 
 /// An automatic variable, or one that is declared `register`.
-#[tactic(auto, unfolding(c_typed_definition::specs::Automatics::type_automatic), using(crate::proofs::Forms::automatic_free))]
+#[tactic(auto, unfolding(c_typed_definition::specs::Automatics::type_automatic), using(crate::proofs::Forms::automatic_facts))]
 pub fn automatic(
     alloc: Global,
     functions: &Functions,

@@ -1,5 +1,5 @@
 -- Prefixes, indexes and steps.
-use Rattle.std.proofs.Common.{◌≡◌, ◌⊎◌, ℕ, Bool, true, false, Option, Some, None, Result, Ok, Err, inl, inr, refl, sym, ap, ◌∙◌, subst}
+use Rattle.std.proofs.Common.{◌≡◌, ◌⊎◌, ℕ, Bool, true, false, Option, Some, None, Result, Ok, Err, inl, inr, refl, sym, ap, ◌∙◌}
 use Rattle.c_phrases.specs.declared.operator.PrefixOperator.{PrefixOperator}
 use Rattle.c_phrases.specs.declared.operator.PrefixOperator.TheVariants as prefixes
 use Rattle.c_phrases.specs.declared.operator.StepOperator.{StepOperator}

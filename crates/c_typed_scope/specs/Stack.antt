@@ -1,5 +1,5 @@
 -- The second stack, on which the memory locals of calls lie: a pointer to the first byte that is free, and the area, the last two objects.
-use Rattle.std.specs.Prelude.{ℕ, ◌+◌, [], codes, Result, Ok}
+use Rattle.std.specs.Prelude.{ℕ, [], codes, Result, Ok}
 use Rattle.c_types.specs.Answers.{Fault, ◌>>=◌}
 use Rattle.c_typed_scope.specs.Layout.{Area, placed}
 use Rattle.c_typed_scope.specs.Contents.{Filled, filled_to, with_link, filled}
