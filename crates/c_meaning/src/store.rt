@@ -1,6 +1,6 @@
 // Where values are kept.
 
-ghost use Rattle.std.specs.Prelude.{◌≡◌, ◌<◌, ◌+◌, [], IfOk, is_some, unwrap_or, replicate, drop};
+ghost use Rattle.std.specs.Prelude.{◌≡◌, ◌<◌, ◌+◌, [], IfOk, IfSome, Some, is_some, unwrap_or, replicate, drop};
 ghost use Rattle.std.specs.Option.{option_copied};
 ghost use Rattle.c_meaning.specs.State.{access_size, held, put_local, put, put_zeros, spot_of, address, block_address, loaded};
 ghost use Rattle.c_meaning.specs.declared.store.Spot.TheVariants.{Memory};

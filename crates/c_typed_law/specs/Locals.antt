@@ -9,6 +9,7 @@ use Rattle.c_types.specs.Types.{size_of}
 use Rattle.c_types.specs.Typed.{Constant}
 use Rattle.c_typed_scope.specs.declared.entry.Entry.{Entry}
 use Rattle.c_typed_scope.specs.declared.entry.Signature.{Signature}
+use Rattle.c_phrases.specs.Phrases.{AnExp}
 use Rattle.c_phrases.specs.Units.{AnInit, value, elements, ADeclarator}
 use Rattle.c_program.specs.Statements.{ADeclaration, KeepOf, ClearOf, BeginOf, StoreOf}
 use Rattle.c_typed_expressions.specs.Phrases.{init_in, brackets_in}
