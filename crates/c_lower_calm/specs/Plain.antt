@@ -73,7 +73,7 @@ module _ (size : ℕ) where
     pub plain_tree : AnExpression → Tree
     plain_tree (Constant n) = Num n
     plain_tree (LiteralAt object size) = Gaddr object
-    plain_tree (ArrayAt t v size) = address_tree (where_of size v)
+    plain_tree (ArrayAt t v bytes) = address_tree (where_of size v)
     plain_tree (ReadOf p) = read_from (place_type p) (place_at p)
     plain_tree (SizeOfExpression n e) = Num n
     plain_tree (SizeOf n) = Num n
