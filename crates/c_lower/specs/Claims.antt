@@ -18,7 +18,7 @@ FollowsAlways p q = (input : List ℕ) → AreBytes input → Follows (source p 
 -- a function's name and number of parameters stay, its `register` locals are wanted in registers, and it fits the frame that it needs
 pub record HasFunction (g : ARoutine) (f : TreeFn) : Type 0 where
   pub same : SameFunction g f
-  pub fits : FitsFrame (need_of g.locals g.body) f
+  pub fits : FitsFrame (need_of g.locals g.block g.body) f
 
 -- The functions and objects are the program's, in order. A function takes at most 32 arguments; the objects' labels
 -- differ from each other and from those of functions and services, and links hold addresses.

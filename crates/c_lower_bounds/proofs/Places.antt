@@ -11,7 +11,8 @@ use Rattle.c_types.specs.declared.typed.Moment.TheVariants as moments
 use Rattle.c_types.specs.Constants.{scale}
 use Rattle.c_lower_scheme.specs.Trees.{Tree, Num, Gaddr, Loc, Arg, Indir, Conv, Neg, Com, Bin, Item, stable, is_leaf}
 use Rattle.c_lower_scheme.specs.Parts.{Lowered, Where, InLoc, InArg, InMem, Located, Assignable}
-use Rattle.c_lower_scheme.specs.Places.{saved, next_if, read_from, assign_to, address_tree, where_of, found, pointed, read_low, address_low, holding, held}
+use Rattle.c_lower_scheme.specs.Saving.{saved, next_if}
+use Rattle.c_lower_scheme.specs.Places.{read_from, assign_to, address_tree, where_of, found, pointed, read_low, address_low, holding, held}
 use Rattle.c_lower_scheme.specs.Values.{step}
 use Rattle.c_lower_scheme.specs.Assignments.{ready_so, update_so, store_drop, store_low_at, store_low, must_keep, step_tree, step_ready, step_low}
 use Rattle.c_lower_bounds.proofs.Trees.{tree_forks, item_forks, Narrow, none, next, behind}

@@ -7,7 +7,8 @@ use Rattle.c_types.specs.declared.types.Integer.TheVariants as ints
 use Rattle.c_types.specs.declared.types.CType.{CType}
 use Rattle.c_lower_scheme.specs.Trees.{Tree, breaks}
 use Rattle.c_lower_scheme.specs.Parts.{Lowered, Pair, Emitted, Lowering, Destination, InLocal, AsResult, due, over, then_done, delivered}
-use Rattle.c_lower_scheme.specs.Places.{saving, saved, next_if, integer_of, conv, fitted}
+use Rattle.c_lower_scheme.specs.Saving.{saving, saved, next_if}
+use Rattle.c_lower_scheme.specs.Places.{integer_of, conv, fitted}
 use Rattle.c_lower_scheme.specs.Conditions.{truth_of, test, dropped, valued, conditional, effective, mapped, deliver_as, converting, drop_two}
 use Rattle.c_lower_scheme.specs.Values.{join_so, must, binary, relation, joined}
 use Rattle.c_lower_bounds.proofs.Trees.{tree_forks, Narrow, none, next, behind}

@@ -9,7 +9,8 @@ use Rattle.c_types.specs.declared.types.Integer.TheVariants as ints
 use Rattle.c_types.specs.declared.types.CType.{CType}
 use Rattle.c_lower_scheme.specs.Trees.{Tree, Item, divides, reads, breaks, stable}
 use Rattle.c_lower_scheme.specs.Parts.{Lowered, Pair, Emitted, Lowering, Located, Assignable, due, over, Destination, InLocal, AsResult, delivered}
-use Rattle.c_lower_scheme.specs.Places.{saving, saved, integer_of, conv, fitted, address_tree}
+use Rattle.c_lower_scheme.specs.Saving.{saving, saved}
+use Rattle.c_lower_scheme.specs.Places.{integer_of, conv, fitted, address_tree}
 use Rattle.c_lower_scheme.specs.Conditions.{test, dropped, valued, conditional, effective, mapped, chained, same, goal, chain, chain_drop, drop_two, choose, comma}
 use Rattle.c_lower_scheme.specs.Conditions.{truth_of, deliver_as, converting, choose_deliver}
 use Rattle.c_lower_scheme.specs.Values.{must, joined, binary, relation}

@@ -14,7 +14,8 @@ use Rattle.c_types.specs.declared.typed.ArithmeticOperator.TheVariants as ariths
 use Rattle.c_types.specs.Constants.{scale}
 use Rattle.c_lower_scheme.specs.Trees.{Tree, Num, Loc, Bin, Item, divides, reads, breaks, stable, is_leaf}
 use Rattle.c_lower_scheme.specs.Parts.{Lowered, Where, InLoc, InArg, InMem, Located, Passing, Assignable, over, Destination, InLocal, AsResult}
-use Rattle.c_lower_scheme.specs.Places.{saved, next_if, read_from, assign_to, address_tree, where_of, found, pointed, read_low, address_low, holding, held}
+use Rattle.c_lower_scheme.specs.Saving.{saved, next_if}
+use Rattle.c_lower_scheme.specs.Places.{read_from, assign_to, address_tree, where_of, found, pointed, read_low, address_low, holding, held}
 use Rattle.c_lower_scheme.specs.Values.{scaled_by, advance, advance_by, retreat, apart, step, must}
 use Rattle.c_lower_scheme.specs.Calls.{pushes, called_drop, called_low, passed_as, pass_so, called_deliver}
 use Rattle.c_lower_scheme.specs.Assignments.{ready_so, update_so, store_drop, store_low_at, store_low, must_hold, must_keep, step_tree, step_ready, step_low}
@@ -22,19 +23,24 @@ use Rattle.c_lower_scheme.proofs.Facts.{leaf_inert}
 use Rattle.c_lower_calm.proofs.Trees.{Apart, IsCalm, IsCalmItem, AreCalm, none, next, behind}
 use Rattle.c_lower_calm.proofs.Parts.{CalmLow, CalmFound, CalmReady, inert_apart, calm_saving, calm_saved, calm_fitted, over_calm, must_apart, delivered_calm}
 
-pub calm_where : (v : Variable) → IsCalm (address_tree (where_of v))
-calm_where (variables.Automatic n) = tt
-calm_where (variables.Parameter n) = tt
-calm_where (variables.Global n) = tt
-calm_where (variables.Static n) = tt
+calm_block : (b : Bool) (size o : ℕ) → IsCalm (if b then Loc size else Bin ariths.Add (Loc size) (Num o))
+calm_block true size o = tt
+calm_block false size o = search
+
+pub calm_where : (size : ℕ) (v : Variable) → IsCalm (address_tree (where_of size v))
+calm_where size (variables.Automatic n) = tt
+calm_where size (variables.Parameter n) = tt
+calm_where size (variables.Global n) = tt
+calm_where size (variables.Static n) = tt
+calm_where size (variables.InBlock o) = calm_block (o == 0) size o
 
 calm_read : (ty : CType) (s : Where) → IsCalm (address_tree s) → IsCalm (read_from ty s)
 calm_read ty (InLoc n) h = tt
 calm_read ty (InArg n) h = tt
 calm_read ty (InMem a) h = h
 
-pub found_calm : (ty : CType) (v : Variable) (t l : ℕ) → CalmFound (found ty (where_of v) t l)
-found_calm ty v t l = record { place = calm_where v; items = none }
+pub found_calm : (size : ℕ) (ty : CType) (v : Variable) (t l : ℕ) → CalmFound (found ty (where_of size v) t l)
+found_calm size ty v t l = record { place = calm_where size v; items = none }
 
 pub pointed_calm : (ty : CType) {p : Lowered} → CalmLow p → CalmFound (pointed ty p)
 pointed_calm ty h = record { place = h.tree; items = h.items }

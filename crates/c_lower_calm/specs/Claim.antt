@@ -1,5 +1,5 @@
 -- What is claimed of the trees of lowering, whatever the program.
-use Rattle.std.specs.Prelude.{◌≡◌, ℕ, List, [], ◌∷◌, ◌++◌, Some, slice_get}
+use Rattle.std.specs.Prelude.{◌≡◌, ℕ, List, [], ◌∷◌, ◌++◌, length, Some, slice_get}
 use Rattle.tree_core.specs.declared.tree.Leaf.{Leaf}
 use Rattle.tree_core.specs.declared.program.TreeItem.{TreeItem}
 use Rattle.tree_core.specs.declared.program.TreeItem.TheVariants as tree_item
@@ -11,7 +11,7 @@ use Rattle.c_program.specs.Statements.{AnAction, SomeActions, NoActions, MoreAct
 use Rattle.c_program.specs.Statements.{BreakOf, ContinueOf, ReturnOf, IfOf, IfElseOf, WhileOf, DoOf, ForOf}
 use Rattle.c_program.specs.Programs.{ARoutine, AProgram}
 use Rattle.c_lower_scheme.specs.Trees.{Item, Ret}
-use Rattle.c_lower_scheme.specs.Parts.{Emitted}
+use Rattle.c_lower_scheme.specs.Parts.{Emitted, Destination, AsResult}
 use Rattle.c_lower_scheme.specs.Places.{assign_to}
 use Rattle.c_lower_scheme.specs.Statements.{lower}
 use Rattle.c_lower_scheme.specs.Spelling.{spelled}
@@ -35,12 +35,12 @@ SpellsCalm i = (w : List Leaf) → spelled i ≡ tree_item.Root w → Calm w
 abbrev pub only : Item → ℕ → ℕ → Emitted
 only i size l = record { items = i ∷ []; temps = size; labels = l }
 
--- the items of `return e`, and of `a = e`, where place and value are plain
-abbrev pub returned : AnExpression → Item
-returned e = Ret (plain_tree e)
+-- the items of `return e`, and of `a = e`, where place and value are plain, in a function with so many automatic locals
+abbrev pub returned : ℕ → AnExpression → Item
+returned size e = Ret (plain_tree size e)
 
-abbrev pub stored : APlace → AnExpression → Item
-stored p e = assign_to (place_type p) (place_at p) (plain_tree e)
+abbrev pub stored : ℕ → APlace → AnExpression → Item
+stored size p e = assign_to (place_type p) (place_at size p) (plain_tree size e)
 
 -- the statements of a body in the order of the text, but for blocks, `if` and loops, whose parts stand in their place
 abbrev mutual
@@ -62,32 +62,33 @@ abbrev mutual
   simple_of (MoreActions a row) = simple a ++ simple_of row
 
 -- the item of a plain `return e` or `a = e`
-pub data IsPlainOne : AnAction → Item → Type 0 where
-  Returns : (e : AnExpression) → Plain e → IsPlainOne (ReturnOf (Some e)) (returned e)
-  Stores : (p : APlace) (e : AnExpression) → PlainPlace p → Plain e → IsPlainOne (EvaluateOf (AssignTo p e)) (stored p e)
+pub data IsPlainOne (size : ℕ) : AnAction → Item → Type 0 where
+  Returns : (e : AnExpression) → Plain e → IsPlainOne size (ReturnOf (Some e)) (returned size e)
+  Stores : (p : APlace) (e : AnExpression) → PlainPlace p → Plain e → IsPlainOne size (EvaluateOf (AssignTo p e)) (stored size p e)
 
 -- Each of these statements has its items among a function's, one statement's behind another's; those of a plain
 -- `return` or assignment whose tree is calm are that one root.
-pub data HaveItems : List AnAction → List TreeItem → Type 0 where
-  Ended : (items : List TreeItem) → HaveItems [] items
+pub data HaveItems (size : ℕ) : List AnAction → List TreeItem → Type 0 where
+  Ended : (items : List TreeItem) → HaveItems size [] items
   Next : (a : AnAction) (acts : List AnAction) (before own behind : List TreeItem) →
-      ((i : Item) → IsPlainOne a i → SpellsCalm i → own ≡ spelled i ∷ []) → HaveItems acts behind
-      → HaveItems (a ∷ acts) (before ++ (own ++ behind))
+      ((i : Item) → IsPlainOne size a i → SpellsCalm i → own ≡ spelled i ∷ []) → HaveItems size acts behind
+      → HaveItems size (a ∷ acts) (before ++ (own ++ behind))
 
--- In each function of the trees the plain statements of the program's function are one root each, in the order of the text.
+-- In each function of the trees that has no memory locals the plain statements of the program's function are one root each, in the order
+-- of the text.
 abbrev pub PlainStatementsStand : AProgram → TreeProgram → Type 0
 PlainStatementsStand p q =
     (n : ℕ) (g : ARoutine) (f : TreeFn) → slice_get p.routines n ≡ Some g → slice_get q.functions n ≡ Some f
-    → HaveItems (simple_of g.body) f.items
+    → g.block ≡ 0 → HaveItems (length g.locals) (simple_of g.body) f.items
 
 -- So it is for each program.
 abbrev pub PlainStatementsAreOneTree : Type 0
 PlainStatementsAreOneTree = (p : AProgram) → PlainStatementsStand p (lowered p)
 
--- A plain statement whose tree is calm is that one tree.
+-- A plain statement whose tree is calm is that one tree, a `return` in a function that has no memory locals.
 pub record PlainIsOneTree : Type 0 where
-  pub returns : (size count lb lc l : ℕ) (rest : SomeActions) (e : AnExpression) → Plain e → SpellsCalm (returned e)
-      → lower size count (ReturnOf (Some e)) rest lb lc l ≡ only (returned e) size l
-  pub stores : (size count lb lc l : ℕ) (rest : SomeActions) (p : APlace) (e : AnExpression) → PlainPlace p → Plain e
-      → SpellsCalm (stored p e)
-      → lower size count (EvaluateOf (AssignTo p e)) rest lb lc l ≡ only (stored p e) size l
+  pub returns : (size count first lb lc l : ℕ) (rest : SomeActions) (e : AnExpression) → Plain e → SpellsCalm (returned size e)
+      → lower size count first AsResult (ReturnOf (Some e)) rest lb lc l ≡ only (returned size e) first l
+  pub stores : (size count first : ℕ) (out : Destination) (lb lc l : ℕ) (rest : SomeActions) (p : APlace) (e : AnExpression)
+      → PlainPlace p → Plain e → SpellsCalm (stored size p e)
+      → lower size count first out (EvaluateOf (AssignTo p e)) rest lb lc l ≡ only (stored size p e) first l

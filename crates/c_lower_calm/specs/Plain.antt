@@ -1,4 +1,5 @@
 -- Plain expressions, and the tree that follows each part for part.
+use Rattle.std.specs.Prelude.{ℕ}
 use Rattle.c_types.specs.declared.typed.UnaryOperator.{UnaryOperator}
 use Rattle.c_types.specs.declared.typed.UnaryOperator.TheVariants as unaries
 use Rattle.c_types.specs.Typed.{APlace, VariableAt, PointedBy, ElementBy, AnExpression, Constant, LiteralAt, ArrayAt}
@@ -61,37 +62,38 @@ unary_tree unaries.Complement w = Com w
 unary_tree unaries.Not w = w
 
 -- A number is its constant, a local or parameter its slot, memory is read at its address, and an operator stands over
--- its parts. Phrases that are not plain have no tree of their own, and stand here as 0.
-abbrev mutual
-  pub place_at : APlace → Where
-  place_at (VariableAt t v) = where_of v
-  place_at (PointedBy t e) = InMem (plain_tree e)
-  place_at (ElementBy t e) = InMem (plain_tree e)
+-- its parts, in a function with so many automatic locals. Phrases that are not plain have no tree of their own, and stand here as 0.
+module _ (size : ℕ) where
+  abbrev mutual
+    pub place_at : APlace → Where
+    place_at (VariableAt t v) = where_of size v
+    place_at (PointedBy t e) = InMem (plain_tree e)
+    place_at (ElementBy t e) = InMem (plain_tree e)
 
-  pub plain_tree : AnExpression → Tree
-  plain_tree (Constant n) = Num n
-  plain_tree (LiteralAt object size) = Gaddr object
-  plain_tree (ArrayAt t v size) = address_tree (where_of v)
-  plain_tree (ReadOf p) = read_from (place_type p) (place_at p)
-  plain_tree (SizeOfExpression n e) = Num n
-  plain_tree (SizeOf n) = Num n
-  plain_tree (AddressOf t p) = Num 0
-  plain_tree (CallOf t f to es) = Num 0
-  plain_tree (StepOf m by p) = Num 0
-  plain_tree (UnaryOf op e) = unary_tree op (plain_tree e)
-  plain_tree (CastTo t e) = fitted t (plain_tree e)
-  plain_tree (ConvertTo t e) = fitted t (plain_tree e)
-  plain_tree (ArithmeticOf op l r) = Bin op (plain_tree l) (plain_tree r)
-  plain_tree (CompareOf rel l r) = Num 0
-  plain_tree (BothOf l r) = Num 0
-  plain_tree (EitherOf l r) = Num 0
-  plain_tree (AdvanceOf t l r) = advance t (plain_tree l) (plain_tree r)
-  plain_tree (AdvanceByOf t l r) = advance_by t (plain_tree l) (plain_tree r)
-  plain_tree (RetreatOf t l r) = retreat t (plain_tree l) (plain_tree r)
-  plain_tree (DistanceOf t l r) = apart t (plain_tree l) (plain_tree r)
-  plain_tree (ChoiceOf t c l r) = Num 0
-  plain_tree (AssignTo p e) = Num 0
-  plain_tree (ArithmeticAssignTo op p e) = Num 0
-  plain_tree (AdvanceAssignTo p e) = Num 0
-  plain_tree (RetreatAssignTo p e) = Num 0
-  plain_tree (CommaOf t l r) = Num 0
+    pub plain_tree : AnExpression → Tree
+    plain_tree (Constant n) = Num n
+    plain_tree (LiteralAt object size) = Gaddr object
+    plain_tree (ArrayAt t v bytes) = address_tree (where_of size v)
+    plain_tree (ReadOf p) = read_from (place_type p) (place_at p)
+    plain_tree (SizeOfExpression n e) = Num n
+    plain_tree (SizeOf n) = Num n
+    plain_tree (AddressOf t p) = Num 0
+    plain_tree (CallOf t f to es) = Num 0
+    plain_tree (StepOf m by p) = Num 0
+    plain_tree (UnaryOf op e) = unary_tree op (plain_tree e)
+    plain_tree (CastTo t e) = fitted t (plain_tree e)
+    plain_tree (ConvertTo t e) = fitted t (plain_tree e)
+    plain_tree (ArithmeticOf op l r) = Bin op (plain_tree l) (plain_tree r)
+    plain_tree (CompareOf rel l r) = Num 0
+    plain_tree (BothOf l r) = Num 0
+    plain_tree (EitherOf l r) = Num 0
+    plain_tree (AdvanceOf t l r) = advance t (plain_tree l) (plain_tree r)
+    plain_tree (AdvanceByOf t l r) = advance_by t (plain_tree l) (plain_tree r)
+    plain_tree (RetreatOf t l r) = retreat t (plain_tree l) (plain_tree r)
+    plain_tree (DistanceOf t l r) = apart t (plain_tree l) (plain_tree r)
+    plain_tree (ChoiceOf t c l r) = Num 0
+    plain_tree (AssignTo p e) = Num 0
+    plain_tree (ArithmeticAssignTo op p e) = Num 0
+    plain_tree (AdvanceAssignTo p e) = Num 0
+    plain_tree (RetreatAssignTo p e) = Num 0
+    plain_tree (CommaOf t l r) = Num 0

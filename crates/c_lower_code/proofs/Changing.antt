@@ -3,7 +3,8 @@ use Rattle.std.proofs.Common.{◌≡◌, ℕ, suc, List, [], ◌∷◌, ◌++◌
 use Rattle.c_types.specs.declared.types.CType.{CType}
 use Rattle.c_lower_scheme.specs.Trees.{Tree, Item, Loc, AssignLoc}
 use Rattle.c_lower_scheme.specs.Parts.{Lowered, Located, Assignable, Where, is_nil}
-use Rattle.c_lower_scheme.specs.Places.{saving, saved, next_if, holding, held, read_from, assign_to}
+use Rattle.c_lower_scheme.specs.Saving.{saving, saved, next_if}
+use Rattle.c_lower_scheme.specs.Places.{holding, held, read_from, assign_to}
 use Rattle.c_lower_scheme.specs.Assignments.{must_keep, update_ready, postfix}
 
 pub updated : (l f : ℕ) (g : Tree → Tree → Tree) (p : Located) (q : Lowered) (b c : Bool) (n m : ℕ) (s s' : Where) (rd old val : Tree) (first second all : List Item)

@@ -60,6 +60,7 @@ storage (storages.Memory a) = parts.InMem (tree a)
 abbrev pub destination : Destination → parts.Destination
 destination (destinations.Local n) = parts.InLocal n
 destination destinations.Caller = parts.AsResult
+destination (destinations.Release pointer n) = parts.Releasing pointer n
 
 abbrev pub found : Located → parts.Located
 found p = record { items = all_items p.items.items; type = p.ctype; place = storage p.storage; temps = p.temps; labels = p.labels }

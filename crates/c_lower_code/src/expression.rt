@@ -43,7 +43,7 @@ pub(crate) fn seek(frame: Frame, place: &Place, t: u32, l: u32) -> Result<Locate
             Ok(Located {
                 items: Vec::new(frame.alloc),
                 ctype: *of,
-                storage: storage_of(*v),
+                storage: storage_of(frame, *v)?,
                 temps: t,
                 labels: l,
             })
@@ -335,7 +335,7 @@ pub(crate) fn value(frame: Frame, e: &Expression, t: u32, l: u32) -> Result<Lowe
     match e {
         Expression::Number(n) => Ok(due(alloc, Tree::Number(*n), t, l)),
         Expression::Literal(n, _) => Ok(due(alloc, Tree::Object(*n), t, l)),
-        Expression::Array(_, v, _) => Ok(due(alloc, address_of(storage_of(*v)), t, l)),
+        Expression::Array(_, v, _) => Ok(due(alloc, address_of(storage_of(frame, *v)?), t, l)),
         Expression::Read(p) => read_low(alloc, seek(frame, p, t, l)?),
         Expression::SizeofExpression(n, _) => Ok(due(alloc, Tree::Number(*n), t, l)),
         Expression::SizeofType(n) => Ok(due(alloc, Tree::Number(*n), t, l)),

@@ -1,12 +1,14 @@
 // How the parts of statements are put together.
 ghost use Rattle.std.specs.Prelude.{◌≡◌, IfOk};
 ghost use Rattle.c_lower_scheme.specs.Flow as flows;
-ghost use Rattle.c_lower_code.specs.Views.{done};
+ghost use Rattle.c_lower_code.specs.Views.{done, low};
 
 use crate::item::Item;
-use crate::part::{Emitted, Frame, after, put, put_all};
-use crate::tree::Tree;
-use gg_base::NoMemory;
+use crate::part::{Emitted, Frame, Lowered, after, in_block, put, put_all};
+use crate::tree::{Tree, binary, indirect, integer_of};
+use c_types::typed::BLOCK_LIMIT;
+use c_types::{ArithmeticOperator, CType, Integer};
+use gg_base::{NoMemory, Rel};
 use std::alloc::Global;
 
 /// One statement behind another.
@@ -50,7 +52,7 @@ pub(crate) fn cleared(
     local: u32,
     l: u32,
 ) -> Result<Emitted, NoMemory>
-    ensures { IfOk result (λ r. done r ≡ record { items = flows.clearing is_zeroed local; temps = frame.locals; labels = l }) }
+    ensures { IfOk result (λ r. done r ≡ record { items = flows.clearing is_zeroed local; temps = frame.first; labels = l }) }
 {
     let mut items = Vec::new(frame.alloc);
     if is_zeroed {
@@ -58,7 +60,7 @@ pub(crate) fn cleared(
     }
     Ok(Emitted {
         items,
-        temps: frame.locals,
+        temps: frame.first,
         labels: l,
     })
 }
@@ -217,15 +219,126 @@ pub(crate) fn ever_done(alloc: Global, l: u32, a: Emitted, s: Emitted) -> Result
     })
 }
 
+/// A value that is stored at an offset of the block.
+pub(crate) fn stored_in_block(
+    frame: Frame,
+    of: CType,
+    offset: u32,
+    p: Lowered,
+) -> Result<Emitted, NoMemory>
+    ensures { IfOk result (λ r. done r ≡ flows.stored_in_block frame.locals of offset (low p)) }
+{
+    let mut items = p.items;
+    let place = in_block(frame, offset)?;
+    put(
+        &mut items,
+        Item::AssignMemory(integer_of(of), place, p.tree),
+    )?;
+    Ok(Emitted {
+        items,
+        temps: p.temps,
+        labels: p.labels,
+    })
+}
+
+/// Zeros in so many elements of the block, from an offset on: a loop over their addresses, from the label l.
+pub(crate) fn zeros_in_block(
+    frame: Frame,
+    of: CType,
+    offset: u32,
+    count: u32,
+    l: u32,
+) -> Result<Emitted, NoMemory>
+    ensures { IfOk result (λ r. done r ≡ flows.zeros_in_block frame.locals frame.first of offset count l) }
+{
+    let t = frame.first;
+    let end = count
+        .checked_mul(of.size())
+        .and_then(|size| offset.checked_add(size))
+        .ok_or(NoMemory)?;
+    let mut items = Vec::new(frame.alloc);
+    put(&mut items, Item::AssignLocal(t, in_block(frame, offset)?))?;
+    put(&mut items, Item::Label(l))?;
+    put(
+        &mut items,
+        Item::AssignMemory(integer_of(of), Tree::Local(t), Tree::Number(0)),
+    )?;
+    let next = binary(
+        frame.alloc,
+        ArithmeticOperator::Add,
+        Tree::Local(t),
+        Tree::Number(of.size()),
+    )?;
+    put(&mut items, Item::AssignLocal(t, next))?;
+    put(
+        &mut items,
+        Item::Branch(Rel::Ne, l, Tree::Local(t), in_block(frame, end)?),
+    )?;
+    Ok(Emitted {
+        items,
+        temps: after(t)?,
+        labels: after(l)?,
+    })
+}
+
+/// A block of so many bytes is taken: where the stack has no such room, a division by zero traps. The label l is behind it.
+pub(crate) fn claimed(frame: Frame, pointer: u32, block: u32, l: u32) -> Result<Emitted, NoMemory>
+    ensures { IfOk result (λ r. done r ≡ flows.claimed frame.locals frame.first pointer block l) }
+{
+    let begin = frame.locals;
+    let mut items = Vec::new(frame.alloc);
+    let held = indirect(frame.alloc, Integer::Int, Tree::Object(pointer))?;
+    put(&mut items, Item::AssignLocal(begin, held))?;
+    let end = binary(
+        frame.alloc,
+        ArithmeticOperator::Add,
+        Tree::Object(after(pointer)?),
+        Tree::Number(BLOCK_LIMIT),
+    )?;
+    let room = binary(
+        frame.alloc,
+        ArithmeticOperator::Subtract,
+        end,
+        Tree::Local(begin),
+    )?;
+    put(
+        &mut items,
+        Item::Branch(Rel::Geu, l, room, Tree::Number(block)),
+    )?;
+    let trap = binary(
+        frame.alloc,
+        ArithmeticOperator::Divide,
+        Tree::Number(0),
+        Tree::Number(0),
+    )?;
+    put(&mut items, Item::AssignLocal(begin, trap))?;
+    put(&mut items, Item::Label(l))?;
+    let behind = binary(
+        frame.alloc,
+        ArithmeticOperator::Add,
+        Tree::Local(begin),
+        Tree::Number(block),
+    )?;
+    put(
+        &mut items,
+        Item::AssignMemory(Integer::Int, Tree::Object(pointer), behind),
+    )?;
+    Ok(Emitted {
+        items,
+        temps: frame.first,
+        labels: after(l)?,
+    })
+}
+
 /// A jump to a label.
 pub(crate) fn jump(frame: Frame, to: u32, l: u32) -> Result<Emitted, NoMemory>
-    ensures { IfOk result (λ r. done r ≡ record { items = mirror.Jump to ∷ []; temps = frame.locals; labels = l }) }
+    ensures { IfOk result (λ r. done r ≡ record { items = mirror.Jump to ∷ []; temps = frame.first; labels = l }) }
 {
     let mut items = Vec::new(frame.alloc);
     put(&mut items, Item::Jump(to))?;
     Ok(Emitted {
         items,
-        temps: frame.locals,
+        temps: frame.first,
         labels: l,
     })
 }

@@ -14,6 +14,7 @@ pub(crate) fn is_local(local: u32, v: Variable) -> bool
         Variable::Parameter(_) => false,
         Variable::Global(_) => false,
         Variable::Static(_) => false,
+        Variable::InBlock(_) => false,
     }
 }
 

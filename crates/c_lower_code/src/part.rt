@@ -9,8 +9,8 @@ ghost use Rattle.c_lower_scheme.specs.Assignments as assignments;
 ghost use Rattle.c_lower_code.specs.Views.{tree, item, all_items, all_trees, low, two, storage, found, ready, passing, done, destination};
 
 use crate::item::Item;
-use crate::tree::{Tree, fitted, indirect, integer_of};
-use c_types::{CType, Callee, Variable};
+use crate::tree::{Tree, binary, fitted, indirect, integer_of};
+use c_types::{ArithmeticOperator, CType, Callee, Integer, Variable};
 use gg_base::{NoMemory, Rel};
 use std::alloc::Global;
 
@@ -46,6 +46,9 @@ pub enum Storage {
 pub enum Destination {
     Local(u32),
     Caller,
+    /// Out of a function that has a block, which is given back before: by the object of the stack's pointer, and the local
+    /// that holds the block's address.
+    Release(u32, u32),
 }
 
 /// The same with a place, whose address is due, and the type of what is kept there.
@@ -87,12 +90,15 @@ pub struct Emitted {
     pub labels: u32,
 }
 
-/// The number of a function's automatic locals, which is the first temporary's number, and the number of functions.
+/// The number of a function's automatic locals, that of the first temporary, the number of functions, and where a function's
+/// result goes. Where it has a block, the local between its automatic ones and the temporaries holds the block's address.
 #[derive(Clone, Copy)]
 pub struct Frame {
     pub alloc: Global,
     pub locals: u32,
+    pub first: u32,
     pub functions: u32,
+    pub out: Destination,
 }
 
 /// The next number. Numbers of temporaries and labels have 32 bits; more would need more memory than there is.
@@ -193,27 +199,47 @@ pub(crate) fn then_done(a: Emitted, b: Emitted) -> Result<Emitted, NoMemory>
     })
 }
 
-// The root by which a value goes to its destination.
-fn delivery(to: Destination, w: Tree) -> Item
-    ensures { item result ≡ parts.delivery (destination to) (tree w) }
+// A value by one root.
+fn by_root(mut items: Vec<Item>, root: Item, t: u32, l: u32) -> Result<Emitted, NoMemory>
+    ensures { IfOk result (λ r. done r ≡ record { items = all_items items.items ++ (item root ∷ []); temps = t; labels = l }) }
 {
-    match to {
-        Destination::Local(n) => Item::AssignLocal(n, w),
-        Destination::Caller => Item::Return(w),
-    }
+    put(&mut items, root)?;
+    Ok(Emitted {
+        items,
+        temps: t,
+        labels: l,
+    })
+}
+
+// A value leaves a function whose block is given back. What it reads of memory it reads before.
+fn released(pointer: u32, local: u32, p: Lowered) -> Result<Emitted, NoMemory>
+    ensures { IfOk result (λ r. done r ≡ parts.released pointer local (low p)) }
+{
+    let is_saved = p.tree.reads();
+    let temps = after_if(is_saved, p.temps)?;
+    let mut items = p.items;
+    let tree = put_saved(&mut items, is_saved, p.temps, p.tree)?;
+    put(
+        &mut items,
+        Item::AssignMemory(Integer::Int, Tree::Object(pointer), Tree::Local(local)),
+    )?;
+    put(&mut items, Item::Return(tree))?;
+    Ok(Emitted {
+        items,
+        temps,
+        labels: p.labels,
+    })
 }
 
 /// A value at its destination.
 pub(crate) fn delivered(to: Destination, p: Lowered) -> Result<Emitted, NoMemory>
     ensures { IfOk result (λ r. done r ≡ parts.delivered (destination to) (low p)) }
 {
-    let mut items = p.items;
-    put(&mut items, delivery(to, p.tree))?;
-    Ok(Emitted {
-        items,
-        temps: p.temps,
-        labels: p.labels,
-    })
+    match to {
+        Destination::Local(n) => by_root(p.items, Item::AssignLocal(n, p.tree), p.temps, p.labels),
+        Destination::Caller => by_root(p.items, Item::Return(p.tree), p.temps, p.labels),
+        Destination::Release(pointer, local) => released(pointer, local, p),
+    }
 }
 
 // The relation that holds where another does not.
@@ -359,7 +385,7 @@ pub(crate) fn choose_deliver(
 {
     match to {
         Destination::Local(_) => choose_drop(l, p, q, r),
-        Destination::Caller => {
+        Destination::Caller | Destination::Release(_, _) => {
             let mut items = p.items;
             put_all(&mut items, q.items)?;
             put(&mut items, Item::Label(l))?;
@@ -391,15 +417,33 @@ pub(crate) fn labelled(l: u32, p: Emitted) -> Result<Emitted, NoMemory>
     })
 }
 
+/// The address of an offset in the block.
+pub(crate) fn in_block(frame: Frame, offset: u32) -> Result<Tree, NoMemory>
+    ensures { IfOk result (λ r. tree r ≡ places.in_block frame.locals offset) }
+{
+    let begin = Tree::Local(frame.locals);
+    if offset == 0 {
+        Ok(begin)
+    } else {
+        binary(
+            frame.alloc,
+            ArithmeticOperator::Add,
+            begin,
+            Tree::Number(offset),
+        )
+    }
+}
+
 /// Where a variable is kept.
-pub(crate) fn storage_of(v: Variable) -> Storage
-    ensures { storage result ≡ places.where_of v }
+pub(crate) fn storage_of(frame: Frame, v: Variable) -> Result<Storage, NoMemory>
+    ensures { IfOk result (λ r. storage r ≡ places.where_of frame.locals v) }
 {
     match v {
-        Variable::Automatic(n) => Storage::Local(n),
-        Variable::Parameter(n) => Storage::Parameter(n),
-        Variable::Global(n) => Storage::Memory(Tree::Object(n)),
-        Variable::Static(n) => Storage::Memory(Tree::Object(n)),
+        Variable::Automatic(n) => Ok(Storage::Local(n)),
+        Variable::Parameter(n) => Ok(Storage::Parameter(n)),
+        Variable::Global(n) => Ok(Storage::Memory(Tree::Object(n))),
+        Variable::Static(n) => Ok(Storage::Memory(Tree::Object(n))),
+        Variable::InBlock(offset) => Ok(Storage::Memory(in_block(frame, offset)?)),
     }
 }
 

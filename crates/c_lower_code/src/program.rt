@@ -5,10 +5,11 @@ ghost use Rattle.c_sound.specs.Fits.{AreBytes};
 ghost use Rattle.c_lower_scheme.specs.Programs as programs;
 ghost use Rattle.c_lower_scheme.specs.Spelling.{spelled_all};
 ghost use Rattle.c_lower_code.specs.Bytes.{AllHoldBytes};
-ghost use Rattle.c_lower_code.specs.Views.{all_items, done};
+ghost use Rattle.c_lower_code.specs.Views.{all_items, done, destination};
 
+use crate::flow::{claimed, two_done};
 use crate::item::Item;
-use crate::part::{Emitted, Frame, put};
+use crate::part::{Destination, Emitted, Frame, after, delivered, due, nothing};
 use crate::spelling::spelled;
 use crate::statement::row;
 use crate::tree::Tree;
@@ -76,12 +77,45 @@ fn spelled_items(alloc: Global, items: &[Item]) -> Result<Vec<TreeItem>, NoMemor
     Ok(leaves)
 }
 
+// The number of a function's first temporary: behind its automatic locals, and the address of its block if it has one.
+fn first_temporary(locals: u32, block: u32) -> Result<u32, NoMemory>
+    ensures { IfOk result (λ n. n ≡ programs.first_temporary locals block) }
+{
+    if block == 0 {
+        Ok(locals)
+    } else {
+        after(locals)
+    }
+}
+
+// How a function is left, by the object of the stack's pointer.
+fn way_out(pointer: u32, locals: u32, block: u32) -> Destination
+    ensures { destination result ≡ programs.way_out pointer locals block }
+{
+    if block == 0 {
+        Destination::Caller
+    } else {
+        Destination::Release(pointer, locals)
+    }
+}
+
+// What a function is lowered in.
+fn frame_of(alloc: Global, pointer: u32, functions: u32, of: &Routine) -> Result<Frame, NoMemory> {
+    let locals = number_of(of.locals.as_slice().len())?;
+    Ok(Frame {
+        alloc,
+        locals,
+        first: first_temporary(locals, of.block)?,
+        functions,
+        out: way_out(pointer, locals, of.block),
+    })
+}
+
 // A function from its body; behind its statements it answers 0.
 fn function_of(alloc: Global, of: &Routine, body: Emitted) -> Result<TreeFn, NoMemory>
     ensures { IfOk result (λ f. f ≡ programs.function_of (routine of.now) (done body)) }
 {
-    let mut items = body.items;
-    put(&mut items, Item::Return(Tree::Number(0)))?;
+    let items = body.items;
     let name = Name::copy_of(alloc, of.name.as_slice())?;
     let args = number_of(of.parameters.as_slice().len())?;
     let wanted = LocalNumbers::copy_of(alloc, of.registers.as_slice())?;
@@ -95,33 +129,46 @@ fn function_of(alloc: Global, of: &Routine, body: Emitted) -> Result<TreeFn, NoM
     })
 }
 
-// A function's body, from the first free label on.
-fn body_of(alloc: Global, functions: u32, of: &Routine, l: u32) -> Result<Emitted, NoMemory>
-    ensures { IfOk result (λ r. done r ≡ programs.body_of functions (routine of.now) l) }
+// What is done before a function's statements: its block is taken, if it has one.
+fn way_in(frame: Frame, pointer: u32, block: u32, l: u32) -> Result<Emitted, NoMemory>
+    ensures { IfOk result (λ r. done r ≡ programs.way_in frame.locals frame.first pointer block l) }
 {
-    let locals = number_of(of.locals.as_slice().len())?;
-    row(
-        Frame {
-            alloc,
-            locals,
-            functions,
-        },
-        &of.body,
-        0,
-        0,
-        l,
-    )
+    if block == 0 {
+        Ok(nothing(frame.alloc, frame.first, l))
+    } else {
+        claimed(frame, pointer, block, l)
+    }
+}
+
+// A function's body, from the first free label on; behind its statements it answers 0.
+fn body_of(
+    alloc: Global,
+    pointer: u32,
+    functions: u32,
+    of: &Routine,
+    l: u32,
+) -> Result<Emitted, NoMemory>
+    ensures { IfOk result (λ r. done r ≡ programs.body_of pointer functions (routine of.now) l) }
+{
+    let frame = frame_of(alloc, pointer, functions, of)?;
+    let begin = way_in(frame, pointer, of.block, l)?;
+    let body = row(frame, &of.body, 0, 0, begin.labels)?;
+    let end = delivered(
+        frame.out,
+        due(alloc, Tree::Number(0), frame.first, body.labels),
+    )?;
+    two_done(begin, two_done(body, end)?)
 }
 
 // The functions, whose labels differ.
-fn lower_all(alloc: Global, routines: &[Routine]) -> Result<Vec<TreeFn>, NoMemory>
-    ensures { IfOk result (λ v. v.items ≡ programs.lower_all (length routines.now) (map routine routines.now) 0) }
+fn lower_all(alloc: Global, pointer: u32, routines: &[Routine]) -> Result<Vec<TreeFn>, NoMemory>
+    ensures { IfOk result (λ v. v.items ≡ programs.lower_all pointer (length routines.now) (map routine routines.now) 0) }
 {
     let count = number_of(routines.len())?;
     let mut functions = Vec::new(alloc);
     let mut labels = 0;
     for of in routines {
-        let body = body_of(alloc, count, of, labels)?;
+        let body = body_of(alloc, pointer, count, of, labels)?;
         labels = body.labels;
         functions.push(function_of(alloc, of, body)?)?;
     }
@@ -133,7 +180,8 @@ pub fn lower(alloc: Global, source: &Program) -> Result<TreeProgram, NoMemory>
     ensures trees { IfOk result (λ q. q ≡ programs.lowered (program source.now)) }
     ensures bytes { IfOk result (λ q. AllHoldBytes source.now.objects) }
 {
-    let functions = TreeFns::from_vec(lower_all(alloc, &source.routines)?);
+    let pointer = number_of(source.objects.as_slice().len().saturating_sub(2))?;
+    let functions = TreeFns::from_vec(lower_all(alloc, pointer, &source.routines)?);
     let objects = Objects::from_vec(copied_objects(alloc, source.objects.as_slice())?);
     Ok(TreeProgram { functions, objects })
 }

@@ -3,17 +3,16 @@ ghost use Rattle.std.specs.Prelude.{◌≡◌, suc, IfOk, map};
 ghost use Rattle.c_types.specs.Typed.{expression_of};
 ghost use Rattle.c_program.specs.Statements.{act, acts, declaration, optional_expression, NoActions, WhileOf, DoOf, IfOf};
 ghost use Rattle.c_lower_scheme.specs.Statements as statements;
-ghost use Rattle.c_lower_code.specs.Views.{done};
+ghost use Rattle.c_lower_code.specs.Views.{done, destination};
 ghost use Rattle.c_lower_code.specs.Declarations.{one_declared};
 
-use crate::expression::{branch, deliver, discard};
+use crate::expression::{branch, deliver, discard, value};
 use crate::flow::{
-    begin_of, cleared, ever_done, for_done, if_done, if_else_done, jump, loop_done, turns_done,
-    two_done, while_done,
+    begin_of, cleared, ever_done, for_done, if_done, if_else_done, jump, loop_done,
+    stored_in_block, turns_done, two_done, while_done, zeros_in_block,
 };
-use crate::item::Item;
 use crate::mention::mentions;
-use crate::part::{Destination, Emitted, Frame, after, nothing, put};
+use crate::part::{Destination, Emitted, Frame, after, delivered, due, nothing};
 use crate::tree::Tree;
 use crate::zeros::is_zeroed;
 use c_program::{Action, Declaration};
@@ -23,43 +22,35 @@ use gg_base::NoMemory;
 
 // A condition that falls through where it holds, and else goes to a label.
 fn unless(frame: Frame, c: &Expression, to: u32, l: u32) -> Result<Emitted, NoMemory>
-    ensures { IfOk result (λ r. done r ≡ statements.unless frame.locals frame.functions (expression_of c.now) to l) }
+    ensures { IfOk result (λ r. done r ≡ statements.unless frame.locals frame.functions frame.first (destination frame.out) (expression_of c.now) to l) }
 {
-    branch(frame, c, false, to, frame.locals, l)
+    branch(frame, c, false, to, frame.first, l)
 }
 
 // A condition that goes to a label where it holds.
 fn when(frame: Frame, c: &Expression, to: u32, l: u32) -> Result<Emitted, NoMemory>
-    ensures { IfOk result (λ r. done r ≡ statements.when frame.locals frame.functions (expression_of c.now) to l) }
+    ensures { IfOk result (λ r. done r ≡ statements.when frame.locals frame.functions frame.first (destination frame.out) (expression_of c.now) to l) }
 {
-    branch(frame, c, true, to, frame.locals, l)
+    branch(frame, c, true, to, frame.first, l)
 }
 
 // What is evaluated for its effect, if there is something.
 fn effect(frame: Frame, e: &Option<Expression>, l: u32) -> Result<Emitted, NoMemory>
-    ensures { IfOk result (λ r. done r ≡ statements.effect frame.locals frame.functions (optional_expression e.now) l) }
+    ensures { IfOk result (λ r. done r ≡ statements.effect frame.locals frame.functions frame.first (destination frame.out) (optional_expression e.now) l) }
 {
     match e {
-        None => Ok(nothing(frame.alloc, frame.locals, l)),
-        Some(e) => discard(frame, e, frame.locals, l),
+        None => Ok(nothing(frame.alloc, frame.first, l)),
+        Some(e) => discard(frame, e, frame.first, l),
     }
 }
 
 // A `return`.
 fn returning(frame: Frame, e: &Option<Expression>, l: u32) -> Result<Emitted, NoMemory>
-    ensures { IfOk result (λ r. done r ≡ statements.returning frame.locals frame.functions (optional_expression e.now) l) }
+    ensures { IfOk result (λ r. done r ≡ statements.returning frame.locals frame.functions frame.first (destination frame.out) (optional_expression e.now) l) }
 {
     match e {
-        None => {
-            let mut items = Vec::new(frame.alloc);
-            put(&mut items, Item::Return(Tree::Number(0)))?;
-            Ok(Emitted {
-                items,
-                temps: frame.locals,
-                labels: l,
-            })
-        }
-        Some(e) => deliver(frame, Destination::Caller, e, frame.locals, l),
+        None => delivered(frame.out, due(frame.alloc, Tree::Number(0), frame.first, l)),
+        Some(e) => deliver(frame, frame.out, e, frame.first, l),
     }
 }
 
@@ -71,27 +62,31 @@ fn one_declared(
     rest: &[Action],
     l: u32,
 ) -> Result<Emitted, NoMemory>
-    ensures { IfOk result (λ r. done r ≡ one_declared frame.locals frame.functions
+    ensures { IfOk result (λ r. done r ≡ one_declared frame.locals frame.functions frame.first
         (declaration d.now) (map declaration others.now) (acts rest.now) l) }
 {
     match d {
-        Declaration::Keep(_) => Ok(nothing(frame.alloc, frame.locals, l)),
+        Declaration::Keep(_) => Ok(nothing(frame.alloc, frame.first, l)),
         Declaration::Clear(n) => cleared(frame, is_zeroed(*n, others, rest), *n, l),
         Declaration::Begin(n, e) => begin_of(
             frame.alloc,
             mentions(*n, e),
             *n,
-            deliver(frame, Destination::Local(*n), e, frame.locals, l)?,
+            deliver(frame, Destination::Local(*n), e, frame.first, l)?,
         ),
+        Declaration::Store(of, offset, e) => {
+            stored_in_block(frame, *of, *offset, value(frame, e, frame.first, l)?)
+        }
+        Declaration::Zeros(of, offset, count) => zeros_in_block(frame, *of, *offset, *count, l),
     }
 }
 
 // Declarations, in order, before the statements behind them.
 #[tactic(auto, using(crate::proofs::Rows::declare_begins, crate::proofs::Rows::declare_goes, crate::proofs::Rows::nothing_behind))]
 fn declare(frame: Frame, ds: &[Declaration], rest: &[Action], l: u32) -> Result<Emitted, NoMemory>
-    ensures { IfOk result (λ r. done r ≡ statements.declare frame.locals frame.functions (map declaration ds.now) (acts rest.now) l) }
+    ensures { IfOk result (λ r. done r ≡ statements.declare frame.locals frame.functions frame.first (destination frame.out) (map declaration ds.now) (acts rest.now) l) }
 {
-    let mut whole = nothing(frame.alloc, frame.locals, l);
+    let mut whole = nothing(frame.alloc, frame.first, l);
     for (i, d) in ds.iter().enumerate() {
         let one = one_declared(frame, d, &ds[i + 1..], rest, whole.labels)?;
         whole = two_done(whole, one)?;
@@ -108,9 +103,9 @@ fn for_of(
     e: &Option<Expression>,
     body: &Action,
 ) -> Result<Emitted, NoMemory>
-    ensures { IfOk result (λ r. done r ≡ statements.for_of frame.locals frame.functions l
+    ensures { IfOk result (λ r. done r ≡ statements.for_of frame.locals frame.functions frame.first (destination frame.out) l
         (optional_expression c.now) (optional_expression e.now)
-        (statements.lower frame.locals frame.functions (act body.now) NoActions (suc (suc l)) (suc l))) }
+        (statements.lower frame.locals frame.functions frame.first (destination frame.out) (act body.now) NoActions (suc (suc l)) (suc l))) }
 {
     let onward = after(l)?;
     let end = after(onward)?;
@@ -141,7 +136,7 @@ fn for_of(
 // A `while`: its test stands in front where it is a constant, and else behind the body.
 #[cycle(statement)]
 fn while_of(frame: Frame, body: &Action, c: &Expression, l: u32) -> Result<Emitted, NoMemory>
-    ensures { IfOk result (λ r. done r ≡ statements.lower frame.locals frame.functions
+    ensures { IfOk result (λ r. done r ≡ statements.lower frame.locals frame.functions frame.first (destination frame.out)
         (WhileOf (expression_of c.now) (act body.now)) NoActions 0 0 l) }
 {
     let onward = after(l)?;
@@ -164,7 +159,7 @@ fn while_of(frame: Frame, body: &Action, c: &Expression, l: u32) -> Result<Emitt
 #[cycle(statement)]
 fn do_of(frame: Frame, body: &Action, c: &Expression, l: u32) -> Result<Emitted, NoMemory>
     ensures { IfOk result (λ r. done r ≡
-        statements.lower frame.locals frame.functions (DoOf (act body.now) (expression_of c.now)) NoActions 0 0 l) }
+        statements.lower frame.locals frame.functions frame.first (destination frame.out) (DoOf (act body.now) (expression_of c.now)) NoActions 0 0 l) }
 {
     let onward = after(l)?;
     let end = after(onward)?;
@@ -207,7 +202,7 @@ fn if_of(
     onward: u32,
     l: u32,
 ) -> Result<Emitted, NoMemory>
-    ensures { IfOk result (λ r. done r ≡ statements.lower frame.locals frame.functions
+    ensures { IfOk result (λ r. done r ≡ statements.lower frame.locals frame.functions frame.first (destination frame.out)
         (IfOf (expression_of c.now) (act a.now)) NoActions broken onward l) }
 {
     match going(a, broken, onward) {
@@ -230,12 +225,12 @@ pub(crate) fn statement(
     onward: u32,
     l: u32,
 ) -> Result<Emitted, NoMemory>
-    ensures { IfOk result (λ r. done r ≡ statements.lower frame.locals frame.functions (act a.now) (acts rest.now) broken onward l) }
+    ensures { IfOk result (λ r. done r ≡ statements.lower frame.locals frame.functions frame.first (destination frame.out) (act a.now) (acts rest.now) broken onward l) }
 {
     match a {
         Action::Declare(ds) => declare(frame, ds, rest, l),
         Action::Block(all) => row(frame, all, broken, onward, l),
-        Action::Evaluate(e) => discard(frame, e, frame.locals, l),
+        Action::Evaluate(e) => discard(frame, e, frame.first, l),
         Action::Break => jump(frame, broken, l),
         Action::Continue => jump(frame, onward, l),
         Action::Return(e) => returning(frame, e, l),
@@ -265,9 +260,9 @@ pub(crate) fn row(
     onward: u32,
     l: u32,
 ) -> Result<Emitted, NoMemory>
-    ensures { IfOk result (λ r. done r ≡ statements.lower_row frame.locals frame.functions (acts all.now) broken onward l) }
+    ensures { IfOk result (λ r. done r ≡ statements.lower_row frame.locals frame.functions frame.first (destination frame.out) (acts all.now) broken onward l) }
 {
-    let mut whole = nothing(frame.alloc, frame.locals, l);
+    let mut whole = nothing(frame.alloc, frame.first, l);
     for (i, a) in all.iter().enumerate() {
         let one = statement(frame, a, &all[i + 1..], broken, onward, whole.labels)?;
         whole = two_done(whole, one)?;

@@ -52,6 +52,10 @@ fn is_overwritten(ahead: u32, local: u32, ds: &[Declaration], rest: &[Action]) -
         Some((Declaration::Begin(n, e), ds)) => {
             !mentions(local, e) && (*n == local || is_overwritten(next, local, ds, rest))
         }
+        Some((Declaration::Store(_, _, e), ds)) => {
+            !mentions(local, e) && is_overwritten(next, local, ds, rest)
+        }
+        Some((Declaration::Zeros(_, _, _), ds)) => is_overwritten(next, local, ds, rest),
         None => match rest.split_first() {
             None => false,
             Some((Action::Declare(ds), rest)) => is_overwritten(next, local, ds, rest),

@@ -153,8 +153,9 @@ module _ (program : TreeProgram) where
       let parts = or_parts (divides a) (divides b) whole.1 in
       bind_pure (value a d) _ (value_pure a d parts.0) (λ x. bind_pure (value b d) _ (value_pure b d parts.1) (λ y. apply_pure op x y whole.0)) h
 
--- The states agree on the locals in scope, on the parameters, the data area and the input; nothing waits to be passed.
-pub record Agree (size : ℕ) (scope : ℕ → Type 0) (depth : ℕ) (st : State) (d : Desk) : Type 0 where
+-- The states agree on the locals in scope, on the parameters, the data area and the input; nothing waits to be passed. The local behind the
+-- function's own holds the address of its block.
+pub record Agree (size first : ℕ) (scope : ℕ → Type 0) (depth : ℕ) (st : State) (d : Desk) : Type 0 where
   pub local : (x : ℕ) → scope x → d.locals x ≡ slice_get st.call.locals x
   pub count : length st.call.locals ≡ size
   pub arguments : d.arguments ≡ st.call.parameters
@@ -164,6 +165,7 @@ pub record Agree (size : ℕ) (scope : ℕ → Type 0) (depth : ℕ) (st : State
   pub active : st.active ≡ suc depth
   pub ranged : Ranged (desk_sight d)
   pub bytes : AreBytes d.input
+  pub pointer : (b : ℕ) → st.call.block ≡ Some b → (size < first) × (d.locals size ≡ Some b)
 
 -- what items that own the temporaries from t up to u leave
 pub record Since (size t u : ℕ) (is : List Item) (st : State) (d : Desk) (st' : State) (d' : Desk) : Type 0 where
@@ -184,9 +186,9 @@ ranged_set d n v lt r = record {
 }
 
 -- a temporary is written
-pub agree_temp : (size : ℕ) (scope : ℕ → Type 0) (depth : ℕ) → ((x : ℕ) → scope x → x < size) → (n v : ℕ) (st : State) (d : Desk) → size ≤ n → v < 2 ^ 32 → Agree size scope depth st d
-    → Agree size scope depth st (record d { locals = with_local d.locals n v })
-agree_temp size scope depth within n v st d le lt h = record {
+pub agree_temp : (size first : ℕ) (scope : ℕ → Type 0) (depth : ℕ) → ((x : ℕ) → scope x → x < size) → size ≤ first → (n v : ℕ) (st : State) (d : Desk) → first ≤ n → v < 2 ^ 32 → Agree size first scope depth st d
+    → Agree size first scope depth st (record d { locals = with_local d.locals n v })
+agree_temp size first scope depth within own n v st d le lt h = record {
   local = λ x sc. set_other d.locals n v x (λ e. let lt' = within x sc in omega arith) ∙ h.local x sc;
   count = h.count;
   arguments = h.arguments;
@@ -196,4 +198,5 @@ agree_temp size scope depth within n v st d le lt h = record {
   active = h.active;
   ranged = ranged_set d n v lt h.ranged;
   bytes = h.bytes;
+  pointer = λ b e. let k = h.pointer b e in (k.0, set_other d.locals n v size (λ q. omega (arith, k.0)) ∙ k.1);
 }

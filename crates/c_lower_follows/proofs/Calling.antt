@@ -87,15 +87,15 @@ nil_from : (a : List Item) → is_nil a ≡ true → a ≡ []
 nil_from [] e = refl
 nil_from (i ∷ is) e = absurd (cc)
 
-module _ (program : TreeProgram) (code : List TreeItem) (callers : List Activation) (size count : ℕ) (scope : ℕ → Type 0) (level : ℕ) (within : (x : ℕ) → scope x → x < size) where
+module _ (program : TreeProgram) (code : List TreeItem) (callers : List Activation) (size count first : ℕ) (scope : ℕ → Type 0) (level : ℕ) (within : (x : ℕ) → scope x → x < size) (own : size ≤ first) where
   abbrev pub well : State → Desk → Type 0
-  well st d = agreed program code callers size count scope level within st d
+  well st d = agreed program code callers size count first scope level within own st d
 
   abbrev pub run : List Item → Desk → Runs
-  run is d = gone program code callers size count scope level within is d
+  run is d = gone program code callers size count first scope level within own is d
 
   abbrev pub DoesOne : Lowered → ℕ → (Rest → State → Runs) → Type 0
-  DoesOne p t m = DoesLow program code callers size count scope level within p t m
+  DoesOne p t m = DoesLow program code callers size count first scope level within own p t m
 
   -- what the items of arguments leave
   pub record SinceAll (t u : ℕ) (quiet : Bool) (items : List Item) (st : State) (d : Desk) (st' : State) (d' : Desk) : Type 0 where
@@ -151,7 +151,7 @@ module _ (program : TreeProgram) (code : List TreeItem) (callers : List Activati
         );
   }
 
-  pass_saved : (p : Lowered) (q : Passing) (t : ℕ) (m : Rest → State → Runs) (n : RestAll → State → Runs) → size ≤ t → DoesOne p t m → DoesAll q p.temps n
+  pass_saved : (p : Lowered) (q : Passing) (t : ℕ) (m : Rest → State → Runs) (n : RestAll → State → Runs) → first ≤ t → DoesOne p t m → DoesAll q p.temps n
       → DoesAll (pass_so true p q) t (λ κ. m (λ x. n (λ xs. κ (x ∷ xs))))
   pass_saved p q t m n sz does does' = record {
     grows = omega (arith, does.grows, does'.grows);
@@ -164,9 +164,9 @@ module _ (program : TreeProgram) (code : List TreeItem) (callers : List Activati
         let i = AssignLoc u p.tree in
         let tail : List Item = i ∷ q.items in
         let res1 = resolves_back code p.items (tail ++ is) (resolves_split code p.items tail is res) in
-        assoc program code callers size count scope level k p.items tail is d _
+        assoc program code callers size count first scope level k p.items tail is d _
         (does.runs k le (tail ++ is) (λ x. n (λ xs. κ (x ∷ xs))) (resolves_split code p.items tail is res) st d ag
-        (λ st1 d1 ag1 s1. save_temp program code callers size count scope level within k u p.tree (q.items ++ is) (λ x. n (λ xs. κ (x ∷ xs)) st1) st1 d1
+        (λ st1 d1 ag1 s1. save_temp program code callers size count first scope level within own k u p.tree (q.items ++ is) (λ x. n (λ xs. κ (x ∷ xs)) st1) st1 d1
         (omega (arith, does.grows, does'.grows)) does.small ag1
         (λ v lt e ag1'.
         let d1' : Desk = record d1 { locals = with_local d1.locals u v } in
@@ -205,7 +205,7 @@ module _ (program : TreeProgram) (code : List TreeItem) (callers : List Activati
     none = λ e. absurd (cc);
     runs = λ k le is κ res st d ag h.
         let res1 = resolves_back code p.items (q.items ++ is) (resolves_split code p.items q.items is res) in
-        assoc program code callers size count scope level k p.items q.items is d _
+        assoc program code callers size count first scope level k p.items q.items is d _
         (does.runs k le (q.items ++ is) (λ x. n (λ xs. κ (x ∷ xs))) (resolves_split code p.items q.items is res) st d ag
         (λ st1 d1 ag1 s1. passing_by p q n k le is κ st1 d1 (value program p.tree d1) does'
         (λ e. ⊎_elim (λ pure. absurd (value_pure program p.tree d1 pure e))
@@ -225,7 +225,7 @@ module _ (program : TreeProgram) (code : List TreeItem) (callers : List Activati
   ways w quiet (v ∷ vs) e = inr (⊎_elim (λ s. inl s) (λ h. let parts = and_parts quiet (not (breaks w)) h in inr (parts.0, not-true (breaks w) parts.1))
       (or_cases (stable size w) (quiet && not (breaks w)) (not-false (stable size w || (quiet && not (breaks w))) e)))
 
-  pass_by : (b : Bool) (p : Lowered) (q : Passing) (t : ℕ) (m : Rest → State → Runs) (n : RestAll → State → Runs) → must_pass_by size count p.tree q.quiet q.trees ≡ b → size ≤ t
+  pass_by : (b : Bool) (p : Lowered) (q : Passing) (t : ℕ) (m : Rest → State → Runs) (n : RestAll → State → Runs) → must_pass_by size count p.tree q.quiet q.trees ≡ b → first ≤ t
       → DoesOne p t m → DoesAll q p.temps n → DoesAll (pass_so b p q) t (λ κ. m (λ x. n (λ xs. κ (x ∷ xs))))
   pass_by true p q t m n e sz does does' = pass_saved p q t m n sz does does'
   pass_by false p q t m n e sz does does' =
@@ -237,7 +237,7 @@ module _ (program : TreeProgram) (code : List TreeItem) (callers : List Activati
       o)
       (ways p.tree q.quiet q.trees e)
 
-  pub pass_does : (p : Lowered) (q : Passing) (t : ℕ) (m : Rest → State → Runs) (n : RestAll → State → Runs) → size ≤ t → DoesOne p t m → DoesAll q p.temps n
+  pub pass_does : (p : Lowered) (q : Passing) (t : ℕ) (m : Rest → State → Runs) (n : RestAll → State → Runs) → first ≤ t → DoesOne p t m → DoesAll q p.temps n
       → DoesAll (pass_on size count p q) t (λ κ. m (λ x. n (λ xs. κ (x ∷ xs))))
   pass_does p q t m n sz does does' = pass_by (must_pass size count p.tree q) p q t m n refl sz does does'
 
@@ -281,15 +281,15 @@ pub record Calls (program : TreeProgram) (count : ℕ) (p : AProgram) (next : Ne
       → (κ : Behind) (cs : List Activation) → Backed program k κ cs → (st : State) → st.active ≡ length cs → AreBytes st.area → AreBytes st.input
       → Leads k (next (Body g.body) κ (begun_source g vs st)) (runs program (arrived (record { running = begun_tree tf vs; callers = cs; area = st.area; input = st.input })))
 
-module _ (program : TreeProgram) (code : List TreeItem) (callers : List Activation) (size count : ℕ) (scope : ℕ → Type 0) (level : ℕ) (within : (x : ℕ) → scope x → x < size) (p : AProgram)
+module _ (program : TreeProgram) (code : List TreeItem) (callers : List Activation) (size count first : ℕ) (scope : ℕ → Type 0) (level : ℕ) (within : (x : ℕ) → scope x → x < size) (own : size ≤ first) (p : AProgram)
     (next : Next) (counts_all : length program.functions ≡ count)
     (lowers : (f : ℕ) (g : ARoutine) → slice_get p.routines f ≡ Some g → (tf : TreeFn) × (slice_get program.functions f ≡ Some tf) × CodeOf count g tf.items)
     (calls : Calls program count p next level) where
   abbrev fine : State → Desk → Type 0
-  fine st d = well program code callers size count scope level within st d
+  fine st d = well program code callers size count first scope level within own st d
 
   abbrev going : List Item → Desk → Runs
-  going is d = run program code callers size count scope level within is d
+  going is d = run program code callers size count first scope level within own is d
 
   called_is : (to : To) (is : List TreeItem) (d : Desk) (f n : ℕ) (vs : List ℕ) → length vs ≡ n
       → called_tree program to (state program code callers is (record d { pushed = vs ++ d.pushed })) f n
@@ -429,8 +429,8 @@ module _ (program : TreeProgram) (code : List TreeItem) (callers : List Activati
       (subst (λ i. Leads k (κ v st) (going is (record { locals = d.locals; arguments = d.arguments; pushed = d.pushed; result = v; area = st.area; input = i }))) (sym ag.input) run))
   call_step callees.Getchar n k le vs len small κ st d is ag h = get_step n k vs len κ st d is ag h
 
-  pub called_low_does : (f : Callee) (q : Passing) (t : ℕ) (m : RestAll → State → Runs) → size ≤ t → DoesAll program code callers size count scope level within q t m
-      → DoesOne program code callers size count scope level within (called_low (callee_number count f) q) t (λ κ. m (λ vs. call p next f vs κ))
+  pub called_low_does : (f : Callee) (q : Passing) (t : ℕ) (m : RestAll → State → Runs) → first ≤ t → DoesAll program code callers size count first scope level within own q t m
+      → DoesOne program code callers size count first scope level within own (called_low (callee_number count f) q) t (λ κ. m (λ vs. call p next f vs κ))
   called_low_does f q t m sz does = record {
     grows = omega (arith, does.grows);
     below = omega arith;
@@ -441,25 +441,25 @@ module _ (program : TreeProgram) (code : List TreeItem) (callers : List Activati
         let c = Call (callee_number count f) n in
         let tail : List Item = pushes q.trees (c ∷ Save u ∷ []) in
         let rest : List Item = c ∷ Save u ∷ is in
-        assoc program code callers size count scope level k q.items tail is d _
+        assoc program code callers size count first scope level k q.items tail is d _
         (does.runs k le (tail ++ is) (λ vs. call p next f vs κ) (resolves_split code q.items tail is res) st d ag
         (λ st1 d1 ag1 s1. moves program code callers k (spelled_all (tail ++ is)) (spelled_all (pushes q.trees rest)) d1 _ (ap spelled_all (sym (pushes_append q.trees (c ∷ Save u ∷ []) is)))
-        (pushes_step program code callers size count scope level within q.trees k rest (λ vs. call p next f vs κ st1) d1 does.small does.pure ag1.ranged
+        (pushes_step program code callers size count first scope level within own q.trees k rest (λ vs. call p next f vs κ st1) d1 does.small does.pure ag1.ranged
         (λ vs len small. call_step f n k le vs len small κ st1 d1 (Save u ∷ is) ag1
         (λ v st' lt ag'.
         let st2 : State = record st' { call = st1.call; active = st1.active } in
         let d2 : Desk = told d1 v st' in
         let d3 : Desk = record d2 { locals = with_local d1.locals u v } in
         save_step program code callers k u is (κ v st2) d2
-        (use_number program code callers size count scope level within k (d3.locals u) v is κ st2 d3 (set_same d1.locals u v)
-        (h st2 d3 (agree_temp size scope (length callers) within u v st2 d2 (omega (arith, does.grows)) lt ag') (record {
+        (use_number program code callers size count first scope level within own k (d3.locals u) v is κ st2 d3 (set_same d1.locals u v)
+        (h st2 d3 (agree_temp size first scope (length callers) within own u v st2 d2 (omega (arith, does.grows)) lt ag') (record {
           keeps = λ j szj o. set_other d1.locals u v j (λ e. ⊎_elim (λ lt. omega (arith, does.grows)) (λ ge. omega arith) o) ∙ s1.keeps j szj (⊎_elim (λ lt. inl lt) (λ ge. inr (omega arith)) o);
           same = λ e. absurd (append_some q.items tail (pushes_some q.trees c (Save u ∷ [])) e);
         }))))))));
   }
 
-  pub called_drop_does : (f : Callee) (q : Passing) (t : ℕ) (m : RestAll → State → Runs) → size ≤ t → DoesAll program code callers size count scope level within q t m
-      → Drops program code callers size count scope level (called_drop (callee_number count f) q) t (λ κ. m (λ vs. call p next f vs κ))
+  pub called_drop_does : (f : Callee) (q : Passing) (t : ℕ) (m : RestAll → State → Runs) → first ≤ t → DoesAll program code callers size count first scope level within own q t m
+      → Drops program code callers size count first scope level (called_drop (callee_number count f) q) t (λ κ. m (λ vs. call p next f vs κ))
   called_drop_does f q t m sz does = record {
     grows = does.grows;
     runs = λ k le is κ res st d ag h.
@@ -467,10 +467,10 @@ module _ (program : TreeProgram) (code : List TreeItem) (callers : List Activati
         let c = Call (callee_number count f) n in
         let tail : List Item = pushes q.trees (c ∷ []) in
         let rest : List Item = c ∷ is in
-        assoc program code callers size count scope level k q.items tail is d _
+        assoc program code callers size count first scope level k q.items tail is d _
         (does.runs k le (tail ++ is) (λ vs. call p next f vs (λ v. κ)) (resolves_split code q.items tail is res) st d ag
         (λ st1 d1 ag1 s1. moves program code callers k (spelled_all (tail ++ is)) (spelled_all (pushes q.trees rest)) d1 _ (ap spelled_all (sym (pushes_append q.trees (c ∷ []) is)))
-        (pushes_step program code callers size count scope level within q.trees k rest (λ vs. call p next f vs (λ v. κ) st1) d1 does.small does.pure ag1.ranged
+        (pushes_step program code callers size count first scope level within own q.trees k rest (λ vs. call p next f vs (λ v. κ) st1) d1 does.small does.pure ag1.ranged
         (λ vs len small. call_step f n k le vs len small (λ v. κ) st1 d1 is ag1
         (λ v st' lt ag'.
         let st2 : State = record st' { call = st1.call; active = st1.active } in
@@ -481,8 +481,8 @@ module _ (program : TreeProgram) (code : List TreeItem) (callers : List Activati
         }))))));
   }
 
-  pub called_deliver_does : (to : Destination) (f : Callee) (q : Passing) (t : ℕ) (m : RestAll → State → Runs) → size ≤ t → DoesAll program code callers size count scope level within q t m
-      → Delivers program code callers size count scope level to (called_deliver to (callee_number count f) q) t (λ κ. m (λ vs. call p next f vs κ))
+  pub called_deliver_does : (to : Destination) (f : Callee) (q : Passing) (t : ℕ) (m : RestAll → State → Runs) → first ≤ t → DoesAll program code callers size count first scope level within own q t m
+      → Delivers program code callers size count first scope level to (called_deliver to (callee_number count f) q) t (λ κ. m (λ vs. call p next f vs κ))
   called_deliver_does (InLocal x) f q t m sz does = record {
     grows = does.grows;
     some = λ e. append_some q.items (pushes q.trees (Call (callee_number count f) (length q.trees) ∷ Save x ∷ []))
@@ -492,10 +492,10 @@ module _ (program : TreeProgram) (code : List TreeItem) (callers : List Activati
         let c = Call (callee_number count f) n in
         let tail : List Item = pushes q.trees (c ∷ Save x ∷ []) in
         let rest : List Item = c ∷ Save x ∷ is in
-        assoc program code callers size count scope level k q.items tail is d _
+        assoc program code callers size count first scope level k q.items tail is d _
         (does.runs k le (tail ++ is) (λ vs. call p next f vs κ) (resolves_split code q.items tail is res) st d ag
         (λ st1 d1 ag1 s1. moves program code callers k (spelled_all (tail ++ is)) (spelled_all (pushes q.trees rest)) d1 _ (ap spelled_all (sym (pushes_append q.trees (c ∷ Save x ∷ []) is)))
-        (pushes_step program code callers size count scope level within q.trees k rest (λ vs. call p next f vs κ st1) d1 does.small does.pure ag1.ranged
+        (pushes_step program code callers size count first scope level within own q.trees k rest (λ vs. call p next f vs κ st1) d1 does.small does.pure ag1.ranged
         (λ vs len small. call_step f n k le vs len small κ st1 d1 (Save x ∷ is) ag1
         (λ v st' lt ag'.
         let st2 : State = record st' { call = st1.call; active = st1.active } in
@@ -504,5 +504,5 @@ module _ (program : TreeProgram) (code : List TreeItem) (callers : List Activati
   }
   called_deliver_does AsResult f q t m sz does =
       let low = called_low_does f q t m sz does in
-      delivered_does program code callers size count scope level within AsResult (called_low (callee_number count f) q) t (λ κ. m (λ vs. call p next f vs κ))
+      delivered_does program code callers size count first scope level within own AsResult (called_low (callee_number count f) q) t (λ κ. m (λ vs. call p next f vs κ))
       (record { grows = low.grows; below = low.below; small = low.small; runs = λ k le is κ res st d ag h. low.runs k le is κ res st d ag h })

@@ -85,33 +85,33 @@ pick true false met unmet = unmet
 pick false true met unmet = unmet
 pick false false met unmet = met
 
-module _ (program : TreeProgram) (code : List TreeItem) (callers : List Activation) (size count : ℕ) (scope : ℕ → Type 0) (level : ℕ) (within : (x : ℕ) → scope x → x < size) where
+module _ (program : TreeProgram) (code : List TreeItem) (callers : List Activation) (size count first : ℕ) (scope : ℕ → Type 0) (level : ℕ) (within : (x : ℕ) → scope x → x < size) (own : size ≤ first) where
   abbrev sure : State → Desk → Type 0
-  sure st d = Agrees program code callers size count scope level st d
+  sure st d = Agrees program code callers size count first scope level st d
 
   abbrev going : List Item → Desk → Runs
-  going is d = here program code callers size count scope level is d
+  going is d = here program code callers size count first scope level is d
 
   abbrev AsksIt : Emitted → Bool → ℕ → ℕ → (Rest → State → Runs) → Type 0
-  AsksIt p sense to t m = Asks program code callers size count scope level p sense to t m
+  AsksIt p sense to t m = Asks program code callers size count first scope level p sense to t m
 
   abbrev DropsIt : Emitted → ℕ → (Rest → State → Runs) → Type 0
-  DropsIt p t m = Drops program code callers size count scope level p t m
+  DropsIt p t m = Drops program code callers size count first scope level p t m
 
   abbrev LowIt : Lowered → ℕ → (Rest → State → Runs) → Type 0
-  LowIt p t m = Does program code callers size count scope level p t m
+  LowIt p t m = Does program code callers size count first scope level p t m
 
   abbrev DeliversIt : Destination → Emitted → ℕ → (Rest → State → Runs) → Type 0
-  DeliversIt to p t m = Delivers program code callers size count scope level to p t m
+  DeliversIt to p t m = Delivers program code callers size count first scope level to p t m
 
   abbrev WayIt : Lowering → (Rest → State → Runs) → Type 0
-  WayIt w m = DoesWay program code callers size count scope level w m
+  WayIt w m = DoesWay program code callers size count first scope level w m
 
   abbrev bind_up : (k : ℕ) (a b is : List Item) (d : Desk) (r : Runs) → Leads k r (going (a ++ (b ++ is)) d) → Leads k r (going ((a ++ b) ++ is) d)
-  bind_up k a b is d r h = assoc program code callers size count scope level k a b is d r h
+  bind_up k a b is d r h = assoc program code callers size count first scope level k a b is d r h
 
   -- the value of a condition
-  truth_does : (t l : ℕ) (b : Emitted) (m : Rest → State → Runs) → size ≤ t → ((κ : Rest) (st : State) → m κ st ≡ m (λ v st. chosen v (κ 1 st) (κ 0 st)) st) → AsksIt b false l (suc t) m
+  truth_does : (t l : ℕ) (b : Emitted) (m : Rest → State → Runs) → first ≤ t → ((κ : Rest) (st : State) → m κ st ≡ m (λ v st. chosen v (κ 1 st) (κ 0 st)) st) → AsksIt b false l (suc t) m
       → LowIt (truth_of t l b) t m
   truth_does t l b m sz logic asks = record {
     grows = omega (arith, asks.grows);
@@ -121,7 +121,7 @@ module _ (program : TreeProgram) (code : List TreeItem) (callers : List Activati
         let T : List Item = AssignLoc t (Num 1) ∷ Label l ∷ [] in
         let res1 = resolves_split code b.items T is res.1 in
         let end_at : behind code l ≡ spelled_all is = (resolves_back code b.items (T ++ is) res1).1.0 in
-        save_temp program code callers size count scope level within k t (Num 0) ((b.items ++ T) ++ is) (λ v. m κ st) st d sz (omega arith) ag
+        save_temp program code callers size count first scope level within own k t (Num 0) ((b.items ++ T) ++ is) (λ v. m κ st) st d sz (omega arith) ag
         (λ v lt e ag0.
         let z : 0 ≡ v = cc in
         let d0 : Desk = record d { locals = with_local d.locals t v } in
@@ -134,24 +134,24 @@ module _ (program : TreeProgram) (code : List TreeItem) (callers : List Activati
         subst (λ r. Leads k r (going ((b.items ++ T) ++ is) d0)) (sym (logic κ st))
         (bind_up k b.items T is d0 _ (asks.runs k le (T ++ is) (κ 1) (κ 0) res1 st d0 ag0
         (λ st1 d1 ag1 s1. leads_quiet k _ _ (moves program code callers k (behind code l) (spelled_all is) d1 _ end_at
-        (use_number program code callers size count scope level within k (d1.locals t) 0 is κ st1 d1 (s1.keeps t sz (inl (omega arith)) ∙ set_same d.locals t v ∙ ap Some (sym z))
+        (use_number program code callers size count first scope level within own k (d1.locals t) 0 is κ st1 d1 (s1.keeps t sz (inl (omega arith)) ∙ set_same d.locals t v ∙ ap Some (sym z))
         (h st1 d1 ag1 (since 0 st1 d1 (outside st1 d1 s1))))))
-        (λ st1 d1 ag1 s1. leads_quiet k _ _ (save_temp program code callers size count scope level within k t (Num 1) (Label l ∷ is) (λ v. κ 1 st1) st1 d1 sz (omega arith) ag1
+        (λ st1 d1 ag1 s1. leads_quiet k _ _ (save_temp program code callers size count first scope level within own k t (Num 1) (Label l ∷ is) (λ v. κ 1 st1) st1 d1 sz (omega arith) ag1
         (λ w lt' e' ag2.
         let one : 1 ≡ w = cc in
         let d2 : Desk = record d1 { locals = with_local d1.locals t w } in
         label_step program code callers k l is d2 (κ 1 st1)
-        (use_number program code callers size count scope level within k (d2.locals t) 1 is κ st1 d2 (set_same d1.locals t w ∙ ap Some (sym one))
+        (use_number program code callers size count first scope level within own k (d2.locals t) 1 is κ st1 d2 (set_same d1.locals t w ∙ ap Some (sym one))
         (h st1 d2 ag2 (since 0 st1 d2 (λ j szj o. set_other d1.locals t w j (λ e. ⊎_elim (λ lt. omega arith) (λ ge. omega (arith, asks.grows)) o) ∙ outside st1 d1 s1 j szj o))))))))));
   }
 
   pub conditional_does : (f : Bool → ℕ → ℕ → ℕ → Emitted) (g : ℕ → ℕ → Emitted) (m : Rest → State → Runs) → ((κ : Rest) (st : State) → m κ st ≡ m (λ v st. chosen v (κ 1 st) (κ 0 st)) st)
-      → ((sense : Bool) (to t l : ℕ) → size ≤ t → AsksIt (f sense to t l) sense to t m) → ((t l : ℕ) → size ≤ t → DropsIt (g t l) t m) → WayIt (conditional f g) m
+      → ((sense : Bool) (to t l : ℕ) → first ≤ t → AsksIt (f sense to t l) sense to t m) → ((t l : ℕ) → first ≤ t → DropsIt (g t l) t m) → WayIt (conditional f g) m
   conditional_does f g m logic asks drops = record {
     low = λ t l sz. truth_does t l (f false l (suc t) (suc l)) m sz logic (asks false l (suc t) (suc l) (omega arith));
     branch = asks;
     drop = drops;
-    deliver = λ to t l sz. delivered_does program code callers size count scope level within to (truth_of t l (f false l (suc t) (suc l))) t m
+    deliver = λ to t l sz. delivered_does program code callers size count first scope level within own to (truth_of t l (f false l (suc t) (suc l))) t m
         (truth_does t l (f false l (suc t) (suc l)) m sz logic (asks false l (suc t) (suc l) (omega arith)));
   }
 
@@ -163,7 +163,7 @@ module _ (program : TreeProgram) (code : List TreeItem) (callers : List Activati
         let res1 = resolves_split code p.items q.items is res in
         bind_up k p.items q.items is d _ (drops.runs k le (q.items ++ is) (n (λ v. κ)) res1 st d ag
         (λ st1 d1 ag1 s1. drops'.runs k le is κ (resolves_back code p.items (q.items ++ is) res1) st1 d1 ag1
-        (λ st2 d2 ag2 s2. h st2 d2 ag2 (since_both program code callers size count scope level within t p.temps q.temps p.items q.items st st1 st2 d d1 d2 drops.grows drops'.grows s1 s2))));
+        (λ st2 d2 ag2 s2. h st2 d2 ag2 (since_both program code callers size count first scope level within own t p.temps q.temps p.items q.items st st1 st2 d d1 d2 drops.grows drops'.grows s1 s2))));
   }
 
   compare_by : (sense : Bool) (r : Rel) (x y : ℕ) (b : Bool) (met unmet : Runs) → holds (sensed sense r) x y ≡ b → chosen (truth (holds r x y)) met unmet ≡ pick b sense met unmet
@@ -172,7 +172,7 @@ module _ (program : TreeProgram) (code : List TreeItem) (callers : List Activati
   compare_by false r x y true met unmet e = truth_unmet (holds r x y) met unmet (not-true (holds r x y) (sym (opposite_holds r x y) ∙ e))
   compare_by false r x y false met unmet e = truth_met (holds r x y) met unmet (not-false (holds r x y) (sym (opposite_holds r x y) ∙ e))
 
-  relation_asks : (sense : Bool) (r : Rel) (to : ℕ) (p : Pair) (t : ℕ) (m : (ℕ → Rest) → State → Runs) → DoesTwo program code callers size count scope level p t m
+  relation_asks : (sense : Bool) (r : Rel) (to : ℕ) (p : Pair) (t : ℕ) (m : (ℕ → Rest) → State → Runs) → DoesTwo program code callers size count first scope level p t m
       → AsksIt (compare (sensed sense r) to p) sense to t (λ κ. m (λ x y. κ (truth (holds r x y))))
   relation_asks sense r to p t m does = record {
     grows = does.grows;
@@ -181,7 +181,7 @@ module _ (program : TreeProgram) (code : List TreeItem) (callers : List Activati
         let K : State → ℕ → ℕ → Runs = λ st x y. chosen (truth (holds r x y)) (met st) (unmet st) in
         bind_up k p.items (i ∷ []) is d _ (does.runs k le (i ∷ is) (λ x y st. K st x y) (resolves_split code p.items (i ∷ []) is res) st d ag
         (λ st1 d1 ag1 s1.
-        let more = since_more program code callers size count scope level within t p.temps p.temps p.items (i ∷ []) st d st1 d1 (omega arith) s1 in
+        let more = since_more program code callers size count first scope level within own t p.temps p.temps p.items (i ∷ []) st d st1 d1 (omega arith) s1 in
         cbr_step program code callers k to (sensed sense r) p.first p.second is (K st1) d1 does.small_first does.small_second ag1.ranged
         (λ x y ex ey b. subst (λ r. Leads k r (counted (at_items program code callers (behind code to) d1)))
         (sym (compare_by sense r x y true (met st1) (unmet st1) b ∙ pick_true sense (met st1) (unmet st1) met unmet st1 refl refl)) (taken st1 d1 ag1 more))
@@ -204,7 +204,7 @@ module _ (program : TreeProgram) (code : List TreeItem) (callers : List Activati
       (λ sense to t l sz.
       let first = does.low t l sz in
       relation_asks sense r to (joined size count a b t l) t (λ κ. m (λ x. n (κ x)))
-      (two_does program code callers size count scope level within (a.low t l) (b.low (a.low t l).temps (a.low t l).labels) t m n sz first
+      (two_does program code callers size count first scope level within own (a.low t l) (b.low (a.low t l).temps (a.low t l).labels) t m n sz first
       (does'.low (a.low t l).temps (a.low t l).labels (omega (arith, first.grows)))))
       (λ t l sz.
       let first = does.drop t l sz in
@@ -250,11 +250,11 @@ module _ (program : TreeProgram) (code : List TreeItem) (callers : List Activati
         let res1 = resolves_split code p.items q.items is res in
         let K : Rest = λ v st. chosen v (met st) (unmet st) in
         bind_up k p.items q.items is d _ (asks.runs k le (q.items ++ is) met (n (λ y. K (logical y))) res1 st d ag
-        (λ st1 d1 ag1 s1. taken st1 d1 ag1 (since_more program code callers size count scope level within t p.temps q.temps p.items q.items st d st1 d1 asks'.grows s1))
+        (λ st1 d1 ag1 s1. taken st1 d1 ag1 (since_more program code callers size count first scope level within own t p.temps q.temps p.items q.items st d st1 d1 asks'.grows s1))
         (λ st1 d1 ag1 s1. leads_quiet k _ _ (subst (λ κ. Leads k (n κ st1) (going (q.items ++ is) d1)) (λ j y st. sym (logical_chosen y (met st) (unmet st)) j)
         (asks'.runs k le is met unmet (resolves_back code p.items (q.items ++ is) res1) st1 d1 ag1
-        (λ st2 d2 ag2 s2. taken st2 d2 ag2 (since_both program code callers size count scope level within t p.temps q.temps p.items q.items st st1 st2 d d1 d2 asks.grows asks'.grows s1 s2))
-        (λ st2 d2 ag2 s2. falls st2 d2 ag2 (since_both program code callers size count scope level within t p.temps q.temps p.items q.items st st1 st2 d d1 d2 asks.grows asks'.grows s1 s2))))));
+        (λ st2 d2 ag2 s2. taken st2 d2 ag2 (since_both program code callers size count first scope level within own t p.temps q.temps p.items q.items st st1 st2 d d1 d2 asks.grows asks'.grows s1 s2))
+        (λ st2 d2 ag2 s2. falls st2 d2 ag2 (since_both program code callers size count first scope level within own t p.temps q.temps p.items q.items st st1 st2 d d1 d2 asks.grows asks'.grows s1 s2))))));
   }
   chain_direct false to p q t m n asks asks' = record {
     grows = omega (arith, asks.grows, asks'.grows);
@@ -262,11 +262,11 @@ module _ (program : TreeProgram) (code : List TreeItem) (callers : List Activati
         let res1 = resolves_split code p.items q.items is res in
         let K : Rest = λ v st. chosen v (met st) (unmet st) in
         bind_up k p.items q.items is d _ (asks.runs k le (q.items ++ is) (n (λ y. K (logical y))) unmet res1 st d ag
-        (λ st1 d1 ag1 s1. taken st1 d1 ag1 (since_more program code callers size count scope level within t p.temps q.temps p.items q.items st d st1 d1 asks'.grows s1))
+        (λ st1 d1 ag1 s1. taken st1 d1 ag1 (since_more program code callers size count first scope level within own t p.temps q.temps p.items q.items st d st1 d1 asks'.grows s1))
         (λ st1 d1 ag1 s1. leads_quiet k _ _ (subst (λ κ. Leads k (n κ st1) (going (q.items ++ is) d1)) (λ j y st. sym (logical_chosen y (met st) (unmet st)) j)
         (asks'.runs k le is met unmet (resolves_back code p.items (q.items ++ is) res1) st1 d1 ag1
-        (λ st2 d2 ag2 s2. taken st2 d2 ag2 (since_both program code callers size count scope level within t p.temps q.temps p.items q.items st st1 st2 d d1 d2 asks.grows asks'.grows s1 s2))
-        (λ st2 d2 ag2 s2. falls st2 d2 ag2 (since_both program code callers size count scope level within t p.temps q.temps p.items q.items st st1 st2 d d1 d2 asks.grows asks'.grows s1 s2))))));
+        (λ st2 d2 ag2 s2. taken st2 d2 ag2 (since_both program code callers size count first scope level within own t p.temps q.temps p.items q.items st st1 st2 d d1 d2 asks.grows asks'.grows s1 s2))
+        (λ st2 d2 ag2 s2. falls st2 d2 ag2 (since_both program code callers size count first scope level within own t p.temps q.temps p.items q.items st st1 st2 d d1 d2 asks.grows asks'.grows s1 s2))))));
   }
 
   chain_inner_true : (to l : ℕ) (p q : Emitted) (t : ℕ) (m n : Rest → State → Runs) → AsksIt p true l t m → AsksIt q false to p.temps n
@@ -281,11 +281,11 @@ module _ (program : TreeProgram) (code : List TreeItem) (callers : List Activati
         let K : Rest = λ v st. chosen v (met st) (unmet st) in
         let whole : (st1 : State) (d1 : Desk) (st2 : State) (d2 : Desk) → Since size t p.temps p.items st d st1 d1 → Since size p.temps q.temps q.items st1 d1 st2 d2
         → Since size t q.temps (p.items ++ T) st d st2 d2 = λ st1 d1 st2 d2 s1 s2.
-        since_both program code callers size count scope level within t p.temps q.temps p.items T st st1 st2 d d1 d2 asks.grows asks'.grows s1
-        (since_more program code callers size count scope level within p.temps q.temps q.temps q.items (Label l ∷ []) st1 d1 st2 d2 (omega arith) s2) in
+        since_both program code callers size count first scope level within own t p.temps q.temps p.items T st st1 st2 d d1 d2 asks.grows asks'.grows s1
+        (since_more program code callers size count first scope level within own p.temps q.temps q.temps q.items (Label l ∷ []) st1 d1 st2 d2 (omega arith) s2) in
         bind_up k p.items T is d _ (asks.runs k le (T ++ is) met (n (λ y. K (logical y))) res1 st d ag
         (λ st1 d1 ag1 s1. subst (λ j. Leads k (met st1) (counted (at_items program code callers j d1))) (sym end_at)
-        (falls st1 d1 ag1 (since_more program code callers size count scope level within t p.temps q.temps p.items T st d st1 d1 asks'.grows s1)))
+        (falls st1 d1 ag1 (since_more program code callers size count first scope level within own t p.temps q.temps p.items T st d st1 d1 asks'.grows s1)))
         (λ st1 d1 ag1 s1. leads_quiet k _ _ (bind_up k q.items (Label l ∷ []) is d1 _
         (subst (λ κ. Leads k (n κ st1) (going (q.items ++ (Label l ∷ is)) d1)) (λ j y st. sym (logical_chosen y (met st) (unmet st)) j)
         (asks'.runs k le (Label l ∷ is) met unmet res2 st1 d1 ag1
@@ -305,11 +305,11 @@ module _ (program : TreeProgram) (code : List TreeItem) (callers : List Activati
         let K : Rest = λ v st. chosen v (met st) (unmet st) in
         let whole : (st1 : State) (d1 : Desk) (st2 : State) (d2 : Desk) → Since size t p.temps p.items st d st1 d1 → Since size p.temps q.temps q.items st1 d1 st2 d2
         → Since size t q.temps (p.items ++ T) st d st2 d2 = λ st1 d1 st2 d2 s1 s2.
-        since_both program code callers size count scope level within t p.temps q.temps p.items T st st1 st2 d d1 d2 asks.grows asks'.grows s1
-        (since_more program code callers size count scope level within p.temps q.temps q.temps q.items (Label l ∷ []) st1 d1 st2 d2 (omega arith) s2) in
+        since_both program code callers size count first scope level within own t p.temps q.temps p.items T st st1 st2 d d1 d2 asks.grows asks'.grows s1
+        (since_more program code callers size count first scope level within own p.temps q.temps q.temps q.items (Label l ∷ []) st1 d1 st2 d2 (omega arith) s2) in
         bind_up k p.items T is d _ (asks.runs k le (T ++ is) (n (λ y. K (logical y))) unmet res1 st d ag
         (λ st1 d1 ag1 s1. subst (λ j. Leads k (unmet st1) (counted (at_items program code callers j d1))) (sym end_at)
-        (falls st1 d1 ag1 (since_more program code callers size count scope level within t p.temps q.temps p.items T st d st1 d1 asks'.grows s1)))
+        (falls st1 d1 ag1 (since_more program code callers size count first scope level within own t p.temps q.temps p.items T st d st1 d1 asks'.grows s1)))
         (λ st1 d1 ag1 s1. leads_quiet k _ _ (bind_up k q.items (Label l ∷ []) is d1 _
         (subst (λ κ. Leads k (n κ st1) (going (q.items ++ (Label l ∷ is)) d1)) (λ j y st. sym (logical_chosen y (met st) (unmet st)) j)
         (asks'.runs k le (Label l ∷ is) met unmet res2 st1 d1 ag1
@@ -317,7 +317,7 @@ module _ (program : TreeProgram) (code : List TreeItem) (callers : List Activati
         (λ st2 d2 ag2 s2. then_asks_low k l is d2 _ (falls st2 d2 ag2 (whole st1 d1 st2 d2 s1 s2))))))));
   }
 
-  chain_asks : (stop sense : Bool) (a b : Lowering) (to t l : ℕ) (m n : Rest → State → Runs) → size ≤ t → WayIt a m → WayIt b n → AsksIt (chain stop a b sense to t l) sense to t (Chained stop m n)
+  chain_asks : (stop sense : Bool) (a b : Lowering) (to t l : ℕ) (m n : Rest → State → Runs) → first ≤ t → WayIt a m → WayIt b n → AsksIt (chain stop a b sense to t l) sense to t (Chained stop m n)
   chain_asks true true a b to t l m n sz does does' =
       let p = a.branch true to t (suc l) in
       let first = does.branch true to t (suc l) sz in
@@ -352,13 +352,13 @@ module _ (program : TreeProgram) (code : List TreeItem) (callers : List Activati
         let out : (st1 : State) (d1 : Desk) → sure st1 d1 → Since size t p.temps p.items st d st1 d1
         → Leads k (κ st1) (counted (at_items program code callers (behind code l) d1)) = λ st1 d1 ag1 s1.
         leads_quiet k _ _ (subst (λ j. Leads k (κ st1) (at_items program code callers j d1)) (sym end_at)
-        (h st1 d1 ag1 (since_more program code callers size count scope level within t p.temps q.temps p.items T st d st1 d1 drops.grows s1))) in
+        (h st1 d1 ag1 (since_more program code callers size count first scope level within own t p.temps q.temps p.items T st d st1 d1 drops.grows s1))) in
         let into : (st1 : State) (d1 : Desk) → sure st1 d1 → Since size t p.temps p.items st d st1 d1
         → Leads k (n (λ y. κ) st1) (counted (going (T ++ is) d1)) = λ st1 d1 ag1 s1.
         leads_quiet k _ _ (bind_up k q.items (Label l ∷ []) is d1 _ (drops.runs k le (Label l ∷ is) κ res2 st1 d1 ag1
         (λ st2 d2 ag2 s2. label_step program code callers k l is d2 (κ st2)
-        (h st2 d2 ag2 (since_both program code callers size count scope level within t p.temps q.temps p.items T st st1 st2 d d1 d2 asks.grows drops.grows s1
-        (since_more program code callers size count scope level within p.temps q.temps q.temps q.items (Label l ∷ []) st1 d1 st2 d2 (omega arith) s2)))))) in
+        (h st2 d2 ag2 (since_both program code callers size count first scope level within own t p.temps q.temps p.items T st st1 st2 d d1 d2 asks.grows drops.grows s1
+        (since_more program code callers size count first scope level within own p.temps q.temps q.temps q.items (Label l ∷ []) st1 d1 st2 d2 (omega arith) s2)))))) in
         bind_up k p.items T is d _ (sides stop asks k le is κ res1 st d ag out into);
   }
     where
@@ -383,7 +383,7 @@ module _ (program : TreeProgram) (code : List TreeItem) (callers : List Activati
   abbrev pub Chosen : (Rest → State → Runs) → (Rest → State → Runs) → (Rest → State → Runs) → Rest → State → Runs
   Chosen m n o κ = m (λ x st. chosen x (n κ st) (o κ st))
 
-  choose_low_does : (t l : ℕ) (p : Emitted) (q r : Lowered) (m n o : Rest → State → Runs) → size ≤ t → AsksIt p false l (suc t) m → LowIt q p.temps n → LowIt r q.temps o
+  choose_low_does : (t l : ℕ) (p : Emitted) (q r : Lowered) (m n o : Rest → State → Runs) → first ≤ t → AsksIt p false l (suc t) m → LowIt q p.temps n → LowIt r q.temps o
       → LowIt (choose_low t l p q r) t (Chosen m n o)
   choose_low_does t l p q r m n o sz asks does does' = record {
     grows = omega (arith, asks.grows, does.grows, does'.grows);
@@ -405,21 +405,21 @@ module _ (program : TreeProgram) (code : List TreeItem) (callers : List Activati
         bind_up k p.items T1 is d _ (asks.runs k le (T1 ++ is) (n κ) (o κ) res0 st d ag
         (λ st1 d1 ag1 s1. leads_quiet k _ _ (moves program code callers k (behind code l) (spelled_all ((r.items ++ T3) ++ is)) d1 _ else_at
         (bind_up k r.items T3 is d1 _ (does'.runs k le (T3 ++ is) κ res3 st1 d1 ag1
-        (λ st2 d2 ag2 s2. save_temp program code callers size count scope level within k t r.tree (Label (suc l) ∷ is) (λ v. κ v st2) st2 d2 sz does'.small ag2
+        (λ st2 d2 ag2 s2. save_temp program code callers size count first scope level within own k t r.tree (Label (suc l) ∷ is) (λ v. κ v st2) st2 d2 sz does'.small ag2
         (λ v lt e ag3.
         let d3 : Desk = record d2 { locals = with_local d2.locals t v } in
         label_step program code callers k (suc l) is d3 _
-        (use_number program code callers size count scope level within k (d3.locals t) v is κ st2 d3 (set_same d2.locals t v)
+        (use_number program code callers size count first scope level within own k (d3.locals t) v is κ st2 d3 (set_same d2.locals t v)
         (h st2 d3 ag3 (since d3 st2 (λ j szj o. set_other d2.locals t v j (λ e. ⊎_elim (λ lt. omega arith) (λ ge. omega (arith, asks.grows, does.grows, does'.grows)) o)
         ∙ s2.keeps j szj (⊎_elim (λ lt. inl (omega (arith, asks.grows, does.grows))) (λ ge. inr ge) o)
         ∙ s1.keeps j szj (⊎_elim (λ lt. inl (omega arith)) (λ ge. inr (omega (arith, does.grows, does'.grows))) o)))))))))))
         (λ st1 d1 ag1 s1. leads_quiet k _ _ (bind_up k q.items T2 is d1 _ (does.runs k le (T2 ++ is) κ res1 st1 d1 ag1
-        (λ st2 d2 ag2 s2. save_temp program code callers size count scope level within k t q.tree (Jump (suc l) ∷ Label l ∷ ((r.items ++ T3) ++ is)) (λ v. κ v st2) st2 d2 sz does.small ag2
+        (λ st2 d2 ag2 s2. save_temp program code callers size count first scope level within own k t q.tree (Jump (suc l) ∷ Label l ∷ ((r.items ++ T3) ++ is)) (λ v. κ v st2) st2 d2 sz does.small ag2
         (λ v lt e ag3.
         let d3 : Desk = record d2 { locals = with_local d2.locals t v } in
         jump_step program code callers k (suc l) (Label l ∷ ((r.items ++ T3) ++ is)) _ d3
         (moves program code callers k (behind code (suc l)) (spelled_all is) d3 _ end_at
-        (use_number program code callers size count scope level within k (d3.locals t) v is κ st2 d3 (set_same d2.locals t v)
+        (use_number program code callers size count first scope level within own k (d3.locals t) v is κ st2 d3 (set_same d2.locals t v)
         (h st2 d3 ag3 (since d3 st2 (λ j szj o. set_other d2.locals t v j (λ e. ⊎_elim (λ lt. omega arith) (λ ge. omega (arith, asks.grows, does.grows, does'.grows)) o)
         ∙ s2.keeps j szj (⊎_elim (λ lt. inl (omega (arith, asks.grows))) (λ ge. inr (omega (arith, does'.grows))) o)
         ∙ s1.keeps j szj (⊎_elim (λ lt. inl (omega arith)) (λ ge. inr (omega (arith, does.grows, does'.grows))) o))))))))))));
@@ -500,7 +500,7 @@ module _ (program : TreeProgram) (code : List TreeItem) (callers : List Activati
         (λ st1 d1 ag1 s1. leads_quiet k _ _ (bind_up k q.items T2 is d1 _ (does.runs k le (T2 ++ is) κ res1 st1 d1 ag1 h))));
   }
 
-  choice_does : (c a b : Lowering) (m n o : Rest → State → Runs) → WayIt c m → WayIt a n → WayIt b o → (t l : ℕ) → size ≤ t → LowIt ((choose c a b).low t l) t (Chosen m n o)
+  choice_does : (c a b : Lowering) (m n o : Rest → State → Runs) → WayIt c m → WayIt a n → WayIt b o → (t l : ℕ) → first ≤ t → LowIt ((choose c a b).low t l) t (Chosen m n o)
   choice_does c a b m n o first second third t l sz =
       let p = c.branch false l (suc t) (suc (suc l)) in
       let f = first.branch false l (suc t) (suc (suc l)) (omega arith) in
@@ -511,7 +511,7 @@ module _ (program : TreeProgram) (code : List TreeItem) (callers : List Activati
   pub choose_does : (c a b : Lowering) (m n o : Rest → State → Runs) → WayIt c m → WayIt a n → WayIt b o → WayIt (choose c a b) (Chosen m n o)
   choose_does c a b m n o first second third = record {
     low = choice_does c a b m n o first second third;
-    branch = λ sense to t l sz. test_asks program code callers size count scope level within sense to ((choose c a b).low t l) t (Chosen m n o)
+    branch = λ sense to t l sz. test_asks program code callers size count first scope level within own sense to ((choose c a b).low t l) t (Chosen m n o)
         (choice_does c a b m n o first second third t l sz);
     drop = λ t l sz.
         let p = c.branch false l t (suc (suc l)) in
@@ -536,7 +536,7 @@ module _ (program : TreeProgram) (code : List TreeItem) (callers : List Activati
         let res1 = resolves_split code p.items q.items is res in
         bind_up k p.items q.items is d _ (drops.runs k le (q.items ++ is) (n κ) res1 st d ag
         (λ st1 d1 ag1 s1. does.runs k le is κ (resolves_back code p.items (q.items ++ is) res1) st1 d1 ag1
-        (λ st2 d2 ag2 s2. h st2 d2 ag2 (since_both program code callers size count scope level within t p.temps q.temps p.items q.items st st1 st2 d d1 d2 drops.grows does.grows s1 s2))));
+        (λ st2 d2 ag2 s2. h st2 d2 ag2 (since_both program code callers size count first scope level within own t p.temps q.temps p.items q.items st st1 st2 d d1 d2 drops.grows does.grows s1 s2))));
   }
 
   comma_asks : (p q : Emitted) (sense : Bool) (to t : ℕ) (m n : Rest → State → Runs) → DropsIt p t m → AsksIt q sense to p.temps n → AsksIt (then_done p q) sense to t (λ κ. m (λ x. n κ))
@@ -546,8 +546,8 @@ module _ (program : TreeProgram) (code : List TreeItem) (callers : List Activati
         let res1 = resolves_split code p.items q.items is res in
         bind_up k p.items q.items is d _ (drops.runs k le (q.items ++ is) (n (λ v st. chosen v (met st) (unmet st))) res1 st d ag
         (λ st1 d1 ag1 s1. asks.runs k le is met unmet (resolves_back code p.items (q.items ++ is) res1) st1 d1 ag1
-        (λ st2 d2 ag2 s2. taken st2 d2 ag2 (since_both program code callers size count scope level within t p.temps q.temps p.items q.items st st1 st2 d d1 d2 drops.grows asks.grows s1 s2))
-        (λ st2 d2 ag2 s2. falls st2 d2 ag2 (since_both program code callers size count scope level within t p.temps q.temps p.items q.items st st1 st2 d d1 d2 drops.grows asks.grows s1 s2))));
+        (λ st2 d2 ag2 s2. taken st2 d2 ag2 (since_both program code callers size count first scope level within own t p.temps q.temps p.items q.items st st1 st2 d d1 d2 drops.grows asks.grows s1 s2))
+        (λ st2 d2 ag2 s2. falls st2 d2 ag2 (since_both program code callers size count first scope level within own t p.temps q.temps p.items q.items st st1 st2 d d1 d2 drops.grows asks.grows s1 s2))));
   }
 
   comma_delivers : (to : Destination) (p q : Emitted) (t : ℕ) (m n : Rest → State → Runs) → DropsIt p t m → DeliversIt to q p.temps n → DeliversIt to (then_done p q) t (λ κ. m (λ x. n κ))
@@ -558,7 +558,7 @@ module _ (program : TreeProgram) (code : List TreeItem) (callers : List Activati
         let res1 = resolves_split code p.items q.items is res in
         bind_up k p.items q.items is d _ (drops.runs k le (q.items ++ is) (n κ) res1 st d ag
         (λ st1 d1 ag1 s1. does.runs k le is κ (resolves_back code p.items (q.items ++ is) res1) st1 d1 ag1
-        (arrives_behind program code callers size count scope level within to k t p.temps q.temps is κ d d1 drops.grows does.grows s1.keeps h)));
+        (arrives_behind program code callers size count first scope level within own to k t p.temps q.temps is κ d d1 drops.grows does.grows s1.keeps h)));
   }
 
   pub comma_does : (a b : Lowering) (m n : Rest → State → Runs) → WayIt a m → WayIt b n → WayIt (comma a b) (λ κ. m (λ x. n κ))

@@ -17,7 +17,7 @@ use Rattle.c_meaning.specs.Values.{Rest, chosen}
 use Rattle.c_lower_scheme.specs.Trees.{Tree, Num, Item, AssignLoc, Cbr, Ret, divides, reads, breaks, stable}
 use Rattle.c_lower_scheme.specs.Spelling.{spelled_all}
 use Rattle.c_lower_scheme.specs.Parts.{Lowered, Pair, Emitted, Lowering, due, over, over_two, Destination, InLocal, AsResult, delivered}
-use Rattle.c_lower_scheme.specs.Places.{saving, next_if}
+use Rattle.c_lower_scheme.specs.Saving.{saving, next_if}
 use Rattle.c_lower_scheme.specs.Conditions.{valued, effective, mapped, test}
 use Rattle.c_lower_scheme.specs.Values.{must, join_so, join, binary, joined}
 use Rattle.c_lower_scheme.proofs.Facts.{stable_inert, must_not}
@@ -37,9 +37,9 @@ either_way true met unmet = met
 either_way false met unmet = unmet
 
 -- The program of trees, the function's items, those who wait; the function's number of locals, and which of them are in scope; the bound on counted turns.
-module _ (program : TreeProgram) (code : List TreeItem) (callers : List Activation) (size count : ℕ) (scope : ℕ → Type 0) (level : ℕ) where
+module _ (program : TreeProgram) (code : List TreeItem) (callers : List Activation) (size count first : ℕ) (scope : ℕ → Type 0) (level : ℕ) where
   abbrev pub Agrees : State → Desk → Type 0
-  Agrees st d = Agree size scope (length callers) st d
+  Agrees st d = Agree size first scope (length callers) st d
 
   abbrev pub here : List Item → Desk → Runs
   here is d = at program code callers is d
@@ -94,15 +94,15 @@ module _ (program : TreeProgram) (code : List TreeItem) (callers : List Activati
         → Arrives to k t p.temps is d κ → Leads k (m κ st) (here (p.items ++ is) d)
 
   pub record DoesWay (w : Lowering) (m : Rest → State → Runs) : Type 0 where
-    pub low : (t l : ℕ) → size ≤ t → Does (w.low t l) t m
-    pub branch : (sense : Bool) (to t l : ℕ) → size ≤ t → Asks (w.branch sense to t l) sense to t m
-    pub drop : (t l : ℕ) → size ≤ t → Drops (w.drop t l) t m
-    pub deliver : (to : Destination) (t l : ℕ) → size ≤ t → Delivers to (w.deliver to t l) t m
+    pub low : (t l : ℕ) → first ≤ t → Does (w.low t l) t m
+    pub branch : (sense : Bool) (to t l : ℕ) → first ≤ t → Asks (w.branch sense to t l) sense to t m
+    pub drop : (t l : ℕ) → first ≤ t → Drops (w.drop t l) t m
+    pub deliver : (to : Destination) (t l : ℕ) → first ≤ t → Delivers to (w.deliver to t l) t m
 
   pub assoc : (k : ℕ) (a b is : List Item) (d : Desk) (r : Runs) → Leads k r (here (a ++ (b ++ is)) d) → Leads k r (here ((a ++ b) ++ is) d)
   assoc k a b is d r h = moves program code callers k (spelled_all ((a ++ b) ++ is)) (spelled_all (a ++ (b ++ is))) d r (ap spelled_all (append_assoc a b is)) h
 
-  module _ (within : (x : ℕ) → scope x → x < size) where
+  module _ (within : (x : ℕ) → scope x → x < size) (own : size ≤ first) where
     -- a value's tree that has no items
     pub due_does : (w : Tree) (t l : ℕ) (m : Rest → State → Runs) → Below t w → SmallTree w
         → ((k : ℕ) (is : List Item) (κ : Rest) (st : State) (d : Desk) → Agrees st d → Leads k (on (value program w d) (λ v. κ v st)) (here is d) → Leads k (m κ st) (here is d)) → Does (due w t l) t m
@@ -118,16 +118,16 @@ module _ (program : TreeProgram) (code : List TreeItem) (callers : List Activati
     }
 
     -- a tree's value is put into a temporary
-    pub save_temp : (k n : ℕ) (w : Tree) (is : List Item) (κ : ℕ → Runs) (st : State) (d : Desk) → size ≤ n → SmallTree w → Agrees st d
+    pub save_temp : (k n : ℕ) (w : Tree) (is : List Item) (κ : ℕ → Runs) (st : State) (d : Desk) → first ≤ n → SmallTree w → Agrees st d
         → ((v : ℕ) → v < 2 ^ 32 → value program w d ≡ Number v → Agrees st (record d { locals = with_local d.locals n v })
         → Leads k (κ v) (here is (record d { locals = with_local d.locals n v }))) → Leads k (on (value program w d) κ) (here (AssignLoc n w ∷ is) d)
     save_temp k n w is κ st d sz small ag h =
         assign_loc_step program code callers k n w is κ d small ag.ranged
         (λ v e.
         let lt : v < 2 ^ 32 = subst Small e (worth_small program.objects (desk_sight d) ag.ranged w small) in
-        h v lt e (agree_temp size scope (length callers) within n v st d sz lt ag))
+        h v lt e (agree_temp size first scope (length callers) within own n v st d sz lt ag))
 
-    two_saved : (p q : Lowered) (t : ℕ) (m n : Rest → State → Runs) → size ≤ t → Does p t m → Does q p.temps n → DoesTwo (join_so size count true p q) t (λ κ. m (λ x. n (κ x)))
+    two_saved : (p q : Lowered) (t : ℕ) (m n : Rest → State → Runs) → first ≤ t → Does p t m → Does q p.temps n → DoesTwo (join_so size count true p q) t (λ κ. m (λ x. n (κ x)))
     two_saved p q t m n sz does does' = record {
       grows = omega (arith, does.grows, does'.grows);
       below_first = omega arith;
@@ -205,12 +205,12 @@ module _ (program : TreeProgram) (code : List TreeItem) (callers : List Activati
           subst (λ st. Leads k (on (value program q.tree d2) (λ y. κ v y st)) (here is d2)) (sym eq.0) there)));
     }
 
-    two_by : (p q : Lowered) (t : ℕ) (m n : Rest → State → Runs) (b : Bool) → must size count q.items p.tree q.tree ≡ b → size ≤ t → Does p t m → Does q p.temps n
+    two_by : (p q : Lowered) (t : ℕ) (m n : Rest → State → Runs) (b : Bool) → must size count q.items p.tree q.tree ≡ b → first ≤ t → Does p t m → Does q p.temps n
         → DoesTwo (join_so size count b p q) t (λ κ. m (λ x. n (κ x)))
     two_by p q t m n true e sz does does' = two_saved p q t m n sz does does'
     two_by p q t m n false e sz does does' = ⊎_elim (λ none. two_quiet p q t m n none does does') (λ stays. two_stable p q t m n stays does does') (must_not size count q.items p.tree q.tree e)
 
-    pub two_does : (p q : Lowered) (t : ℕ) (m n : Rest → State → Runs) → size ≤ t → Does p t m → Does q p.temps n → DoesTwo (join size count p q) t (λ κ. m (λ x. n (κ x)))
+    pub two_does : (p q : Lowered) (t : ℕ) (m n : Rest → State → Runs) → first ≤ t → Does p t m → Does q p.temps n → DoesTwo (join size count p q) t (λ κ. m (λ x. n (κ x)))
     two_does p q t m n sz does does' = two_by p q t m n (must size count q.items p.tree q.tree) refl sz does does'
 
     pub since_more : (t u v : ℕ) (is js : List Item) (st : State) (d : Desk) (st' : State) (d' : Desk) → u ≤ v → Since size t u is st d st' d' → Since size t v (is ++ js) st d st' d'
@@ -263,7 +263,7 @@ module _ (program : TreeProgram) (code : List TreeItem) (callers : List Activati
     unused k ZeroDivisor r q n s h = absurd (n refl)
     unused k Wild r q n s h = leads_wild k q s
 
-    dropped_by : (p : Lowered) (t : ℕ) (m : Rest → State → Runs) (b : Bool) → breaks p.tree ≡ b → size ≤ t → Does p t m
+    dropped_by : (p : Lowered) (t : ℕ) (m : Rest → State → Runs) (b : Bool) → breaks p.tree ≡ b → first ≤ t → Does p t m
         → Drops (record { items = p.items ++ saving b p.temps p.tree; temps = next_if b p.temps; labels = p.labels }) t m
     dropped_by p t m true e sz does = record {
       grows = omega (arith, does.grows);
@@ -313,7 +313,7 @@ module _ (program : TreeProgram) (code : List TreeItem) (callers : List Activati
         (λ j sz o. kept j sz (⊎_elim (λ lt. inl (omega arith)) (λ ge. inr ge) o) ∙ before j sz (⊎_elim (λ lt. inl lt) (λ ge. inr (omega arith)) o))
     arrives_behind AsResult k t p q is κ d d1 le le' before h = h
 
-    pub valued_does : (f : ℕ → ℕ → Lowered) (m : Rest → State → Runs) → ((t l : ℕ) → size ≤ t → Does (f t l) t m) → DoesWay (valued f) m
+    pub valued_does : (f : ℕ → ℕ → Lowered) (m : Rest → State → Runs) → ((t l : ℕ) → first ≤ t → Does (f t l) t m) → DoesWay (valued f) m
     valued_does f m does = record {
       low = does;
       branch = λ sense to t l sz. test_asks sense to (f t l) t m (does t l sz);
@@ -321,7 +321,7 @@ module _ (program : TreeProgram) (code : List TreeItem) (callers : List Activati
       deliver = λ to t l sz. delivered_does to (f t l) t m (does t l sz);
     }
 
-    pub effective_does : (f : ℕ → ℕ → Lowered) (g : ℕ → ℕ → Emitted) (m : Rest → State → Runs) → ((t l : ℕ) → size ≤ t → Does (f t l) t m) → ((t l : ℕ) → size ≤ t → Drops (g t l) t m)
+    pub effective_does : (f : ℕ → ℕ → Lowered) (g : ℕ → ℕ → Emitted) (m : Rest → State → Runs) → ((t l : ℕ) → first ≤ t → Does (f t l) t m) → ((t l : ℕ) → first ≤ t → Drops (g t l) t m)
         → DoesWay (effective f g) m
     effective_does f g m does drops = record {
       low = does;

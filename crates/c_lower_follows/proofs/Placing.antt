@@ -131,12 +131,12 @@ PurePlace (InLoc n) = Unit {0}
 PurePlace (InArg n) = Unit {0}
 PurePlace (InMem a) = divides a ≡ false
 
-module _ (program : TreeProgram) (code : List TreeItem) (callers : List Activation) (size count : ℕ) (scope : ℕ → Type 0) (level : ℕ) where
+module _ (program : TreeProgram) (code : List TreeItem) (callers : List Activation) (size count first : ℕ) (scope : ℕ → Type 0) (level : ℕ) where
   abbrev pub ok : State → Desk → Type 0
-  ok st d = Agrees program code callers size count scope level st d
+  ok st d = Agrees program code callers size count first scope level st d
 
   abbrev pub run_at : List Item → Desk → Runs
-  run_at is d = here program code callers size count scope level is d
+  run_at is d = here program code callers size count first scope level is d
 
   -- a local is in scope, an address's locals are below a number
   abbrev pub FitsPlace : ℕ → Where → Type 0
@@ -149,7 +149,7 @@ module _ (program : TreeProgram) (code : List TreeItem) (callers : List Activati
     pub fits : FitsPlace p.temps p.place
     pub small : SmallPlace p.place
     pub runs : (k : ℕ) → k ≤ level → (is : List Item) (κ : RestAt) → Resolves code (p.items ++ is) → (st : State) (d : Desk) → ok st d
-        → Onto program code callers size count scope level k t p.temps p.items is st d (λ st' d'. place_on program p.place d' (λ s. κ p.type s st')) → Leads k (m κ st) (run_at (p.items ++ is) d)
+        → Onto program code callers size count first scope level k t p.temps p.items is st d (λ st' d'. place_on program p.place d' (λ s. κ p.type s st')) → Leads k (m κ st) (run_at (p.items ++ is) d)
 
   -- a place and a value for it
   pub record DoesReady (r : Assignable) (t : ℕ) (m : (CType → Spot → Rest) → State → Runs) : Type 0 where
@@ -159,7 +159,7 @@ module _ (program : TreeProgram) (code : List TreeItem) (callers : List Activati
     pub below_value : Below r.temps r.value
     pub small_value : SmallTree r.value
     pub runs : (k : ℕ) → k ≤ level → (is : List Item) (κ : CType → Spot → Rest) → Resolves code (r.items ++ is) → (st : State) (d : Desk) → ok st d
-        → Onto program code callers size count scope level k t r.temps r.items is st d (λ st' d'. place_on program r.place d' (λ s. on (value program r.value d') (λ v. κ r.type s v st')))
+        → Onto program code callers size count first scope level k t r.temps r.items is st d (λ st' d'. place_on program r.place d' (λ s. on (value program r.value d') (λ v. κ r.type s v st')))
         → Leads k (m κ st) (run_at (r.items ++ is) d)
 
   void_by : (k : ℕ) (o : Value) (f : ℕ → Value) (κ : ℕ → Runs) (q : Runs) → (q 0).output ≡ [] → Leads k (on (bind o f) κ) q → Leads k (on o (λ x. stop ends.Wild)) q
@@ -202,8 +202,8 @@ module _ (program : TreeProgram) (code : List TreeItem) (callers : List Activati
   read_place (InArg n) ty u k is κ st d fit ag h = subst (λ r. Leads k r (run_at is d)) (on_there (slice_get d.arguments n) κ st ∙ ap (λ l. or_wild (slice_get l n) κ st) ag.arguments) h
   read_place (InMem a) ty u k is κ st d fit ag h = read_mem ty a k is κ st d ag h
 
-  module _ (within : (x : ℕ) → scope x → x < size) where
-    pub below_read : (s : Where) (ty : CType) (u : ℕ) → size ≤ u → FitsPlace u s → Below u (read_from ty s)
+  module _ (within : (x : ℕ) → scope x → x < size) (own : size ≤ first) where
+    pub below_read : (s : Where) (ty : CType) (u : ℕ) → first ≤ u → FitsPlace u s → Below u (read_from ty s)
     below_read (InLoc n) ty u sz fit = let lt = within n fit in omega arith
     below_read (InArg n) ty u sz fit = tt
     below_read (InMem a) ty u sz fit = fit
@@ -213,7 +213,7 @@ module _ (program : TreeProgram) (code : List TreeItem) (callers : List Activati
     small_read (InArg n) ty h = tt
     small_read (InMem a) ty h = h
 
-    pub read_does : (p : Located) (t : ℕ) (m : RestAt → State → Runs) → size ≤ t → DoesPlace p t m → Does program code callers size count scope level (read_low p) t (λ κ. m (λ ty s. read_at ty s κ))
+    pub read_does : (p : Located) (t : ℕ) (m : RestAt → State → Runs) → first ≤ t → DoesPlace p t m → Does program code callers size count first scope level (read_low p) t (λ κ. m (λ ty s. read_at ty s κ))
     read_does p t m sz does = record {
       grows = does.grows;
       below = below_read p.place p.type p.temps (omega (arith, does.grows)) does.fits;
@@ -222,7 +222,7 @@ module _ (program : TreeProgram) (code : List TreeItem) (callers : List Activati
           (λ st1 d1 ag1 s1. read_place p.place p.type p.temps k is κ st1 d1 does.fits ag1 (h st1 d1 ag1 s1));
     }
 
-    pub address_does : (p : Located) (t : ℕ) (m : RestAt → State → Runs) → DoesPlace p t m → Does program code callers size count scope level (address_low p) t (λ κ. m (λ ty s. address_of s κ))
+    pub address_does : (p : Located) (t : ℕ) (m : RestAt → State → Runs) → DoesPlace p t m → Does program code callers size count first scope level (address_low p) t (λ κ. m (λ ty s. address_of s κ))
     address_does p t m does = record {
       grows = does.grows;
       below = below_address p.temps p.place does.fits;
@@ -273,7 +273,7 @@ module _ (program : TreeProgram) (code : List TreeItem) (callers : List Activati
     conv_below ints.UnsignedShort u a h = h
     conv_below ints.Int u a h = h
 
-    pub fitted_maps : (t : CType) → Maps program code callers size count scope level within (fitted t) (converted t)
+    pub fitted_maps : (t : CType) → Maps program code callers size count first scope level within own (fitted t) (converted t)
     fitted_maps t = record {
       below = λ u a h. conv_below (integer_of t) u a h;
       small = λ a h. conv_small (integer_of t) a h;

@@ -43,6 +43,7 @@ module _ (live scope : ℕ → Type 0) where
   variable_where (variables.Parameter m) u h = tt
   variable_where (variables.Global m) u h = tt
   variable_where (variables.Static m) u h = tt
+  variable_where (variables.InBlock o) u h = tt
 
   mutual
     pub place_where : (a : APlace) → Unless (λ x. place_mentions x a) → FitsAt scope a → FitsAt live a
@@ -138,7 +139,7 @@ behind_within size scope inside (WhileOf c a) fit within x h = within x h
 behind_within size scope inside (DoOf a c) fit within x h = within x h
 behind_within size scope inside (ForOf i c e a) fit within x h = within x h
 
-pub agree_less : (size depth : ℕ) (less scope : ℕ → Type 0) (st : State) (d : Desk) → ((x : ℕ) → less x → scope x) → Agree size scope depth st d → Agree size less depth st d
+pub agree_less : (size depth : ℕ) (less scope : ℕ → Type 0) (st : State) (d : Desk) → ((x : ℕ) → less x → scope x) → Agree size first scope depth st d → Agree size less depth st d
 agree_less size depth less scope st d sub h = record {
   local = λ x l. h.local x (sub x l);
   count = h.count;

@@ -52,7 +52,7 @@ use Rattle.c_lower_follows.proofs.Waiting.{past_declare, into_block, past_other,
 
 module _ (program : TreeProgram) (code : List TreeItem) (callers : List Activation) (size count level : ℕ) where
   abbrev fair : (ℕ → Type 0) → State → Desk → Type 0
-  fair scope st d = Agree size scope (length callers) st d
+  fair scope st d = Agree size first scope (length callers) st d
 
   abbrev from : List Item → Desk → Runs
   from is d = at program code callers is d
@@ -139,8 +139,8 @@ module _ (program : TreeProgram) (code : List TreeItem) (callers : List Activati
       (lowers : (f : ℕ) (g : ARoutine) → slice_get p.routines f ≡ Some g → (tf : TreeFn) × (slice_get program.functions f ≡ Some tf) × CodeOf count g tf.items)
       (calls : Calls program count p next level) (objects_are : program.objects ≡ p.objects) (addresses : (n : ℕ) (o : Object) → slice_get p.objects n ≡ Some o → o.address < 2 ^ 32)
       (next_is : (t : Task) (κ : Behind) (st : State) → next t κ st ≡ task p next t κ st) where
-    expression : (scope : ℕ → Type 0) → ((x : ℕ) → scope x → x < size) → (e : AnExpression) → Fits scope e → DoesWay program code callers size count scope level (way size count e) (expr p next e)
-    expression scope within e fit = way_does program code callers size count scope level within p next counts_all lowers calls objects_are addresses e fit
+    expression : (scope : ℕ → Type 0) → ((x : ℕ) → scope x → x < size) → (e : AnExpression) → Fits scope e → DoesWay program code callers size count first scope level (way size count e) (expr p next e)
+    expression scope within e fit = way_does program code callers size count first scope level within own p next counts_all lowers calls objects_are addresses e fit
 
     effect_does : (scope : ℕ → Type 0) → ((x : ℕ) → scope x → x < size) → (e : Option AnExpression) → FitsMaybe scope e → (l k : ℕ) → k ≤ level → (is : List Item) (κ : State → Runs)
         → Resolves code ((effect size count e l).items ++ is) → (st : State) (d : Desk) → fair scope st d → ((st' : State) (d' : Desk) → fair scope st' d' → Leads k (κ st') (from is d'))

@@ -22,6 +22,7 @@ sets_or_not (AssignTo (VariableAt t (variables.Automatic m)) e) = inl (SetsLocal
 sets_or_not (AssignTo (VariableAt t (variables.Parameter m)) e) = inr (λ x. refl)
 sets_or_not (AssignTo (VariableAt t (variables.Global m)) e) = inr (λ x. refl)
 sets_or_not (AssignTo (VariableAt t (variables.Static m)) e) = inr (λ x. refl)
+sets_or_not (AssignTo (VariableAt t (variables.InBlock o)) e) = inr (λ x. refl)
 sets_or_not (AssignTo (PointedBy t a) e) = inr (λ x. refl)
 sets_or_not (AssignTo (ElementBy t a) e) = inr (λ x. refl)
 sets_or_not (Constant v) = inr (λ x. refl)

@@ -8,6 +8,7 @@ use Rattle.c_program.specs.Statements.{AnAction, SomeActions, NoActions, MoreAct
 use Rattle.c_program.specs.Statements.{BreakOf, ContinueOf, ReturnOf, IfOf, IfElseOf, WhileOf, DoOf, ForOf}
 use Rattle.c_program.specs.Programs.{ARoutine, AProgram}
 use Rattle.c_lower_scheme.specs.Trees.{Item, Num, Label, Jump, Ret}
+use Rattle.c_lower_scheme.specs.Parts.{AsResult}
 use Rattle.c_lower_scheme.specs.Expressions.{way}
 use Rattle.c_lower_scheme.specs.Statements.{going, effect}
 use Rattle.c_lower_scheme.specs.Spelling.{spelled_all}
@@ -21,7 +22,7 @@ IsSingle (EvaluateOf e) = Unit {0}
 IsSingle (ReturnOf e) = Unit {0}
 IsSingle _ = ⊥
 
--- In a function with so many locals, of a program with so many functions.
+-- In a function with so many locals and no memory locals, of a program with so many functions.
 module _ (size count : ℕ) where
   -- the items of a test: it goes to a label where the expression has that truth, and else falls through
   pub record IsTest (c : AnExpression) (items : List Item) : Type 0 where
@@ -33,7 +34,7 @@ module _ (size count : ℕ) where
   -- those of an expression for its effect alone
   pub record IsEffect (e : Option AnExpression) (items : List Item) : Type 0 where
     pub from : ℕ
-    pub is : items ≡ (effect size count e from).items
+    pub is : items ≡ (effect size count size AsResult e from).items
 
   -- no more than a `break` or `continue`, also alone in a block
   pub record IsAway (a : AnAction) : Type 0 where
@@ -46,7 +47,7 @@ module _ (size count : ℕ) where
     -- the items of a statement
     pub data Lies : AnAction → List Item → Type 0 where
       -- a plain `return e` or `a = e` whose tree is calm gives that one root, and no other item
-      single : (a : AnAction) (items : List Item) → IsSingle a → ((i : Item) → IsPlainOne a i → SpellsCalm i → items ≡ i ∷ [])
+      single : (a : AnAction) (items : List Item) → IsSingle a → ((i : Item) → IsPlainOne size a i → SpellsCalm i → items ≡ i ∷ [])
           → Lies a items
       breaks : (to : ℕ) → Lies BreakOf (Jump to ∷ [])
       continues : (to : ℕ) → Lies ContinueOf (Jump to ∷ [])
@@ -94,11 +95,11 @@ pub record IsLaid (count : ℕ) (g : ARoutine) (f : TreeFn) : Type 0 where
   pub lies : LieInTurn (length g.locals) count g.body body
   pub items : f.items ≡ spelled_all (body ++ (Ret (Num 0) ∷ []))
 
--- the functions of the trees are laid out so, each for the program's
+-- the functions of the trees that have no memory locals are laid out so, each for the program's
 abbrev pub FunctionsAreLaid : AProgram → TreeProgram → Type 0
 FunctionsAreLaid p q =
     (n : ℕ) (g : ARoutine) (f : TreeFn) → slice_get p.routines n ≡ Some g → slice_get q.functions n ≡ Some f
-    → IsLaid (length p.routines) g f
+    → g.block ≡ 0 → IsLaid (length p.routines) g f
 
 -- So it is for each program.
 abbrev pub EachFunctionIsLaid : Type 0

@@ -9,12 +9,12 @@ use Rattle.c_lower_scheme.specs.Trees.{Tree, Num, Gaddr, Loc, Arg, Indir, Conv, 
 use Rattle.c_lower_scheme.specs.Spelling.{spelled, spelled_all}
 use Rattle.c_lower_scheme.specs.Calls.{pushes}
 use Rattle.tree_core.specs.declared.program.TreeFn.{TreeFn}
-use Rattle.c_lower_scheme.specs.Places.{next_if}
+use Rattle.c_lower_scheme.specs.Saving.{next_if}
 use Rattle.c_lower_scheme.specs.Values.{must}
 
-pub all_lowered : (count : ℕ) (gs : List ARoutine) (l : ℕ) → length (lower_all count gs l) ≡ length gs
-all_lowered count [] l = refl
-all_lowered count (g ∷ gs) l = ap suc (all_lowered count gs (body_of count g l).labels)
+pub all_lowered : (pointer count : ℕ) (gs : List ARoutine) (l : ℕ) → length (lower_all pointer count gs l) ≡ length gs
+all_lowered pointer count [] l = refl
+all_lowered pointer count (g ∷ gs) l = ap suc (all_lowered pointer count gs (body_of pointer count g l).labels)
 
 pub leaf_inert : (w : Tree) → is_leaf w ≡ true → divides w ≡ false
 leaf_inert (Num n) h = refl
@@ -43,9 +43,9 @@ spelled_append [] b = refl
 spelled_append (i ∷ a) b = ap (λ l. spelled i ∷ l) (spelled_append a b)
 
 -- routines keep their names
-pub names_stay : (count : ℕ) (gs : List ARoutine) (l : ℕ) → map (λ (f : TreeFn). f.name) (lower_all count gs l) ≡ map (λ (g : ARoutine). g.name) gs
-names_stay count [] l = refl
-names_stay count (g ∷ gs) l = ap (λ (ns : List (List ℕ)). g.name ∷ ns) (names_stay count gs (body_of count g l).labels)
+pub names_stay : (pointer count : ℕ) (gs : List ARoutine) (l : ℕ) → map (λ (f : TreeFn). f.name) (lower_all pointer count gs l) ≡ map (λ (g : ARoutine). g.name) gs
+names_stay pointer count [] l = refl
+names_stay pointer count (g ∷ gs) l = ap (λ (ns : List (List ℕ)). g.name ∷ ns) (names_stay pointer count gs (body_of pointer count g l).labels)
 
 -- arguments are pushed in front of what follows
 pub pushes_append : (ws : List Tree) (is js : List Item) → pushes ws (is ++ js) ≡ pushes ws is ++ js

@@ -6,4 +6,4 @@ use Rattle.c_lower_scheme.specs.Examples.{Examples}
 
 pub worked : Examples
 unfolding scale size_of target integer_size
-worked = record { calling = refl; indexing = refl; storing = refl }
+worked = record { calling = refl; indexing = refl; storing = refl; holding = refl }

@@ -9,7 +9,8 @@ use Rattle.c_lower_scheme.specs.Trees.{Tree, Num, Loc, Arg, Item, AssignLoc, Ass
 use Rattle.c_lower_scheme.specs.Trees.{is_leaf}
 use Rattle.c_lower_scheme.specs.Parts.{Lowered, Where, InLoc, InArg, InMem, Located, Emitted, Assignable, Lowering}
 use Rattle.c_lower_scheme.specs.Parts.{InLocal, behind_found, due, is_nil}
-use Rattle.c_lower_scheme.specs.Places.{saving, saved, next_if, integer_of, fitted, read_from, assign_to, holding, held, local_in}
+use Rattle.c_lower_scheme.specs.Saving.{saving, saved, next_if}
+use Rattle.c_lower_scheme.specs.Places.{integer_of, fitted, read_from, assign_to, holding, held, local_in}
 use Rattle.c_lower_scheme.specs.Conditions.{effective}
 use Rattle.c_lower_scheme.specs.Values.{step, must}
 

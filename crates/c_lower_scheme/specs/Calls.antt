@@ -4,8 +4,9 @@ use Rattle.c_types.specs.declared.types.CType.{CType}
 use Rattle.c_types.specs.declared.typed.Callee.{Callee}
 use Rattle.c_types.specs.declared.typed.Callee.TheVariants as callees
 use Rattle.c_lower_scheme.specs.Trees.{Tree, Loc, Item, Push, Call, Save, breaks, stable}
-use Rattle.c_lower_scheme.specs.Parts.{Lowered, Passing, Emitted, Destination, InLocal, AsResult, behind_low, is_nil, delivered}
-use Rattle.c_lower_scheme.specs.Places.{saving, saved, next_if, fitted}
+use Rattle.c_lower_scheme.specs.Parts.{Lowered, Passing, Emitted, Destination, InLocal, AsResult, Releasing, behind_low, is_nil, delivered}
+use Rattle.c_lower_scheme.specs.Saving.{saving, saved, next_if}
+use Rattle.c_lower_scheme.specs.Places.{fitted}
 
 -- what is called, by its number: `putchar` and `getchar` stand behind the program's functions
 abbrev pub callee_number : ℕ → Callee → ℕ
@@ -39,6 +40,7 @@ called_deliver (InLocal n) f p = record {
   labels = p.labels;
 }
 called_deliver AsResult f p = delivered AsResult (called_low f p)
+called_deliver (Releasing pointer n) f p = delivered (Releasing pointer n) (called_low f p)
 
 -- an argument is converted to its parameter's type
 abbrev pub passed_as : List CType → Tree → Tree

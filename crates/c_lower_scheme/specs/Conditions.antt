@@ -7,8 +7,9 @@ use Rattle.c_types.specs.declared.types.Integer.TheVariants as ints
 use Rattle.c_types.specs.declared.types.CType.{CType}
 use Rattle.c_lower_scheme.specs.Trees.{Tree, Num, Loc, Label, AssignLoc, Cbr, Jump, breaks, sensed}
 use Rattle.c_lower_scheme.specs.Parts.{Lowered, Pair, Emitted, Lowering, behind_low, behind_done, over, with_done}
-use Rattle.c_lower_scheme.specs.Parts.{then_done, Destination, InLocal, AsResult, delivered}
-use Rattle.c_lower_scheme.specs.Places.{saving, next_if, integer_of, conv, fitted}
+use Rattle.c_lower_scheme.specs.Parts.{then_done, Destination, InLocal, AsResult, Releasing, delivered}
+use Rattle.c_lower_scheme.specs.Saving.{saving, next_if}
+use Rattle.c_lower_scheme.specs.Places.{integer_of, conv, fitted}
 
 -- the value of a condition is made in the temporary t
 abbrev pub truth_of : ℕ → ℕ → Emitted → Lowered
@@ -114,9 +115,13 @@ choose_drop l p q r = record {
 }
 
 -- no jump stands behind a value that left the function
+abbrev pub choose_leave : ℕ → Emitted → Emitted → Emitted → Emitted
+choose_leave l p q r = record { items = p.items ++ (q.items ++ (Label l ∷ r.items)); temps = r.temps; labels = r.labels }
+
 abbrev pub choose_deliver : Destination → ℕ → Emitted → Emitted → Emitted → Emitted
 choose_deliver (InLocal n) l p q r = choose_drop l p q r
-choose_deliver AsResult l p q r = record { items = p.items ++ (q.items ++ (Label l ∷ r.items)); temps = r.temps; labels = r.labels }
+choose_deliver AsResult l p q r = choose_leave l p q r
+choose_deliver (Releasing pointer n) l p q r = choose_leave l p q r
 
 abbrev pub choose_low_by : ℕ → ℕ → Emitted → (ℕ → ℕ → Lowered) → (ℕ → ℕ → Lowered) → Lowered
 choose_low_by t l p f g = choose_low t l p (behind_done p f) (behind_low (behind_done p f) g)

@@ -16,7 +16,10 @@ use Rattle.c_types.specs.Typed.{AdvanceOf, ChoiceOf, AssignTo, ArithmeticAssignT
 use Rattle.c_program.specs.Statements.{ClearOf, BeginOf, AnAction, SomeActions, NoActions, MoreActions, DeclareOf, EvaluateOf, ReturnOf}
 use Rattle.c_lower_scheme.specs.Trees.{Tree, Num, Gaddr, Loc, Indir, Conv, Bin, Item, Label, AssignLoc, AssignMem, Cbr}
 use Rattle.c_lower_scheme.specs.Trees.{Push, Call, Save, Ret}
+use Rattle.c_lower_scheme.specs.Parts.{AsResult}
 use Rattle.c_lower_scheme.specs.Statements.{lower_row}
+use Rattle.c_lower_scheme.specs.Programs.{body_of}
+use Rattle.c_lower_scheme.specs.BlockExample.{holding, holding_items}
 
 abbrev int : CType
 int = types.Integer ints.Int
@@ -126,6 +129,7 @@ storing_items =
     ∷ []
 
 pub record Examples : Type 0 where
-  pub calling : (lower_row 0 2 calling 0 0 0).items ≡ calling_items
-  pub indexing : (lower_row 2 1 indexing 0 0 0).items ≡ indexing_items
-  pub storing : (lower_row 1 2 storing 0 0 0).items ≡ storing_items
+  pub calling : (lower_row 0 2 0 AsResult calling 0 0 0).items ≡ calling_items
+  pub indexing : (lower_row 2 1 2 AsResult indexing 0 0 0).items ≡ indexing_items
+  pub storing : (lower_row 1 2 1 AsResult storing 0 0 0).items ≡ storing_items
+  pub holding : (body_of 0 1 holding 0).items ≡ holding_items

@@ -27,14 +27,14 @@ module _ (size count : ℕ) where
 
   abbrev mutual
     pub seek : APlace → ℕ → ℕ → Located
-    seek (VariableAt t v) u l = found t (where_of v) u l
+    seek (VariableAt t v) u l = found t (where_of size v) u l
     seek (PointedBy t e) u l = pointed t ((way e).low u l)
     seek (ElementBy t e) u l = pointed t ((way e).low u l)
 
     pub way : AnExpression → Lowering
     way (Constant n) = valued (due (Num n))
     way (LiteralAt n bytes) = valued (due (Gaddr n))
-    way (ArrayAt t v bytes) = valued (due (address_tree (where_of v)))
+    way (ArrayAt t v bytes) = valued (due (address_tree (where_of size v)))
     way (ReadOf p) = valued (λ t l. read_low (seek p t l))
     way (SizeOfExpression n e) = valued (due (Num n))
     way (SizeOf n) = valued (due (Num n))

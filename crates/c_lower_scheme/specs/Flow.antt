@@ -1,7 +1,13 @@
 -- How the parts of statements are put together.
-use Rattle.std.specs.Prelude.{ℕ, suc, List, [], ◌∷◌, ◌++◌, Bool, true, false, max}
-use Rattle.c_lower_scheme.specs.Trees.{Num, Item, Label, AssignLoc, Jump}
-use Rattle.c_lower_scheme.specs.Parts.{Emitted}
+use Rattle.std.specs.Prelude.{ℕ, suc, ◌+◌, ◌*◌, List, [], ◌∷◌, ◌++◌, Bool, true, false, max}
+use Rattle.gg_base.specs.declared.relation.Rel.TheVariants as relations
+use Rattle.c_types.specs.declared.types.CType.{CType}
+use Rattle.c_types.specs.declared.types.Integer.TheVariants as ints
+use Rattle.c_types.specs.declared.typed.ArithmeticOperator.TheVariants as ariths
+use Rattle.c_types.specs.Types.{size_of}
+use Rattle.c_lower_scheme.specs.Trees.{Num, Gaddr, Loc, Indir, Bin, Item, Label, AssignLoc, AssignMem, Cbr, Jump}
+use Rattle.c_lower_scheme.specs.Parts.{Lowered, Emitted}
+use Rattle.c_lower_scheme.specs.Places.{integer_of, in_block}
 
 -- One statement behind another: the temporaries are those of the one with more of them.
 abbrev pub two_done : Emitted → Emitted → Emitted
@@ -17,6 +23,36 @@ clearing false n = []
 
 abbrev pub begin_of : Bool → ℕ → Emitted → Emitted
 begin_of b n p = record { items = clearing b n ++ p.items; temps = p.temps; labels = p.labels }
+
+-- a value is stored at an offset of the block
+abbrev pub stored_in_block : ℕ → CType → ℕ → Lowered → Emitted
+stored_in_block size t o p = record {
+  items = p.items ++ (AssignMem (integer_of t) (in_block size o) p.tree ∷ []);
+  temps = p.temps;
+  labels = p.labels;
+}
+
+-- zeros in so many elements of the block, from an offset on: a loop at the label l, over their addresses in the first temporary
+abbrev pub zeros_in_block : ℕ → ℕ → CType → ℕ → ℕ → ℕ → Emitted
+zeros_in_block size t ty o count l = record {
+  items = AssignLoc t (in_block size o) ∷ Label l ∷ AssignMem (integer_of ty) (Loc t) (Num 0) ∷
+      AssignLoc t (Bin ariths.Add (Loc t) (Num (size_of ty))) ∷
+      Cbr relations.Ne l (Loc t) (in_block size (o + count * size_of ty)) ∷ [];
+  temps = suc t;
+  labels = suc l;
+}
+
+-- A block of so many bytes is taken, whose address a local keeps: it is what the stack's pointer holds, which then moves behind it. Where the
+-- stack, the object behind its pointer, has no such room, a division by zero traps.
+abbrev pub claimed : ℕ → ℕ → ℕ → ℕ → ℕ → Emitted
+claimed size t pointer block l = record {
+  items = AssignLoc size (Indir ints.Int (Gaddr pointer)) ∷
+      Cbr relations.Geu l (Bin ariths.Subtract (Bin ariths.Add (Gaddr (suc pointer)) (Num 262144)) (Loc size)) (Num block) ∷
+      AssignLoc size (Bin ariths.Divide (Num 0) (Num 0)) ∷ Label l ∷
+      AssignMem ints.Int (Gaddr pointer) (Bin ariths.Add (Loc size) (Num block)) ∷ [];
+  temps = t;
+  labels = suc l;
+}
 
 abbrev pub if_done : ℕ → Emitted → Emitted → Emitted
 if_done l p a = record { items = p.items ++ (a.items ++ (Label l ∷ [])); temps = max p.temps a.temps; labels = a.labels }

@@ -2,6 +2,7 @@
 -- given, or what is emitted for it. See docs/READING.md.
 pub mod Trees
 pub mod Spelling
+pub mod Saving
 pub mod Parts
 pub mod Places
 pub mod Conditions
@@ -14,4 +15,5 @@ pub mod Zeros
 pub mod Flow
 pub mod Statements
 pub mod Programs
+pub mod BlockExample
 pub mod Examples

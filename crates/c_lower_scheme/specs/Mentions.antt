@@ -14,6 +14,7 @@ is_local n (variables.Automatic m) = m == n
 is_local n (variables.Parameter m) = false
 is_local n (variables.Global m) = false
 is_local n (variables.Static m) = false
+is_local n (variables.InBlock o) = false
 
 abbrev mutual
   pub place_mentions : ℕ → APlace → Bool

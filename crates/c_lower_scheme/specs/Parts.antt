@@ -1,7 +1,9 @@
 -- What parts of expressions are lowered to: items, and what is due behind them.
 use Rattle.std.specs.Prelude.{ℕ, List, [], ◌∷◌, ◌++◌, Bool, true, false}
 use Rattle.c_types.specs.declared.types.CType.{CType}
-use Rattle.c_lower_scheme.specs.Trees.{Tree, Item, AssignLoc, Ret}
+use Rattle.c_types.specs.declared.types.Integer.TheVariants as ints
+use Rattle.c_lower_scheme.specs.Trees.{Tree, Gaddr, Loc, Item, AssignLoc, AssignMem, Ret, reads}
+use Rattle.c_lower_scheme.specs.Saving.{saving, saved, next_if}
 
 -- Items, and a tree that is due directly behind them: it is evaluated, or saved, before anything else is done. Behind
 -- them, the first temporary and the first label that are free.
@@ -57,10 +59,12 @@ pub record Assignable : Type 0 where
   pub temps : ℕ
   pub labels : ℕ
 
--- where a value goes: into an automatic local, or out of the function as its result
+-- Where a value goes: into an automatic local, or out of the function as its result. A function that has a block gives it back before: the
+-- stack's pointer, an object, becomes the block's address, which a local holds.
 pub data Destination : Type 0 where
   InLocal : (n : ℕ) → Destination
   AsResult : Destination
+  Releasing : (pointer n : ℕ) → Destination
 
 -- The four ways to lower an expression, from the first free temporary and label on: for its value; as a condition,
 -- which goes to a label where its truth is the given one, and else falls through; for its effect alone; and for its
@@ -106,10 +110,19 @@ with_done a p = record { items = a.items ++ p.items; tree = p.tree; temps = p.te
 abbrev pub then_done : Emitted → Emitted → Emitted
 then_done a b = record { items = a.items ++ b.items; temps = b.temps; labels = b.labels }
 
--- a value goes to its destination by one root
-abbrev pub delivery : Destination → Tree → Item
-delivery (InLocal n) w = AssignLoc n w
-delivery AsResult w = Ret w
+-- a value goes to its destination by one root; before a block is given back it is saved if it reads memory
+abbrev pub by_root : Item → Lowered → Emitted
+by_root root p = record { items = p.items ++ (root ∷ []); temps = p.temps; labels = p.labels }
+
+abbrev pub released : ℕ → ℕ → Lowered → Emitted
+released pointer n p = record {
+  items = p.items ++ (saving (reads p.tree) p.temps p.tree ++ (AssignMem ints.Int (Gaddr pointer) (Loc n) ∷
+      Ret (saved (reads p.tree) p.temps p.tree) ∷ []));
+  temps = next_if (reads p.tree) p.temps;
+  labels = p.labels;
+}
 
 abbrev pub delivered : Destination → Lowered → Emitted
-delivered to p = record { items = p.items ++ (delivery to p.tree ∷ []); temps = p.temps; labels = p.labels }
+delivered (InLocal n) p = by_root (AssignLoc n p.tree) p
+delivered AsResult p = by_root (Ret p.tree) p
+delivered (Releasing pointer n) p = released pointer n p

@@ -1,26 +1,15 @@
 -- Places: how what they hold is read and converted, and how it is assigned to.
-use Rattle.std.specs.Prelude.{ℕ, suc, List, [], ◌∷◌, Bool, true, false, Option, Some, None}
+use Rattle.std.specs.Prelude.{ℕ, ◌==◌, List, [], Bool, Option, Some, None, if◌then◌else◌}
 use Rattle.c_types.specs.declared.types.Integer.{Integer}
 use Rattle.c_types.specs.declared.types.Integer.TheVariants as ints
 use Rattle.c_types.specs.declared.types.CType.{CType}
 use Rattle.c_types.specs.declared.types.CType.TheVariants as types
+use Rattle.c_types.specs.declared.typed.ArithmeticOperator.TheVariants as ariths
 use Rattle.c_types.specs.declared.typed.Variable.{Variable}
 use Rattle.c_types.specs.declared.typed.Variable.TheVariants as variables
-use Rattle.c_lower_scheme.specs.Trees.{Tree, Num, Gaddr, Loc, Arg, Indir, Conv, Item, AssignLoc, AssignArg, AssignMem}
+use Rattle.c_lower_scheme.specs.Trees.{Tree, Num, Gaddr, Loc, Arg, Indir, Conv, Bin, Item, AssignLoc, AssignArg, AssignMem}
+use Rattle.c_lower_scheme.specs.Saving.{saving, saved}
 use Rattle.c_lower_scheme.specs.Parts.{Lowered, Where, InLoc, InArg, InMem, Located}
-
--- a tree is put into a temporary, or stays as it is
-abbrev pub saving : Bool → ℕ → Tree → List Item
-saving true u w = AssignLoc u w ∷ []
-saving false u w = []
-
-abbrev pub saved : Bool → ℕ → Tree → Tree
-saved true u w = Loc u
-saved false u w = w
-
-abbrev pub next_if : Bool → ℕ → ℕ
-next_if true u = suc u
-next_if false u = u
 
 -- how the value of a type is read from memory and converted
 abbrev pub integer_of : CType → Integer
@@ -56,11 +45,16 @@ address_tree (InLoc n) = Num 0
 address_tree (InArg n) = Num 0
 address_tree (InMem a) = a
 
-abbrev pub where_of : Variable → Where
-where_of (variables.Automatic n) = InLoc n
-where_of (variables.Parameter n) = InArg n
-where_of (variables.Global n) = InMem (Gaddr n)
-where_of (variables.Static n) = InMem (Gaddr n)
+-- the address of an offset in the block, whose address stands in the local behind the function's automatic ones
+abbrev pub in_block : ℕ → ℕ → Tree
+in_block size o = if o == 0 then Loc size else Bin ariths.Add (Loc size) (Num o)
+
+abbrev pub where_of : ℕ → Variable → Where
+where_of size (variables.Automatic n) = InLoc n
+where_of size (variables.Parameter n) = InArg n
+where_of size (variables.Global n) = InMem (Gaddr n)
+where_of size (variables.Static n) = InMem (Gaddr n)
+where_of size (variables.InBlock o) = InMem (in_block size o)
 
 abbrev pub found : CType → Where → ℕ → ℕ → Located
 found t s u l = record { items = []; type = t; place = s; temps = u; labels = l }

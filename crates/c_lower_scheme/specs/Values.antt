@@ -8,7 +8,7 @@ use Rattle.c_types.specs.declared.typed.Direction.TheVariants as directions
 use Rattle.c_types.specs.Constants.{scale}
 use Rattle.c_lower_scheme.specs.Trees.{Tree, Num, Bin, Item, divides, reads, stable, sensed}
 use Rattle.c_lower_scheme.specs.Parts.{Lowered, Pair, Lowering, behind_low, over_two}
-use Rattle.c_lower_scheme.specs.Places.{saving, saved, next_if}
+use Rattle.c_lower_scheme.specs.Saving.{saving, saved, next_if}
 use Rattle.c_lower_scheme.specs.Conditions.{compare, valued, conditional, drop_two}
 
 -- sums with a pointer: a number is scaled by the size of what is pointed to

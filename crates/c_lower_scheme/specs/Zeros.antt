@@ -1,7 +1,8 @@
 -- Whether the zero of a declaration is written. It isn't where the local is assigned to before anything names it.
 use Rattle.std.specs.Prelude.{ℕ, zero, suc, ◌==◌, List, [], ◌∷◌, Option, Some, None, Bool, false, not, ◌&&◌, ◌||◌}
 use Rattle.c_types.specs.Typed.{APlace, VariableAt, AnExpression, AssignTo}
-use Rattle.c_program.specs.Statements.{ADeclaration, KeepOf, ClearOf, BeginOf, SomeActions, MoreActions, DeclareOf, BlockOf}
+use Rattle.c_program.specs.Statements.{ADeclaration, KeepOf, ClearOf, BeginOf, StoreOf, ZerosOf, SomeActions}
+use Rattle.c_program.specs.Statements.{MoreActions, DeclareOf, BlockOf}
 use Rattle.c_program.specs.Statements.{EvaluateOf, ForOf}
 use Rattle.c_lower_scheme.specs.Mentions.{is_local, mentions}
 
@@ -26,6 +27,8 @@ is_overwritten zero n ds row = false
 is_overwritten (suc k) n (KeepOf object ∷ ds) row = is_overwritten k n ds row
 is_overwritten (suc k) n (ClearOf m ∷ ds) row = is_overwritten k n ds row
 is_overwritten (suc k) n (BeginOf m e ∷ ds) row = not (mentions n e) && (m == n || is_overwritten k n ds row)
+is_overwritten (suc k) n (StoreOf t o e ∷ ds) row = not (mentions n e) && is_overwritten k n ds row
+is_overwritten (suc k) n (ZerosOf t o count ∷ ds) row = is_overwritten k n ds row
 is_overwritten (suc k) n [] (MoreActions (DeclareOf ds) row) = is_overwritten k n ds row
 is_overwritten (suc k) n [] (MoreActions (BlockOf row) others) = is_overwritten k n [] row
 is_overwritten (suc k) n [] (MoreActions (EvaluateOf e) row) =

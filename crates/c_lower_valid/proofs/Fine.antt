@@ -11,7 +11,8 @@ use Rattle.c_types.specs.declared.typed.Direction.TheVariants as directions
 use Rattle.c_types.specs.Constants.{scale}
 use Rattle.c_lower_scheme.specs.Trees.{Tree, Num, Loc, Bin, Item, Label, AssignLoc, AssignArg, AssignMem, Cbr, Push, breaks, Ret}
 use Rattle.c_lower_scheme.specs.Parts.{Lowered, Pair, Where, InLoc, InArg, InMem, Located, Passing, Emitted, Assignable, over, over_two, Destination, InLocal, AsResult, delivered}
-use Rattle.c_lower_scheme.specs.Places.{saving, saved, next_if, integer_of, conv, fitted, read_from, assign_to, address_tree, holding, held, read_low, address_low}
+use Rattle.c_lower_scheme.specs.Saving.{saving, saved, next_if}
+use Rattle.c_lower_scheme.specs.Places.{integer_of, conv, fitted, read_from, assign_to, address_tree, holding, held, read_low, address_low}
 use Rattle.c_lower_scheme.specs.Conditions.{truth_of, test, compare, dropped}
 use Rattle.c_lower_scheme.specs.Values.{scaled_by, advance, advance_by, retreat, apart, step}
 use Rattle.c_lower_scheme.specs.Values

@@ -41,6 +41,7 @@ value_work (waiting.Assign t s) = 1
 value_work (waiting.Change t s op x) = 1
 value_work waiting.Forget = 1
 value_work (waiting.Begin n ds) = declarations_work (map declaration ds.now) + 1
+value_work (waiting.Store t o ds) = declarations_work (map declaration ds.now) + 1
 value_work (waiting.If a) = act_work (act a.now.value) + 1
 value_work (waiting.IfElse a b) = act_work (act a.now.value) + act_work (act b.now.value) + 1
 value_work waiting.Return = 1
@@ -55,7 +56,7 @@ abbrev pub frame_work : Frame → ℕ
 frame_work (ForValue f) = value_work f
 frame_work (ForArgument f done ts es) = arguments_work (expressions_of es.now) + 1
 frame_work (ForFlow f) = flow_work f
-frame_work (ForCall c active) = 1
+frame_work (ForCall c active block) = 1
 
 abbrev pub frames_work : List Frame → ℕ
 frames_work [] = 0

@@ -2,6 +2,7 @@
 -- of tasks. See docs/READING.md.
 pub mod State
 pub mod Values
+pub mod Blocks
 pub mod Calls
 pub mod Meaning
 pub mod Programs

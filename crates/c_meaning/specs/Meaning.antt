@@ -11,8 +11,8 @@ use Rattle.c_types.specs.Typed.{UnaryOf, CastTo, ConvertTo, ArithmeticOf, Compar
 use Rattle.c_types.specs.Typed.{AdvanceByOf, RetreatOf, DistanceOf, ChoiceOf, AssignTo}
 use Rattle.c_types.specs.Typed.{ArithmeticAssignTo, AdvanceAssignTo, RetreatAssignTo, CommaOf, SomeExpressions}
 use Rattle.c_types.specs.Typed.{NoExpressions, MoreExpressions}
-use Rattle.c_program.specs.Statements.{ADeclaration, KeepOf, ClearOf, BeginOf, AnAction, SomeActions, NoActions}
-use Rattle.c_program.specs.Statements.{MoreActions, DeclareOf, BlockOf, EvaluateOf, BreakOf, ContinueOf}
+use Rattle.c_program.specs.Statements.{ADeclaration, KeepOf, ClearOf, BeginOf, StoreOf, ZerosOf, AnAction}
+use Rattle.c_program.specs.Statements.{SomeActions, NoActions, MoreActions, DeclareOf, BlockOf, EvaluateOf, BreakOf, ContinueOf}
 use Rattle.c_program.specs.Statements.{ReturnOf, IfOf, IfElseOf, WhileOf, DoOf, ForOf}
 use Rattle.c_program.specs.Programs.{AProgram}
 use Rattle.c_meaning.specs.declared.store.Spot.TheVariants.{Memory}
@@ -21,6 +21,7 @@ use Rattle.c_meaning.specs.State.{State, address, spot_of, put_local}
 use Rattle.c_meaning.specs.Values.{Rest, RestAll, RestAt, Behind, ALoop, plain_loop, for_loop, Look, Body, Next}
 use Rattle.c_meaning.specs.Values.{chosen, logical, or_wild, or_trap, written, read_at, store_at, step_at, address_of}
 use Rattle.c_meaning.specs.Values.{located, array_address}
+use Rattle.c_meaning.specs.Blocks.{block_set, zeros_set}
 use Rattle.c_meaning.specs.Calls.{passed, call}
 
 -- the program, and what the tasks mean
@@ -105,6 +106,8 @@ module _ (p : AProgram) (next : Next) where
   declared (KeepOf object ∷ ds) κ = declared ds κ
   declared (ClearOf n ∷ ds) κ = local_set n 0 (declared ds κ)
   declared (BeginOf n e ∷ ds) κ = local_set n 0 (expr e (λ v. local_set n v (declared ds κ)))
+  declared (StoreOf t o e ∷ ds) κ = expr e (λ v. block_set t o v (declared ds κ))
+  declared (ZerosOf t o count ∷ ds) κ = zeros_set t o count (declared ds κ)
 
   -- behind a statement of a block
   abbrev pub followed : Behind → (State → Runs) → Behind

@@ -1,7 +1,10 @@
 -- The parts of a machine as the meaning has them.
-use Rattle.std.specs.Prelude.{ℕ, ◌-◌, ◌^◌, List, [], ◌∷◌, Option, Some, None}
+use Rattle.std.specs.Prelude.{ℕ, ◌-◌, ◌^◌, List, [], ◌∷◌, Option, Some, None, Result, Ok, Err, Bool, true, false}
 use Rattle.std.specs.Borrow.{Bor}
-use Rattle.gg_base.specs.Runs.{Runs}
+use Rattle.gg_base.specs.declared.run.End.TheVariants.{Wild}
+use Rattle.gg_base.specs.declared.run.Finish.{Finish}
+use Rattle.gg_base.specs.Runs.{Runs, stop}
+use Rattle.gg_base.specs.Turns.{end_of}
 use Rattle.gg_base.specs.Relations.{holds}
 use Rattle.gg_base.specs.Numbers.{truth}
 use Rattle.c_types.specs.declared.types.CType.{CType}
@@ -20,7 +23,7 @@ use Rattle.c_meaning.specs.State.{Call, State}
 use Rattle.c_meaning.specs.Values.{Rest, ALoop, or_trap, store_at}
 
 abbrev pub activation : Activation → Call
-activation c = record { locals = c.locals.items; parameters = c.parameters.items }
+activation c = record { locals = c.locals.items; parameters = c.parameters.items; block = c.block }
 
 abbrev pub state : Store → State
 state s = record { call = activation s.call; area = s.area.items; input = s.input.now; active = s.active }
@@ -35,6 +38,16 @@ maybe_bor (Some e) = Some (expression_of e.now)
 
 abbrev pub loop_of : Loop → ALoop
 loop_of l = record { condition = maybe_bor l.condition; step = maybe_bor l.step; body = act l.body.now.value }
+
+-- what follows a block that was taken, or an end
+abbrev pub taken : Result (Unit {0}) Finish → State → (State → Runs) → Runs
+taken (Ok u) st κ = κ st
+taken (Err e) st κ = stop (end_of e)
+
+-- what follows a change of memory, if it can be made
+abbrev pub changed_if : Bool → State → (State → Runs) → Runs
+changed_if true st κ = κ st
+changed_if false st κ = stop Wild
 
 -- the value of an operator at two values
 abbrev pub combined : Operator → ℕ → ℕ → Option ℕ

@@ -27,6 +27,7 @@ use Rattle.c_meaning.specs.declared.machine.Machine.{Machine}
 use Rattle.c_meaning.specs.State.{State}
 use Rattle.c_meaning.specs.Values.{Rest, Behind, Next, Look, chosen, logical, or_trap, read_at, store_at, step_at}
 use Rattle.c_meaning.specs.Values.{address_of}
+use Rattle.c_meaning.specs.Blocks.{released, block_set}
 use Rattle.c_meaning.specs.Calls.{passed, answer, call}
 use Rattle.c_meaning.specs.Meaning.{expr, arguments, dropped, turned, look_at, turn_at, local_set, declared, followed}
 use Rattle.c_meaning.specs.Meaning.{stmt, stmts}
@@ -80,6 +81,7 @@ module _ (p : AProgram) where
   resume (waiting.Change t s op x) κ y = changed t s op x y (with_value κ)
   resume waiting.Forget κ v = κ (Leaves Onward)
   resume (waiting.Begin n ds) κ v = local_set p (means p) n v (declared p (means p) (map declaration ds.now) (with_flow κ))
+  resume (waiting.Store t o ds) κ v = block_set t o v (declared p (means p) (map declaration ds.now) (with_flow κ))
   resume (waiting.If a) κ v = λ st. chosen v (stmt p (means p) (act a.now.value) (with_flow κ) st) (κ (Leaves Onward) st)
   resume (waiting.IfElse a b) κ v = λ st. chosen v (stmt p (means p) (act a.now.value) (with_flow κ) st)
       (stmt p (means p) (act b.now.value) (with_flow κ) st)
@@ -102,8 +104,9 @@ module _ (p : AProgram) where
   before (ForArgument f done ts es) κ (Leaves w) = κ (Leaves w)
   before (ForFlow f) κ (Valued v) = κ (Valued v)
   before (ForFlow f) κ (Leaves w) = leave f κ w
-  before (ForCall c active) κ (Valued v) = κ (Valued v)
-  before (ForCall c active) κ (Leaves w) = λ st. κ (Valued (answer w)) (record st { call = activation c; active = active })
+  before (ForCall c active block) κ (Valued v) = κ (Valued v)
+  before (ForCall c active block) κ (Leaves w) = released p.objects block
+      (λ w st. κ (Valued (answer w)) (record st { call = activation c; active = active })) w
 
   -- all that waits, the last of it first
   abbrev pub stack : Then → List Frame → Then

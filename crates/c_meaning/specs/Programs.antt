@@ -6,8 +6,8 @@ use Rattle.gg_base.specs.Runs.{Runs, stop}
 use Rattle.tree_core.specs.Area.{opening}
 use Rattle.c_program.specs.Programs.{ARoutine, AProgram}
 use Rattle.c_meaning.specs.State.{State}
-use Rattle.c_meaning.specs.Values.{Behind, Body, Next}
-use Rattle.c_meaning.specs.Calls.{answer, begun}
+use Rattle.c_meaning.specs.Values.{Behind, Next}
+use Rattle.c_meaning.specs.Calls.{answer, begun, performed}
 use Rattle.c_meaning.specs.Meaning.{task}
 
 -- the tasks, where at most k of them are begun one within another
@@ -25,11 +25,16 @@ finished w st = stop (Ended (answer w))
 
 -- before `main` begins
 abbrev pub at_first : AProgram → List ℕ → State
-at_first p input = record { call = record { locals = []; parameters = [] }; area = opening p.objects; input = input; active = 0 }
+at_first p input = record {
+  call = record { locals = []; parameters = []; block = None };
+  area = opening p.objects;
+  input = input;
+  active = 0;
+}
 
 abbrev pub main_of : Option ARoutine → AProgram → List ℕ → Runs
 main_of None p input = stop Wild
-main_of (Some g) p input = means p (Body g.body) finished (begun g [] (at_first p input))
+main_of (Some g) p input = performed p.objects (means p) g finished (begun g [] (at_first p input))
 
 -- the meaning of a program on an input
 abbrev pub source : AProgram → List ℕ → Runs

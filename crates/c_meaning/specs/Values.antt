@@ -13,9 +13,9 @@ use Rattle.c_types.specs.Typed.{AnExpression}
 use Rattle.c_program.specs.Statements.{AnAction, SomeActions}
 use Rattle.c_program.specs.Programs.{AProgram}
 use Rattle.c_meaning.specs.declared.store.Spot.{Spot}
-use Rattle.c_meaning.specs.declared.store.Spot.TheVariants.{Local, Parameter, Memory}
+use Rattle.c_meaning.specs.declared.store.Spot.TheVariants.{Local, Parameter, Memory, InBlock}
 use Rattle.c_meaning.specs.declared.flow.Flow.{Flow}
-use Rattle.c_meaning.specs.State.{State, spot_of, held, put}
+use Rattle.c_meaning.specs.State.{State, spot_of, block_address, held, put}
 
 -- what follows an expression, the arguments of a call, a place that is found, and a statement
 abbrev pub Rest : Type 0
@@ -99,6 +99,7 @@ abbrev pub address_of : Spot → Rest → State → Runs
 address_of (Local n) κ st = stop Wild
 address_of (Parameter n) κ st = stop Wild
 address_of (Memory a) κ st = κ a st
+address_of (InBlock o) κ st = or_wild (block_address st.call o) κ st
 
 abbrev pub located : Option Spot → (Spot → State → Runs) → State → Runs
 located None κ st = stop Wild

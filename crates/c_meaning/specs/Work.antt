@@ -6,8 +6,8 @@ use Rattle.c_types.specs.Typed.{UnaryOf, CastTo, ConvertTo, ArithmeticOf, Compar
 use Rattle.c_types.specs.Typed.{AdvanceByOf, RetreatOf, DistanceOf, ChoiceOf, AssignTo}
 use Rattle.c_types.specs.Typed.{ArithmeticAssignTo, AdvanceAssignTo, RetreatAssignTo, CommaOf, SomeExpressions}
 use Rattle.c_types.specs.Typed.{NoExpressions, MoreExpressions}
-use Rattle.c_program.specs.Statements.{ADeclaration, KeepOf, ClearOf, BeginOf, AnAction, SomeActions, NoActions}
-use Rattle.c_program.specs.Statements.{MoreActions, DeclareOf, BlockOf, EvaluateOf, BreakOf, ContinueOf}
+use Rattle.c_program.specs.Statements.{ADeclaration, KeepOf, ClearOf, BeginOf, StoreOf, ZerosOf, AnAction}
+use Rattle.c_program.specs.Statements.{SomeActions, NoActions, MoreActions, DeclareOf, BlockOf, EvaluateOf, BreakOf, ContinueOf}
 use Rattle.c_program.specs.Statements.{ReturnOf, IfOf, IfElseOf, WhileOf, DoOf, ForOf}
 use Rattle.c_meaning.specs.Values.{ALoop}
 
@@ -59,6 +59,8 @@ declarations_work [] = 2
 declarations_work (KeepOf object ∷ ds) = declarations_work ds + 1
 declarations_work (ClearOf n ∷ ds) = declarations_work ds + 1
 declarations_work (BeginOf n e ∷ ds) = expression_work e + declarations_work ds + 2
+declarations_work (StoreOf t o e ∷ ds) = expression_work e + declarations_work ds + 2
+declarations_work (ZerosOf t o count ∷ ds) = declarations_work ds + 1
 
 abbrev pub loop_work : ALoop → ℕ
 loop_work l = maybe_work l.condition + 2

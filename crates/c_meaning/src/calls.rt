@@ -89,7 +89,7 @@ impl<'a> Machine<'a> {
         function: &'a Routine,
         values: Vec<u32>,
     ) -> Result<Event, NoMemory>
-        ensures { IfOk result (λ event. Makes self.old (λ κ. called (Some (routine function.now))
+        ensures { IfOk result (λ event. Makes self.old (λ κ. called self.old.program.now.objects (Some (routine function.now))
             (tasks_of self.old) values.items (with_value κ)) 2 event self.new) }
     {
         let active = self.store.active;
@@ -98,11 +98,18 @@ impl<'a> Machine<'a> {
             let caller = self.store.enter(Activation {
                 locals,
                 parameters: values,
+                block: None,
             });
-            self.count(
-                Frame::ForCall(caller, active),
-                Control::Block(&function.body),
-            )
+            match self
+                .store
+                .claim(self.program.objects.as_slice(), function.block)
+            {
+                Ok(()) => self.count(
+                    Frame::ForCall(caller, active, function.block),
+                    Control::Block(&function.body),
+                ),
+                Err(finish) => Ok(self.count_end(finish)),
+            }
         } else {
             Ok(self.count_end(Finish::Deep))
         }

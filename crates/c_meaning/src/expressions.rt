@@ -98,6 +98,7 @@ impl<'a> Machine<'a> {
             Spot::Local(_) => self.stop(Finish::Wild),
             Spot::Parameter(_) => self.stop(Finish::Wild),
             Spot::Memory(address) => self.give(address),
+            Spot::InBlock(offset) => self.value_or_wild(self.store.block_address(offset)),
         }
     }
 
@@ -162,6 +163,7 @@ impl<'a> Machine<'a> {
             )),
             ValueFrame::Forget => Ok(self.quit(Flow::Onward)),
             ValueFrame::Begin(local, rest) => Ok(self.begin(local, value, rest)),
+            ValueFrame::Store(of, offset, rest) => Ok(self.store_in_block(of, offset, value, rest)),
             ValueFrame::If(a) => Ok(self.choose(
                 value,
                 Control::Perform(a),

@@ -50,6 +50,8 @@ pub(crate) enum ValueFrame<'a> {
     Forget,
     /// The first value of an automatic local comes, and declarations follow.
     Begin(u32, &'a [Declaration]),
+    /// The value comes that is stored at an offset of the block as a type, and declarations follow.
+    Store(CType, u32, &'a [Declaration]),
     If(&'a Box<Action>),
     IfElse(&'a Box<Action>, &'a Box<Action>),
     Return,
@@ -76,8 +78,8 @@ pub(crate) enum Frame<'a> {
     /// behind it.
     ForArgument(Callee, Vec<u32>, &'a [CType], &'a [Expression]),
     ForFlow(FlowFrame<'a>),
-    /// A call is left, behind which the caller goes on as one of so many active calls.
-    ForCall(Activation, u32),
+    /// A call with a block of so many bytes is left, behind which the caller goes on as one of so many active calls.
+    ForCall(Activation, u32, u32),
 }
 
 /// What is done now.

@@ -1,6 +1,7 @@
 //! The meaning of C programs, and runs by it, event by event.
 #![tactic(auto)]
 
+mod blocks;
 mod calls;
 mod current;
 mod expressions;

@@ -7,13 +7,13 @@ ghost use Rattle.c_meaning.specs.Programs.{source};
 ghost use Rattle.c_meaning.specs.declared.frame.Control.TheVariants as controls;
 ghost use Rattle.c_meaning.specs.declared.frame.Frame.TheVariants as frames;
 ghost use Rattle.gg_base.specs.Turns.{end_of};
-ghost use Rattle.c_meaning.specs.Pending.{to_come, with_value};
+ghost use Rattle.c_meaning.specs.Pending.{Leaves, before, program_of, to_come, with_value};
 ghost use Rattle.c_meaning.specs.Runner.{Makes, Steps, Does, Goes, Waiting, Counts, Reaches};
 
 use crate::current::Current;
 use crate::flow::{Event, Flow};
 use crate::frame::{Control, Frame, ValueFrame};
-use crate::store::{Store, zeros};
+use crate::store::{Activation, Store, zeros};
 use c_program::Program;
 use c_types::Expression;
 use gg_base::{Finish, NoMemory};
@@ -49,11 +49,16 @@ impl<'a> Machine<'a> {
             }),
             Some(main) => {
                 let locals = zeros(alloc, main.locals.as_slice().len())?;
+                let mut store = Store::begin(alloc, locals, area, input);
+                let control = match store.claim(program.objects.as_slice(), main.block) {
+                    Ok(()) => Control::Block(&main.body),
+                    Err(finish) => Control::Stop(finish),
+                };
                 Ok(Machine {
                     program,
-                    control: Current::of(Control::Block(&main.body)),
+                    control: Current::of(control),
                     frames: Vec::new(alloc),
-                    store: Store::begin(alloc, locals, area, input),
+                    store,
                 })
             }
         }
@@ -97,7 +102,7 @@ impl<'a> Machine<'a> {
                 alloc, callee, done, to, rest, value,
             ),
             Some(Frame::ForFlow(_)) => Ok(self.give(value)),
-            Some(Frame::ForCall(_, _)) => Ok(self.give(value)),
+            Some(Frame::ForCall(_, _, _)) => Ok(self.give(value)),
         }
     }
 
@@ -108,13 +113,23 @@ impl<'a> Machine<'a> {
         match self.frames.pop() {
             None => Ok(self.stop(Finish::Ended(flow.answer()))),
             Some(Frame::ForFlow(frame)) => self.go_on(frame, flow),
-            Some(Frame::ForCall(caller, active)) => {
-                self.store.leave(caller, active);
-                Ok(self.give(flow.answer()))
+            Some(Frame::ForCall(caller, active, block)) => {
+                Ok(self.end_call(caller, active, block, flow))
             }
             Some(Frame::ForValue(_)) => Ok(self.quit(flow)),
             Some(Frame::ForArgument(_, _, _, _)) => Ok(self.quit(flow)),
         }
+    }
+
+    // A call with a block of so many bytes is left so, and its caller goes on.
+    fn end_call(&mut self, caller: Activation, active: u32, block: u32, flow: Flow) -> Event
+        ensures { Makes self.old (λ κ. before (program_of self.old) (frames.ForCall caller active block) κ (Leaves flow)) 1 result self.new }
+    {
+        if !self.store.release(self.program.objects.as_slice(), block) {
+            return self.stop(Finish::Wild);
+        }
+        self.store.leave(caller, active);
+        self.give(flow.answer())
     }
 
     /// This is done next.

@@ -4,6 +4,7 @@ ghost use Rattle.std.specs.Prelude.{◌≡◌, ◌+◌, IfOk};
 ghost use Rattle.c_program.specs.Statements.{optional_expression, act, acts};
 ghost use Rattle.c_meaning.specs.declared.frame.Control.TheVariants as controls;
 ghost use Rattle.c_meaning.specs.Values.{chosen, Look};
+ghost use Rattle.c_meaning.specs.Blocks.{block_set};
 ghost use Rattle.c_meaning.specs.Meaning.{local_set, look_at, turn_at, dropped, returned};
 ghost use Rattle.c_meaning.specs.Runner.{Makes, Does, Performs, Blocks, GoesOn};
 ghost use Rattle.c_meaning.specs.Pending.{program_of, tasks_of, going, with_flow};
@@ -14,8 +15,9 @@ ghost use Rattle.c_meaning.specs.FrameWork.{control_work};
 use crate::flow::{Event, Flow};
 use crate::frame::{Control, FlowFrame, Frame, Loop, ValueFrame};
 use crate::machine::Machine;
+use crate::store::Spot;
 use c_program::{Action, Declaration};
-use c_types::Expression;
+use c_types::{CType, Expression};
 use gg_base::{Finish, NoMemory};
 
 impl<'a> Machine<'a> {
@@ -97,6 +99,16 @@ impl<'a> Machine<'a> {
                     Ok(self.stop(Finish::Wild))
                 }
             }
+            Some((Declaration::Store(of, offset, e), rest)) => {
+                self.wait(ValueFrame::Store(*of, *offset, rest), e)
+            }
+            Some((Declaration::Zeros(of, offset, count), rest)) => {
+                if self.store.put_zeros(*of, *offset, *count) {
+                    Ok(self.go(Control::Declare(rest)))
+                } else {
+                    Ok(self.stop(Finish::Wild))
+                }
+            }
         }
     }
 
@@ -107,6 +119,24 @@ impl<'a> Machine<'a> {
             (control_work (controls.Declare rest.entry) + 1) result self.new }
     {
         if self.store.put_local(local, value) {
+            self.go(Control::Declare(rest))
+        } else {
+            self.stop(Finish::Wild)
+        }
+    }
+
+    /// What stands at an offset of the block becomes a value, and declarations follow.
+    pub(crate) fn store_in_block(
+        &mut self,
+        of: CType,
+        offset: u32,
+        value: u32,
+        rest: &'a [Declaration],
+    ) -> Event
+        ensures { Makes self.old (λ κ. block_set of offset value (going (program_of self.old) (controls.Declare rest.entry) κ))
+            (control_work (controls.Declare rest.entry) + 1) result self.new }
+    {
+        if self.store.put(of, Spot::InBlock(offset), value) {
             self.go(Control::Declare(rest))
         } else {
             self.stop(Finish::Wild)

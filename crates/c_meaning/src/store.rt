@@ -1,31 +1,35 @@
 // Where values are kept.
 
-ghost use Rattle.std.specs.Prelude.{◌≡◌, ◌<◌, ◌+◌, [], IfOk, is_some, unwrap_or, replicate, drop};
+ghost use Rattle.std.specs.Prelude.{◌≡◌, ◌<◌, ◌+◌, [], IfOk, IfSome, Some, is_some, unwrap_or, replicate, drop};
 ghost use Rattle.std.specs.Option.{option_copied};
-ghost use Rattle.c_meaning.specs.State.{access_size, held, put_local, put, spot_of, address};
+ghost use Rattle.c_meaning.specs.State.{access_size, held, put_local, put, put_zeros, spot_of, address, block_address, loaded};
+ghost use Rattle.c_meaning.specs.declared.store.Spot.TheVariants.{Memory};
 ghost use Rattle.c_meaning.specs.Parts.{state, activation, got_byte};
 
 use c_types::constant::convert;
 use c_types::{CType, Integer, Variable};
-use gg_base::Size;
+use gg_base::{Size, w32};
 use std::alloc::{AllocError, Global};
 use std::mem;
 use tree_core::Object;
 use tree_core::area::{fetch, store};
 
-/// Where a value is kept: an automatic local or a parameter of the call that runs, or memory at an address.
+/// Where a value is kept: an automatic local or a parameter of the call that runs, memory at an address, or at an offset of
+/// the call's block.
 #[derive(Clone, Copy, Debug, PartialEq, Eq)]
 pub enum Spot {
     Local(u32),
     Parameter(u32),
     Memory(u32),
+    InBlock(u32),
 }
 
-/// The automatic locals and the parameters of a call, each by its number.
+/// The automatic locals and the parameters of a call, each by its number, and where the block of its memory locals lies.
 #[derive(Drop)]
 pub(crate) struct Activation {
     pub(crate) locals: Vec<u32>,
     pub(crate) parameters: Vec<u32>,
+    pub(crate) block: Option<u32>,
 }
 
 /// What a program reads and changes: the call that runs, the data area, the input that is left, and how many calls are
@@ -54,10 +58,17 @@ pub(crate) fn access_size(of: CType) -> Option<Size>
 }
 
 /// The address of an object, by its number. None where there is no such object.
+pub(crate) fn address_at(objects: &[Object], number: usize) -> Option<u32>
+    ensures { result ≡ address objects.now number }
+{
+    Some(objects.get(number)?.address)
+}
+
+/// The same, by a number of 32 bits.
 pub(crate) fn address(objects: &[Object], number: u32) -> Option<u32>
     ensures { result ≡ address objects.now number }
 {
-    Some(objects.get(number as usize)?.address)
+    address_at(objects, number as usize)
 }
 
 /// Where a variable is kept. None for the variable of an object that there is not.
@@ -69,6 +80,7 @@ pub(crate) fn spot_of(objects: &[Object], variable: Variable) -> Option<Spot>
         Variable::Parameter(number) => Some(Spot::Parameter(number)),
         Variable::Global(object) => Some(Spot::Memory(address(objects, object)?)),
         Variable::Static(object) => Some(Spot::Memory(address(objects, object)?)),
+        Variable::InBlock(offset) => Some(Spot::InBlock(offset)),
     }
 }
 
@@ -88,7 +100,7 @@ impl<'a> Store<'a> {
         input: &'a [u8],
     ) -> Store<'a>
         ensures { state result ≡ record {
-          call = record { locals = locals.items; parameters = [] };
+          call = record { locals = locals.items; parameters = []; block = None };
           area = area.items;
           input =
               input.now;
@@ -98,6 +110,7 @@ impl<'a> Store<'a> {
         let call = Activation {
             locals,
             parameters: Vec::new(alloc),
+            block: None,
         };
         Store {
             call,
@@ -115,10 +128,34 @@ impl<'a> Store<'a> {
         match spot {
             Spot::Local(number) => self.call.locals.get(number as usize).copied(),
             Spot::Parameter(number) => self.call.parameters.get(number as usize).copied(),
-            Spot::Memory(address) => {
-                let value = fetch(&self.area, access_size(of)?, address)?;
-                Some(convert(of, value))
-            }
+            Spot::Memory(address) => self.load(of, address),
+            Spot::InBlock(offset) => self.load(of, self.block_address(offset)?),
+        }
+    }
+
+    /// The address of an offset in the block of the call that runs. None where it has no block.
+    pub(crate) fn block_address(&self, offset: u32) -> Option<u32>
+        ensures { result ≡ block_address (activation self.now.call) offset }
+    {
+        Some(w32::add(self.call.block?, offset))
+    }
+
+    // The value of a type in memory.
+    fn load(&self, of: CType, address: u32) -> Option<u32>
+        ensures { result ≡ loaded of (access_size of) (state self.now).area address }
+    {
+        let value = fetch(&self.area, access_size(of)?, address)?;
+        Some(convert(of, value))
+    }
+
+    // Puts the low bytes of a value into memory. False, with nothing changed, where a byte of it lies outside the data area.
+    fn keep(&mut self, of: CType, address: u32, value: u32) -> bool
+        ensures done { result ≡ is_some (put of (Memory address) value (state self.old)) }
+        ensures new { state self.new ≡ unwrap_or (put of (Memory address) value (state self.old)) (state self.old) }
+    {
+        match access_size(of) {
+            None => false,
+            Some(size) => store(&mut self.area, size, address, value),
         }
     }
 
@@ -153,11 +190,27 @@ impl<'a> Store<'a> {
                     false
                 }
             }
-            Spot::Memory(address) => match access_size(of) {
+            Spot::Memory(address) => self.keep(of, address, value),
+            Spot::InBlock(offset) => match self.block_address(offset) {
                 None => false,
-                Some(size) => store(&mut self.area, size, address, value),
+                Some(address) => self.keep(of, address, value),
             },
         }
+    }
+
+    /// Puts zeros into so many elements of the block, from an offset on. False where a byte of them lies outside the data area.
+    pub(crate) fn put_zeros(&mut self, of: CType, offset: u32, count: u32) -> bool
+        ensures done { result ≡ is_some (put_zeros of offset count (Some (state self.old))) }
+        ensures new { IfSome (put_zeros of offset count (Some (state self.old))) (λ st. state self.new ≡ st) }
+    {
+        let mut next = offset;
+        for _ in 0..count {
+            if !self.put(of, Spot::InBlock(next), 0) {
+                return false;
+            }
+            next = next.wrapping_add(of.size());
+        }
+        true
     }
 
     /// The next byte of the input, or -1 at its end.

@@ -253,9 +253,10 @@ pub struct External {
     pub declared: Declared,
 }
 
-/// `unit`, and the offset of its end.
+/// `unit`, the offset of its end, and those of the `}` that end the bodies of its functions, in order.
 #[derive(Drop)]
 pub struct Ast {
     pub externals: Vec<External>,
+    pub body_ends: ListOf<u32>,
     pub end: u32,
 }

@@ -1,13 +1,13 @@
 -- How many longwords of its frame a function needs.
-use Rattle.std.specs.Prelude.{ℕ, ◌+◌, ◌*◌, max, List, [], ◌∷◌, length, Option, Some, None}
+use Rattle.std.specs.Prelude.{ℕ, ◌+◌, ◌*◌, ◌==◌, if◌then◌else◌, max, List, [], ◌∷◌, length, Option, Some, None}
 use Rattle.c_types.specs.declared.types.CType.{CType}
 use Rattle.c_types.specs.Typed.{APlace, VariableAt, PointedBy, ElementBy, AnExpression, SomeExpressions, NoExpressions}
 use Rattle.c_types.specs.Typed.{MoreExpressions, Constant, LiteralAt, ArrayAt, ReadOf, SizeOfExpression, SizeOf, AddressOf}
 use Rattle.c_types.specs.Typed.{CallOf, StepOf, UnaryOf, CastTo, ConvertTo, ArithmeticOf, CompareOf, BothOf, EitherOf}
 use Rattle.c_types.specs.Typed.{AdvanceOf, AdvanceByOf, RetreatOf, DistanceOf, ChoiceOf, AssignTo, ArithmeticAssignTo}
 use Rattle.c_types.specs.Typed.{AdvanceAssignTo, RetreatAssignTo, CommaOf}
-use Rattle.c_program.specs.Statements.{ADeclaration, KeepOf, ClearOf, BeginOf, AnAction, SomeActions, NoActions}
-use Rattle.c_program.specs.Statements.{MoreActions, DeclareOf, BlockOf, EvaluateOf, BreakOf, ContinueOf, ReturnOf, IfOf}
+use Rattle.c_program.specs.Statements.{ADeclaration, KeepOf, ClearOf, BeginOf, StoreOf, ZerosOf, AnAction}
+use Rattle.c_program.specs.Statements.{SomeActions, NoActions, MoreActions, DeclareOf, BlockOf, EvaluateOf, BreakOf, ContinueOf, ReturnOf, IfOf}
 use Rattle.c_program.specs.Statements.{IfElseOf, WhileOf, DoOf, ForOf}
 
 -- Each name, number, literal, operator, index and call is one node, and a called function's name is a name. An index's
@@ -63,6 +63,8 @@ abbrev pub one_declared : ADeclaration → ℕ
 one_declared (KeepOf n) = 0
 one_declared (ClearOf n) = 1
 one_declared (BeginOf n e) = nodes e
+one_declared (StoreOf t o e) = nodes e
+one_declared (ZerosOf t o count) = 1
 
 abbrev pub declared_nodes : List ADeclaration → ℕ
 declared_nodes [] = 0
@@ -87,6 +89,11 @@ abbrev mutual
   largest_of NoActions = 0
   largest_of (MoreActions a rest) = max (largest a) (largest_of rest)
 
--- The automatic locals, and three for each node of the largest full expression; the end of the body supplies a zero.
-unfoldable pub need_of : List CType → SomeActions → ℕ
-need_of locals body = length locals + 3 * max 1 (largest_of body)
+-- what a function keeps for its block of memory locals
+abbrev pub block_words : ℕ → ℕ
+block_words block = if block == 0 then 0 else 8
+
+-- The automatic locals that are no memory locals, 8 where the function has memory locals, and three for each node of the largest full
+-- expression; the end of the body supplies a zero.
+unfoldable pub need_of : List CType → ℕ → SomeActions → ℕ
+need_of locals block body = length locals + (block_words block + 3 * max 1 (largest_of body))

@@ -6,14 +6,15 @@ use Rattle.c_program.specs.declared.program.Routine.{Routine}
 use Rattle.c_program.specs.declared.program.Program.{Program}
 use Rattle.c_program.specs.Statements.{SomeActions, acts}
 
--- a function: its name, the types of its result, its parameters and its automatic locals, the numbers of those that are declared
--- `register`, what it does, and the longwords of its frame
+-- a function: its name, the types of its result, its parameters and its automatic locals that are no memory locals, the numbers of those
+-- that are declared `register`, the bytes of its memory locals, what it does, and the longwords of its frame
 pub record ARoutine : Type 0 where
   pub name : List ℕ
   pub result : CType
   pub parameters : List CType
   pub locals : List CType
   pub registers : List ℕ
+  pub block : ℕ
   pub body : SomeActions
   pub need : ℕ
 
@@ -30,6 +31,7 @@ routine r = record {
   parameters = r.parameters;
   locals = r.locals;
   registers = r.registers;
+  block = r.block;
   body = acts r.body.items;
   need = r.need;
 }

@@ -1,5 +1,6 @@
 -- Typed statements as plain data.
 use Rattle.std.specs.Prelude.{ℕ, List, [], ◌∷◌, map, Option, Some, None}
+use Rattle.c_types.specs.declared.types.CType.{CType}
 use Rattle.c_types.specs.declared.typed.Expression.{Expression}
 use Rattle.c_types.specs.Typed.{AnExpression, expression_of}
 use Rattle.c_program.specs.declared.statement.Declaration.{Declaration}
@@ -11,11 +12,15 @@ pub data ADeclaration : Type 0 where
   KeepOf : (object : ℕ) → ADeclaration
   ClearOf : (n : ℕ) → ADeclaration
   BeginOf : (n : ℕ) (e : AnExpression) → ADeclaration
+  StoreOf : (t : CType) (offset : ℕ) (e : AnExpression) → ADeclaration
+  ZerosOf : (t : CType) (offset count : ℕ) → ADeclaration
 
 abbrev pub declaration : Declaration → ADeclaration
 declaration (declarations.Keep object) = KeepOf object
 declaration (declarations.Clear n) = ClearOf n
 declaration (declarations.Begin n e) = BeginOf n (expression_of e)
+declaration (declarations.Store t o e) = StoreOf t o (expression_of e)
+declaration (declarations.Zeros t o count) = ZerosOf t o count
 
 mutual
   pub data AnAction : Type 0 where

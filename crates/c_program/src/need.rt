@@ -3,7 +3,7 @@ ghost use Rattle.std.specs.Prelude.{◌≡◌, ◌<◌, ◌≤◌, ◌^◌, ◌�
 ghost use Rattle.c_types.specs.Typed.{expression_of, place_of, expressions_of};
 ghost use Rattle.c_program.specs.Statements.{act, acts, declaration, optional_expression};
 ghost use Rattle.c_program.specs.Need.{nodes, place_nodes, all_nodes, maybe_nodes, returned_nodes, declared_nodes, largest};
-ghost use Rattle.c_program.specs.Need.{largest_of, need_of};
+ghost use Rattle.c_program.specs.Need.{largest_of, block_words, need_of};
 
 use crate::statement::{Action, Declaration};
 use c_types::{CType, Expression, Place};
@@ -96,6 +96,8 @@ fn one_declared(d: &Declaration) -> u32
         Declaration::Keep(_) => 0,
         Declaration::Clear(_) => 1,
         Declaration::Begin(_, e) => nodes(e),
+        Declaration::Store(_, _, e) => nodes(e),
+        Declaration::Zeros(_, _, _) => 1,
     }
 }
 
@@ -143,15 +145,23 @@ fn largest_of(row: &[Action]) -> u32
     most
 }
 
-/// The automatic locals, and three for each node of the largest full expression; the end of the body supplies a zero.
-/// None where the number has more than 32 bits.
+// The longwords that a function keeps for its block of memory locals.
+fn block_words(block: u32) -> u32
+    ensures { result ≡ block_words block }
+{
+    if block == 0 { 0 } else { 8 }
+}
+
+/// The automatic locals, 8 where the function has a block of memory locals, and three for each node of the largest full
+/// expression; the end of the body supplies a zero. None where the number has more than 32 bits.
 #[tactic(auto, unfolding(crate::specs::Need::need_of))]
-pub fn need(locals: &[CType], body: &[Action]) -> Option<u32>
-    ensures count { IfSome result (λ n. n ≡ need_of locals.now (acts body.now)) }
-    ensures fits { IsSome result ↔ (need_of locals.now (acts body.now) < 2 ^ 32) }
+pub fn need(locals: &[CType], block: u32, body: &[Action]) -> Option<u32>
+    ensures count { IfSome result (λ n. n ≡ need_of locals.now block (acts body.now)) }
+    ensures fits { IsSome result ↔ (need_of locals.now block (acts body.now) < 2 ^ 32) }
 {
     let largest = u64::from(largest_of(body).max(1));
-    let need = (locals.len() as u64).saturating_add(3 * largest);
+    let block = u64::from(block_words(block));
+    let need = (locals.len() as u64).saturating_add(block + 3 * largest);
     u32::try_from(need).ok()
 }
 

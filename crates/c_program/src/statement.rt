@@ -1,5 +1,5 @@
 // Typed statements.
-use c_types::Expression;
+use c_types::{CType, Expression};
 
 /// What passing a declarator does.
 #[derive(Drop)]
@@ -10,6 +10,10 @@ pub enum Declaration {
     Clear(u32),
     /// An automatic local is 0, and then becomes a value, which is converted to its type.
     Begin(u32, Expression),
+    /// What the block holds at an offset as a type becomes a value: a memory local, or an element of an automatic array.
+    Store(CType, u32, Expression),
+    /// So many elements of a type, from an offset of the block on, become 0.
+    Zeros(CType, u32, u32),
 }
 
 /// A typed statement, or one declaration of a block.

@@ -1,7 +1,8 @@
 -- Expressions and statements in which each automatic local is in scope, each number is a longword, and each jump has a loop around it.
-use Rattle.std.specs.Prelude.{◌≡◌, ◌⊎◌, ℕ, ◌<◌, ◌^◌, List, [], ◌∷◌, Option, Some, None, Bool, true}
+use Rattle.std.specs.Prelude.{◌≡◌, ◌⊎◌, ℕ, ◌<◌, ◌≤◌, ◌^◌, List, [], ◌∷◌, Option, Some, None, Bool, true}
 use Rattle.std.specs.List.{AllByRecursion}
 use Rattle.c_types.specs.declared.types.CType.{CType}
+use Rattle.c_types.specs.Types.{is_scalar}
 use Rattle.c_types.specs.declared.typed.Variable.{Variable}
 use Rattle.c_types.specs.declared.typed.Variable.TheVariants as variables
 use Rattle.c_types.specs.Typed.{APlace, VariableAt, PointedBy, ElementBy, AnExpression, Constant, LiteralAt, ArrayAt}
@@ -10,8 +11,8 @@ use Rattle.c_types.specs.Typed.{UnaryOf, CastTo, ConvertTo, ArithmeticOf, Compar
 use Rattle.c_types.specs.Typed.{AdvanceByOf, RetreatOf, DistanceOf, ChoiceOf, AssignTo}
 use Rattle.c_types.specs.Typed.{ArithmeticAssignTo, AdvanceAssignTo, RetreatAssignTo, CommaOf, SomeExpressions}
 use Rattle.c_types.specs.Typed.{NoExpressions, MoreExpressions}
-use Rattle.c_program.specs.Statements.{ADeclaration, KeepOf, ClearOf, BeginOf, AnAction, SomeActions, NoActions}
-use Rattle.c_program.specs.Statements.{MoreActions, DeclareOf, BlockOf, EvaluateOf, BreakOf, ContinueOf}
+use Rattle.c_program.specs.Statements.{ADeclaration, KeepOf, ClearOf, BeginOf, StoreOf, ZerosOf, AnAction}
+use Rattle.c_program.specs.Statements.{SomeActions, NoActions, MoreActions, DeclareOf, BlockOf, EvaluateOf, BreakOf, ContinueOf}
 use Rattle.c_program.specs.Statements.{ReturnOf, IfOf, IfElseOf, WhileOf, DoOf, ForOf}
 
 -- bytes, and longwords
@@ -24,6 +25,7 @@ StandsIn scope (variables.Automatic n) = scope n
 StandsIn scope (variables.Parameter n) = Unit {0}
 StandsIn scope (variables.Global n) = Unit {0}
 StandsIn scope (variables.Static n) = Unit {0}
+StandsIn scope (variables.InBlock o) = Unit {0}
 
 -- Each automatic local that an expression names is in scope, each number is a longword, and each call has as many arguments as parameters.
 abbrev mutual
@@ -79,6 +81,8 @@ declaring scope [] = scope
 declaring scope (KeepOf object ∷ ds) = declaring scope ds
 declaring scope (ClearOf n ∷ ds) = declaring (more scope n) ds
 declaring scope (BeginOf n e ∷ ds) = declaring (more scope n) ds
+declaring scope (StoreOf t o e ∷ ds) = declaring scope ds
+declaring scope (ZerosOf t o count ∷ ds) = declaring scope ds
 
 abbrev pub behind_act : (ℕ → Type 0) → AnAction → ℕ → Type 0
 behind_act scope (DeclareOf ds) = declaring scope ds
@@ -93,12 +97,18 @@ behind_act scope (WhileOf c a) = scope
 behind_act scope (DoOf a c) = scope
 behind_act scope (ForOf i c e a) = scope
 
+-- what is stored in the block has bytes
+abbrev pub HasSize : CType → Type 0
+HasSize t = is_scalar t ≡ true
+
 -- in a function with so many automatic locals
 abbrev pub FitsDeclared : ℕ → (ℕ → Type 0) → List ADeclaration → Type 0
 FitsDeclared size scope [] = Unit {0}
 FitsDeclared size scope (KeepOf object ∷ ds) = FitsDeclared size scope ds
 FitsDeclared size scope (ClearOf n ∷ ds) = (n < size) × FitsDeclared size (more scope n) ds
 FitsDeclared size scope (BeginOf n e ∷ ds) = (n < size) × Fits (more scope n) e × FitsDeclared size (more scope n) ds
+FitsDeclared size scope (StoreOf t o e ∷ ds) = HasSize t × Fits scope e × FitsDeclared size scope ds
+FitsDeclared size scope (ZerosOf t o count ∷ ds) = HasSize t × (1 ≤ count) × FitsDeclared size scope ds
 
 -- a statement's expressions fit, and `break` and `continue` stand in a loop; a statement below `if` or a loop declares for itself alone
 abbrev mutual

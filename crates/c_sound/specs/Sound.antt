@@ -20,7 +20,7 @@ HoldBytes os = (n : ℕ) (o : Object) → slice_get os n ≡ Some o → AreBytes
 
 -- what a function's statements name is there
 abbrev pub BodyStands : AProgram → ARoutine → Type 0
-BodyStands p g = StandsActs (IsThere (length p.objects) (length g.parameters)) (Takes p.routines) (length p.objects) g.body
+BodyStands p g = StandsActs (IsThere (length p.objects) (length g.parameters) g.block) (Takes p.routines) (length p.objects) g.body
 
 pub record IsSound (p : AProgram) : Type 0 where
   -- in each function's statements each local is in scope, each number is a longword, and each jump has its loop
@@ -29,6 +29,9 @@ pub record IsSound (p : AProgram) : Type 0 where
   pub stands : (f : ℕ) (g : ARoutine) → slice_get p.routines f ≡ Some g → BodyStands p g
   -- the numbers of its `register` locals differ, and are those of locals
   pub registers : (f : ℕ) (g : ARoutine) → slice_get p.routines f ≡ Some g → LocalsStand (length g.locals) g.registers
+  -- a function has at most 262,144 bytes of memory locals; where it has some, the second stack lies behind the other objects
+  pub blocks : (f : ℕ) (g : ARoutine) → slice_get p.routines f ≡ Some g → g.block ≤ 262144
+  pub stacked : (f : ℕ) (g : ARoutine) → slice_get p.routines f ≡ Some g → 1 ≤ g.block → 2 ≤ length p.objects
   -- a function has at most 32 parameters
   pub parameters : (f : ℕ) (g : ARoutine) → slice_get p.routines f ≡ Some g → length g.parameters ≤ 32
   -- no two functions have one name, and none that of a service

@@ -1,18 +1,20 @@
--- Expressions and statements in which each object and parameter that is named is there, and each call has its function
--- and as many arguments as that has parameters.
-use Rattle.std.specs.Prelude.{◌≡◌, ℕ, ◌<◌, ◌+◌, List, [], ◌∷◌, length, Option, Some, None, slice_get}
+-- Expressions and statements in which each object and parameter that is named is there, each element's address is a sum, and each call
+-- has its function and as many arguments as that has parameters.
+use Rattle.std.specs.Prelude.{◌≡◌, ℕ, ◌<◌, ◌+◌, ◌*◌, ◌-◌, List, [], ◌∷◌, length, Option, Some, None, slice_get}
+use Rattle.c_types.specs.Types.{size_of}
 use Rattle.c_types.specs.declared.typed.Variable.{Variable}
 use Rattle.c_types.specs.declared.typed.Variable.TheVariants as variables
 use Rattle.c_types.specs.declared.typed.Callee.{Callee}
 use Rattle.c_types.specs.declared.typed.Callee.TheVariants as callees
+use Rattle.c_types.specs.declared.typed.ArithmeticOperator.TheVariants as ariths
 use Rattle.c_types.specs.Typed.{APlace, VariableAt, PointedBy, ElementBy, AnExpression, Constant, LiteralAt, ArrayAt}
 use Rattle.c_types.specs.Typed.{ReadOf, SizeOfExpression, SizeOf, AddressOf, CallOf, StepOf}
 use Rattle.c_types.specs.Typed.{UnaryOf, CastTo, ConvertTo, ArithmeticOf, CompareOf, BothOf, EitherOf, AdvanceOf}
 use Rattle.c_types.specs.Typed.{AdvanceByOf, RetreatOf, DistanceOf, ChoiceOf, AssignTo}
 use Rattle.c_types.specs.Typed.{ArithmeticAssignTo, AdvanceAssignTo, RetreatAssignTo, CommaOf, SomeExpressions}
 use Rattle.c_types.specs.Typed.{NoExpressions, MoreExpressions}
-use Rattle.c_program.specs.Statements.{ADeclaration, KeepOf, ClearOf, BeginOf, AnAction, SomeActions, NoActions}
-use Rattle.c_program.specs.Statements.{MoreActions, DeclareOf, BlockOf, EvaluateOf, BreakOf, ContinueOf}
+use Rattle.c_program.specs.Statements.{ADeclaration, KeepOf, ClearOf, BeginOf, StoreOf, ZerosOf, AnAction}
+use Rattle.c_program.specs.Statements.{SomeActions, NoActions, MoreActions, DeclareOf, BlockOf, EvaluateOf, BreakOf, ContinueOf}
 use Rattle.c_program.specs.Statements.{ReturnOf, IfOf, IfElseOf, WhileOf, DoOf, ForOf}
 use Rattle.c_program.specs.Programs.{ARoutine}
 
@@ -21,12 +23,13 @@ abbrev pub arguments : SomeExpressions → ℕ
 arguments NoExpressions = 0
 arguments (MoreExpressions e es) = 1 + arguments es
 
--- where there are so many objects, and the function has so many parameters
-abbrev pub IsThere : (objects params : ℕ) → Variable → Type 0
-IsThere objects params (variables.Automatic n) = Unit {0}
-IsThere objects params (variables.Parameter n) = n < params
-IsThere objects params (variables.Global n) = n < objects
-IsThere objects params (variables.Static n) = n < objects
+-- where there are so many objects, and the function has so many parameters and bytes of memory locals
+abbrev pub IsThere : (objects params block : ℕ) → Variable → Type 0
+IsThere objects params block (variables.Automatic n) = Unit {0}
+IsThere objects params block (variables.Parameter n) = n < params
+IsThere objects params block (variables.Global n) = n < objects
+IsThere objects params block (variables.Static n) = n < objects
+IsThere objects params block (variables.InBlock o) = o < block
 
 -- a call's function is one of these or a service, and takes so many arguments
 pub record IsDefined (gs : List ARoutine) (n count : ℕ) : Type 0 where
@@ -39,13 +42,20 @@ Takes gs (callees.Defined n) count = IsDefined gs n count
 Takes gs callees.Putchar count = count ≡ 1
 Takes gs callees.Getchar count = count ≡ 0
 
+-- `a[i]` is `*(a + i)`
+abbrev pub IsAddition : AnExpression → Type 0
+IsAddition (ArithmeticOf op l r) = op ≡ ariths.Add
+IsAddition (AdvanceOf t l r) = Unit {0}
+IsAddition (AdvanceByOf t l r) = Unit {0}
+IsAddition e = ⊥
+
 -- which variables are there, and which calls are right
 module _ (there : Variable → Type 0) (takes : Callee → ℕ → Type 0) (literals : ℕ) where
   abbrev mutual
     pub StandsAt : APlace → Type 0
     StandsAt (VariableAt t v) = there v
     StandsAt (PointedBy t e) = Stands e
-    StandsAt (ElementBy t e) = Stands e
+    StandsAt (ElementBy t e) = IsAddition e × Stands e
 
     pub Stands : AnExpression → Type 0
     Stands (Constant n) = Unit {0}
@@ -83,11 +93,15 @@ module _ (there : Variable → Type 0) (takes : Callee → ℕ → Type 0) (lite
   StandsMaybe None = Unit {0}
   StandsMaybe (Some e) = Stands e
 
+  -- what is stored in the block lies there, its first byte and its last
   abbrev pub StandsDeclared : List ADeclaration → Type 0
   StandsDeclared [] = Unit {0}
   StandsDeclared (KeepOf object ∷ ds) = StandsDeclared ds
   StandsDeclared (ClearOf n ∷ ds) = StandsDeclared ds
   StandsDeclared (BeginOf n e ∷ ds) = Stands e × StandsDeclared ds
+  StandsDeclared (StoreOf t o e ∷ ds) = there (variables.InBlock o) × Stands e × StandsDeclared ds
+  StandsDeclared (ZerosOf t o count ∷ ds) =
+      there (variables.InBlock o) × there (variables.InBlock (o + count * size_of t - 1)) × StandsDeclared ds
 
   abbrev mutual
     pub StandsAct : AnAction → Type 0

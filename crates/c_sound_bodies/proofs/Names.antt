@@ -98,10 +98,11 @@ left_scope s r is =
     rw (first, last) refl
 
 -- with more locals and objects, and another local in scope
-pub known_more : (scope other : ℕ → Type 0) (locals parameters objects size many : ℕ) → ((n : ℕ) → scope n → other n) → locals ≤ size →
-    objects ≤ many → (v : Variable) → IsKnown scope locals parameters objects v → IsKnown other size parameters many v
-known_more scope other locals parameters objects size many f l o (variables.Automatic n) h = let below : n < locals = h.1 in
+pub known_more : (scope other : ℕ → Type 0) (locals parameters objects block size many room : ℕ) → ((n : ℕ) → scope n → other n) → locals ≤ size →
+    objects ≤ many → block ≤ room → (v : Variable) → IsKnown scope locals parameters objects block v → IsKnown other size parameters many room v
+known_more scope other locals parameters objects block size many room f l o k (variables.Automatic n) h = let below : n < locals = h.1 in
     (f n h.0, omega arith)
-known_more scope other locals parameters objects size many f l o (variables.Parameter n) h = h
-known_more scope other locals parameters objects size many f l o (variables.Global n) h = omega arith
-known_more scope other locals parameters objects size many f l o (variables.Static n) h = omega arith
+known_more scope other locals parameters objects block size many room f l o k (variables.Parameter n) h = h
+known_more scope other locals parameters objects block size many room f l o k (variables.Global n) h = omega arith
+known_more scope other locals parameters objects block size many room f l o k (variables.Static n) h = omega arith
+known_more scope other locals parameters objects block size many room f l o k (variables.InBlock x) h = ⊎_elim (λ full. inl (omega arith)) (λ lt. inr (omega arith)) h

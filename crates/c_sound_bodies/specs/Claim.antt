@@ -1,5 +1,5 @@
 -- What is claimed of the typing of function bodies: the typed statements fit and stand, and what is in scope stays in order.
-use Rattle.std.specs.Prelude.{◌≡◌, ℕ, ◌<◌, ◌≤◌, ◌^◌, Bool, false, List, ◌++◌, length, Some, slice_get, Ok}
+use Rattle.std.specs.Prelude.{◌≡◌, ◌⊎◌, ℕ, ◌<◌, ◌≤◌, ◌^◌, Bool, false, List, ◌++◌, length, Some, slice_get, Ok}
 use Rattle.std.specs.List.{AllByRecursion}
 use Rattle.tree_core.specs.declared.program.Object.{Object}
 use Rattle.tree_core.specs.Locals.{LocalsStand}
@@ -26,12 +26,14 @@ use Rattle.c_typed_definition.specs.State.{State}
 use Rattle.c_typed_definition.specs.Declarations.{type_object}
 use Rattle.c_typed_definition.specs.Statements.{type_items}
 
--- a variable of a function with so many locals, of which some are in scope, and so many parameters, where there are so many objects
-abbrev pub IsKnown : (ℕ → Type 0) → (locals parameters objects : ℕ) → Variable → Type 0
-IsKnown scope locals parameters objects (variables.Automatic n) = scope n × (n < locals)
-IsKnown scope locals parameters objects (variables.Parameter n) = n < parameters
-IsKnown scope locals parameters objects (variables.Global n) = n < objects
-IsKnown scope locals parameters objects (variables.Static n) = n < objects
+-- A variable of a function with so many locals, of which some are in scope, so many parameters and so many bytes of memory locals, where
+-- there are so many objects. Bytes past their limit are not counted, and the function is refused then.
+abbrev pub IsKnown : (ℕ → Type 0) → (locals parameters objects block : ℕ) → Variable → Type 0
+IsKnown scope locals parameters objects block (variables.Automatic n) = scope n × (n < locals)
+IsKnown scope locals parameters objects block (variables.Parameter n) = n < parameters
+IsKnown scope locals parameters objects block (variables.Global n) = n < objects
+IsKnown scope locals parameters objects block (variables.Static n) = n < objects
+IsKnown scope locals parameters objects block (variables.InBlock o) = (262144 < block) ⊎ (o < block)
 
 -- what a name stands for, where it is a variable, or an array, whose size is a longword
 abbrev pub OfVariable : (Variable → Type 0) → Entry → Type 0
@@ -53,7 +55,7 @@ pub record ScopeOf (known : Variable → Type 0) (s : Scope) : Type 0 where
 
 -- each variable that is in scope is there, and literals take room
 pub record InOrder (scope : ℕ → Type 0) (parameters : ℕ) (s : State) : Type 0 where
-  pub names : ScopeOf (IsKnown scope (length s.locals) parameters (length s.area.objects)) s.scope
+  pub names : ScopeOf (IsKnown scope (length s.locals) parameters (length s.area.objects) s.room.length) s.scope
   pub laying : s.area.measuring ≡ false
 
 -- objects are added to an area, and literals take as much room as before
@@ -65,6 +67,7 @@ pub record Extends (a b : Area) : Type 0 where
 pub record Grows (s r : State) : Type 0 where
   pub locals : length s.locals ≤ length r.locals
   pub registers : LocalsStand (length s.locals) s.registers → LocalsStand (length r.locals) r.registers
+  pub room : s.room.length ≤ r.room.length
   pub area : Extends s.area r.area
   pub outer : r.scope.outer ≡ s.scope.outer
 
@@ -81,8 +84,8 @@ AreDefined signatures gs = (n : ℕ) (s : Signature) → slice_get signatures n 
 pub record BodyIsSound (signatures : List Signature) (looping : Bool) (parameters : ℕ) (row : SomeItems) (s : State)
     (acts : SomeActions) (r : State) : Type 0 where
   pub fits : (size : ℕ) → length r.locals ≤ size → ItemsOf IsToken row → FitsActs size no_local looping acts
-  pub stands : (gs : List ARoutine) (objects : ℕ) → length r.area.objects ≤ objects → AreDefined signatures gs →
-      StandsActs (IsThere objects parameters) (Takes gs) objects acts
+  pub stands : (gs : List ARoutine) (objects block : ℕ) → length r.area.objects ≤ objects → r.room.length ≤ block → block ≤ 262144 →
+      AreDefined signatures gs → StandsActs (IsThere objects parameters block) (Takes gs) objects acts
   pub order : InOrder (behind_acts no_local acts) parameters r
   pub grows : Grows s r
 

@@ -27,8 +27,9 @@ use Rattle.c_typed_expressions.specs.Phrases.{brackets_in, params_in}
 use Rattle.c_typed_expressions.specs.Expressions.{written}
 use Rattle.c_typed_definition.specs.State.{State, with_area, named_state}
 use Rattle.c_typed_definition.specs.Signatures.{parameter_type}
-use Rattle.c_typed_definition.specs.Headings.{Text, with_parameter, with_state, with_declared, with_body, body_of}
-use Rattle.c_typed_definition.specs.Headings.{entered_function, left_function}
+use Rattle.c_typed_definition.specs.Headings.{Text, with_parameter, with_state, with_declared, with_body}
+use Rattle.c_typed_definition.specs.Bodies.{body_of}
+use Rattle.c_typed_definition.specs.Bodies.{entered_function, left_function}
 use Rattle.c_typed_law.specs.Texts.{IsParameterLength, AreParameters, IsBody, IsFunction, AreGlobals, IsExternalBy}
 use Rattle.c_typed_law.specs.Texts.{AreExternals}
 use Rattle.c_typed_law.proofs.Statements.{items_mean}

@@ -20,7 +20,8 @@ use Rattle.c_sound.specs.Stands.{IsDefined, Takes}
 use Rattle.c_typed_definition.specs.State.{State}
 use Rattle.c_typed_definition.specs.Signatures.{signature_of, services, service_names, Known, with_function, known_by}
 use Rattle.c_typed_definition.specs.Signatures.{known_with, known_from}
-use Rattle.c_typed_definition.specs.Headings.{Text, is_below, with_declared, body_of}
+use Rattle.c_typed_definition.specs.Headings.{Text, is_below, with_declared}
+use Rattle.c_typed_definition.specs.Bodies.{body_of}
 use Rattle.c_typed_law.specs.Texts.{IsBody, IsFunction, IsExternalBy, AreExternals}
 use Rattle.c_typed_law.proofs.Declared.{declared_bodies}
 use Rattle.c_sound_bodies.specs.Claim.{AreDefined}

@@ -23,8 +23,9 @@ use Rattle.c_typed_expressions.specs.Phrases.{brackets_in, params_in}
 use Rattle.c_typed_expressions.specs.Expressions.{written}
 use Rattle.c_typed_definition.specs.State.{State, with_area}
 use Rattle.c_typed_definition.specs.Signatures.{parameter_type}
-use Rattle.c_typed_definition.specs.Headings.{Text, with_declared, body_of}
-use Rattle.c_typed_definition.specs.Headings.{entered_function}
+use Rattle.c_typed_definition.specs.Headings.{Text, with_declared}
+use Rattle.c_typed_definition.specs.Bodies.{body_of}
+use Rattle.c_typed_definition.specs.Bodies.{entered_function}
 use Rattle.c_typed_definition.specs.Texts.{empty_text}
 use Rattle.c_typed_law.specs.Headings.{IsEarlier}
 use Rattle.c_typed_law.specs.Texts.{IsParameterLength, AreParameters, IsBody, IsFunction, AreGlobals, IsExternalBy}

@@ -25,7 +25,8 @@ use Rattle.c_typed_expressions.specs.Expressions.{written}
 use Rattle.c_typed_definition.specs.State.{State, with_area, with_local, with_register, named_state}
 use Rattle.c_typed_definition.specs.Statements.{entered, left}
 use Rattle.c_typed_definition.specs.Signatures.{parameter_type}
-use Rattle.c_typed_definition.specs.Headings.{Text, with_parameter, with_declared, entered_function, left_function}
+use Rattle.c_typed_definition.specs.Headings.{Text, with_parameter, with_declared}
+use Rattle.c_typed_definition.specs.Bodies.{entered_function, left_function}
 use Rattle.c_typed_law.specs.Locals.{IsBegun, IsLocal, AreLocals}
 use Rattle.c_typed_law.specs.Statements.{IsFull, IsCondition, IsPart, IsTurn, IsReturn, IsStatement, AreItems}
 use Rattle.c_typed_law.specs.Texts.{IsParameterLength, AreParameters, IsBody, IsFunction, AreGlobals, IsExternalBy}

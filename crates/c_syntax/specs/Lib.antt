@@ -3,3 +3,5 @@ pub mod Reads
 pub mod Stands
 pub mod StatementLeads
 pub mod Answers
+pub mod Ends
+pub mod Views

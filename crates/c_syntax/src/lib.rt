@@ -2,6 +2,7 @@
 #![tactic(auto)]
 
 mod declarations;
+mod ends;
 mod expressions;
 pub mod fault;
 mod level;

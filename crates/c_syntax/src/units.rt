@@ -19,6 +19,7 @@ ghost use Rattle.c_phrases.specs.Fronts.{IsNot};
 ghost use Rattle.c_tokens.specs.Grammar.{IsEnded};
 ghost use Rattle.c_syntax_goals.specs.Refusals.{IsPlace};
 ghost use Rattle.c_syntax.specs.Leads.{Fails, Leads};
+ghost use Rattle.c_syntax.specs.Ends.{body_ends};
 ghost use Rattle.c_syntax.specs.Answers.{IsThat, Refused, HasFault, IsOnlyFault};
 ghost use Rattle.c_syntax.specs.declared.fault.SyntaxFault.{SyntaxFault};
 ghost use Rattle.c_phrases.specs.Units.{AUnit, AnExternal};
@@ -29,6 +30,7 @@ ghost use Rattle.c_syntax.specs.Stands.{ReadsExternals};
 ghost use Rattle.c_syntax.specs.StatementLeads.{NoVoidAlone, HasToken};
 
 use crate::declarations::{declarator_behind, declarators, length_part};
+use crate::ends::body_ends;
 use crate::expressions::take_name;
 use crate::fault::SyntaxFault;
 use crate::level::Level;
@@ -232,6 +234,7 @@ fn nothing_behind(tokens: &[Spanned]) -> Result<(), Fault>
 /// `unit`
 fn unit(alloc: Global, tokens: &[Spanned]) -> Result<Ast, Fault>
     ensures read { IfOk result (λ u. IsUnit (seen tokens.now) (unit_of u)) }
+    ensures ends { IfOk result (λ u. u.body_ends ≡ body_ends tokens.now) }
     ensures fails { IfErr result (Fails (Want Whole) 0 (seen tokens.now)) }
 {
     let mut externals = Vec::new(alloc);
@@ -239,7 +242,11 @@ fn unit(alloc: Global, tokens: &[Spanned]) -> Result<Ast, Fault>
     loop {
         if let Some((end, behind)) = take_end(rest) {
             nothing_behind(behind)?;
-            return Ok(Ast { externals, end });
+            return Ok(Ast {
+                externals,
+                body_ends: body_ends(alloc, tokens)?,
+                end,
+            });
         }
         let (next, behind) = external(alloc, rest)?;
         externals.push(next)?;
@@ -264,6 +271,7 @@ fn offset_of(tokens: &[Spanned], left: usize) -> u32
 /// the 201st level.
 pub fn parse(alloc: Global, tokens: &[Spanned]) -> Result<Ast, SyntaxFault>
     ensures found { IfOk result (λ u. IsUnit (seen tokens.now) (unit_of u)) }
+    ensures ends { IfOk result (λ u. u.body_ends ≡ body_ends tokens.now) }
     ensures alone { (u : AUnit) → IsUnit (seen tokens.now) u → IfOk result (λ v. unit_of v ≡ u) }
     ensures only { (u : AUnit) → IsUnit (seen tokens.now) u → IsThat result u }
     ensures refused { IfErr result (Refused tokens.now) }

@@ -10,6 +10,7 @@ use Rattle.c_tokens.specs.Places.{line_of, column_of}
 use Rattle.c_phrases.specs.Classes.{seen}
 use Rattle.c_phrases.specs.Units.{AUnit}
 use Rattle.c_phrases.specs.Grammar.{IsUnit}
+use Rattle.c_syntax.specs.Ends.{body_ends}
 use Rattle.c_syntax_goals.specs.Refusals.{NotHereAt, TooDeepAt}
 use Rattle.c_types.specs.declared.fault.TypeKind.{TypeKind}
 use Rattle.c_types.specs.declared.fault.TypeKind.TheVariants as types
@@ -22,17 +23,19 @@ use Rattle.c_typed.specs.declared.source.SourceFault.TheVariants as faults
 use Rattle.c_typed_check.specs.declared.program.Program.{Program}
 use Rattle.c_typed_check.specs.Views.{typed}
 
--- the bytes are the tokens of this unit
-pub record Spells (bytes : List ℕ) (unit : AUnit) : Type 0 where
+-- the bytes are the tokens of this unit, and the bodies of its functions end there
+pub record Spells (bytes : List ℕ) (unit : AUnit) (ends : List ℕ) : Type 0 where
   pub list : List Spanned
   pub tokens : Tokens 0 bytes list
   pub phrases : IsUnit (seen list) unit
+  pub bodies : ends ≡ body_ends list
 
 -- the bytes are the source of this program: the tokens of a unit that is well typed, as this program
 pub record Reads (bytes : List ℕ) (program : AProgram) : Type 0 where
   pub unit : AUnit
-  pub spells : Spells bytes unit
-  pub typed : IsText unit.externals program
+  pub ends : List ℕ
+  pub spells : Spells bytes unit ends
+  pub typed : IsText unit.externals ends unit.end program
 
 -- the line and the column of an offset
 abbrev pub place_at : List ℕ → ℕ → Place
@@ -57,10 +60,11 @@ pub record HasPhraseFault (bytes : List ℕ) (place : Place) (kind : SourceKind)
 -- the bytes are the tokens of a unit whose first fault of types stands there
 pub record HasTypeFault (bytes : List ℕ) (place : Place) (kind : SourceKind) : Type 0 where
   pub unit : AUnit
-  pub spells : Spells bytes unit
+  pub ends : List ℕ
+  pub spells : Spells bytes unit ends
   pub offset : ℕ
   pub fault : TypeKind
-  pub first : TextFault unit.externals unit.end (record { place = offset; kind = fault })
+  pub first : TextFault unit.externals ends unit.end (record { place = offset; kind = fault })
   pub kind_is : kind ≡ kinds.Types fault
   pub place_is : place ≡ place_at bytes offset
 
@@ -97,7 +101,6 @@ kind_name kinds.NotHere = codes "NotHere"
 kind_name kinds.TooDeep = codes "TooDeep"
 kind_name (kinds.Types types.UnknownName) = codes "UnknownName"
 kind_name (kinds.Types types.Twice) = codes "Twice"
-kind_name (kinds.Types types.LeftOut) = codes "LeftOut"
 kind_name (kinds.Types types.BadCall) = codes "BadCall"
 kind_name (kinds.Types types.BadJump) = codes "BadJump"
 kind_name (kinds.Types types.BadConst) = codes "BadConst"

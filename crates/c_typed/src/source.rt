@@ -46,7 +46,6 @@ impl SourceKind {
             SourceKind::TooDeep => "TooDeep",
             SourceKind::Types(TypeKind::UnknownName) => "UnknownName",
             SourceKind::Types(TypeKind::Twice) => "Twice",
-            SourceKind::Types(TypeKind::LeftOut) => "LeftOut",
             SourceKind::Types(TypeKind::BadCall) => "BadCall",
             SourceKind::Types(TypeKind::BadJump) => "BadJump",
             SourceKind::Types(TypeKind::BadConst) => "BadConst",

@@ -12,7 +12,8 @@ ghost use Rattle.c_typed_statements.specs.Views.{text};
 ghost use Rattle.c_typed_expressions.specs.Functions.{by_functions};
 ghost use Rattle.c_typed_definition.specs.Signatures.{services, service_names, known, known_with};
 ghost use Rattle.c_typed_definition.specs.Texts.{type_globals, type_external, type_externals, type_text, empty_text};
-ghost use Rattle.c_typed_definition.specs.Texts.{is_main, main_of};
+ghost use Rattle.c_typed_definition.specs.Texts.{is_main, main_of, any_block, stacked_if};
+ghost use Rattle.c_typed_scope.specs.Views.{area};
 ghost use Rattle.c_typed_check.specs.Laid.{AreLaid};
 ghost use Rattle.c_typed_check.specs.Typed.{IsTypedUnit, need_at};
 ghost use Rattle.c_typed_check.specs.Functions.{functions_of};
@@ -21,11 +22,13 @@ use c_phrases::Ast;
 use c_phrases::operator::Spec;
 use c_phrases::tree::{Declarator, Declared, External};
 use c_program::Routine;
+use c_typed_addressed::Addressed;
 use c_typed_expressions::Functions;
-use c_typed_objects::{Environment, object};
-use c_typed_scope::{Block, Blocks, Data, Entry, Signature};
+use c_typed_objects::{Environment, Room, object};
+use c_typed_scope::{Block, Blocks, Data, Entry, Signature, lay_stack};
 use c_typed_statements::{Builder, function, signature};
 use c_types::{CType, Integer, TypeFault, TypeKind, Types};
+use gg_base::ListOf;
 use gg_base::limits::AREA_START;
 use std::alloc::{AllocError, Global};
 use tree_core::{Object, Objects};
@@ -166,8 +169,8 @@ fn externals(
 }
 
 // Nothing is read yet: the services are declared beforehand, and the data area is empty.
-fn begin(alloc: Global) -> Result<Builder, TypeFault>
-    ensures { Gives (λ b. text b) result (Ok empty_text) }
+fn begin(alloc: Global, ends: &ListOf<u32>) -> Result<Builder, TypeFault>
+    ensures { Gives (λ b. text b) result (Ok (empty_text ends.now)) }
 {
     Ok(Builder {
         environment: Environment {
@@ -177,6 +180,7 @@ fn begin(alloc: Global) -> Result<Builder, TypeFault>
             },
             locals: Vec::new(alloc),
             registers: Vec::new(alloc),
+            room: Room::new(alloc, Addressed::new(alloc)),
             layout: Data {
                 objects: Vec::new(alloc),
                 end: AREA_START,
@@ -187,6 +191,7 @@ fn begin(alloc: Global) -> Result<Builder, TypeFault>
         },
         declared: services(alloc)?,
         routines: Vec::new(alloc),
+        ends: ListOf::from_vec(Vec::from_slice(alloc, ends.as_slice())?),
     })
 }
 
@@ -205,20 +210,45 @@ fn main_number(routines: &[Routine]) -> Option<usize>
     routines.iter().position(is_main)
 }
 
+// Some function has memory locals.
+fn any_block(routines: &[Routine]) -> bool
+    ensures { result ≡ any_block (map routine routines.now) }
+{
+    routines.iter().any(|r| r.block > 0)
+}
+
+// Then the second stack lies behind the other objects.
+fn lay_if(alloc: Global, any: bool, at: u32, layout: &mut Data) -> Result<(), TypeFault>
+    ensures { OnlyTurns result (area layout.new) (stacked_if any at (area layout.old)) }
+{
+    if any {
+        lay_stack(alloc, layout, at)
+    } else {
+        Ok(())
+    }
+}
+
 // The typed program of a unit, or its first fault, by the definition.
 #[tactic(auto, using(crate::proofs::Texts::no_fault))]
 fn typed_unit(alloc: Global, ast: &Ast) -> Result<Program, TypeFault>
     requires { HasTokens (unit_of ast.now) }
-    ensures computed { Gives (λ p. program p.held) result (type_text (unit_of ast.now).externals (unit_of ast.now).end) }
+    ensures computed { Gives (λ p. program p.held) result (type_text (unit_of ast.now).externals ast.now.body_ends (unit_of ast.now).end) }
 {
     let functions = known(alloc, &ast.externals)?;
-    let mut builder = begin(alloc)?;
+    let mut builder = begin(alloc, &ast.body_ends)?;
     externals(alloc, &functions, &ast.externals, &mut builder)?;
     let Builder {
         environment,
         routines,
         ..
     } = builder;
+    let mut environment = environment;
+    lay_if(
+        alloc,
+        any_block(&routines),
+        ast.end,
+        &mut environment.layout,
+    )?;
     match main_number(&routines) {
         None => Err(TypeFault::At {
             place: ast.end,
@@ -239,11 +269,11 @@ fn typed_unit(alloc: Global, ast: &Ast) -> Result<Program, TypeFault>
 /// and its names, numbers and strings are tokens of the grammar.
 pub fn check(alloc: Global, ast: &Ast) -> Result<Program, TypeFault>
     requires { HasTokens (unit_of ast.now) }
-    ensures computed { Gives (λ p. program p.held) result (type_text (unit_of ast.now).externals (unit_of ast.now).end) }
-    ensures found { IfOk result (λ p. IsText (unit_of ast.now).externals (program p.held)) }
-    ensures only { (p : AProgram) → IsText (unit_of ast.now).externals p → OnlyAnswer (λ p. program p.held) result p }
-    ensures refused { IfErr result (λ e. Refused (TextFault (unit_of ast.now).externals (unit_of ast.now).end) e) }
-    ensures first { (f : Fault) → TextFault (unit_of ast.now).externals (unit_of ast.now).end f → OnlyFault result f }
+    ensures computed { Gives (λ p. program p.held) result (type_text (unit_of ast.now).externals ast.now.body_ends (unit_of ast.now).end) }
+    ensures found { IfOk result (λ p. IsText (unit_of ast.now).externals ast.now.body_ends (unit_of ast.now).end (program p.held)) }
+    ensures only { (p : AProgram) → IsText (unit_of ast.now).externals ast.now.body_ends (unit_of ast.now).end p → OnlyAnswer (λ p. program p.held) result p }
+    ensures refused { IfErr result (λ e. Refused (TextFault (unit_of ast.now).externals ast.now.body_ends (unit_of ast.now).end) e) }
+    ensures first { (f : Fault) → TextFault (unit_of ast.now).externals ast.now.body_ends (unit_of ast.now).end f → OnlyFault result f }
 {
     typed_unit(alloc, ast)
 }

@@ -1,28 +1,23 @@
--- The declarations of variables: their lengths, their objects and their initialisers.
+-- The declarations of variables that are objects: their lengths, their places and their initialisers.
 -- This is how the code computes it; the rules of typing are the relations of c_typed_law.
-use Rattle.std.specs.Prelude.{ℕ, ◌*◌, Bool, true, false, List, [], ◌∷◌, ◌++◌, length, Option, Some, None, Result, Ok}
+use Rattle.std.specs.Prelude.{ℕ, ◌*◌, Bool, true, false, List, [], Option, Some, None, Result, Ok}
 use Rattle.c_phrases.specs.declared.operator.Spec.{Spec}
-use Rattle.c_phrases.specs.declared.operator.Storage.{Storage}
-use Rattle.c_phrases.specs.declared.operator.Storage.TheVariants as storages
 use Rattle.c_types.specs.declared.types.CType.{CType}
 use Rattle.c_types.specs.Answers.{Fault, ◌>>=◌}
 use Rattle.c_types.specs.Types.{size_of, pointer_to}
-use Rattle.c_typed_operators.specs.Stores.{given}
 use Rattle.c_typed_scope.specs.declared.entry.Entry.{Entry}
 use Rattle.c_typed_scope.specs.declared.entry.Entry.TheVariants as entries
 use Rattle.c_typed_scope.specs.declared.entry.Signature.{Signature}
 use Rattle.c_phrases.specs.Phrases.{AnExp}
 use Rattle.c_phrases.specs.Units.{AnInit, value, elements, ADeclarator}
-use Rattle.c_typed_expressions.specs.Phrases.{first, init_in, brackets_in}
+use Rattle.c_typed_expressions.specs.Phrases.{init_in, brackets_in}
 use Rattle.c_typed_scope.specs.Scopes.{Scope, with_name}
 use Rattle.c_typed_scope.specs.Layout.{Area}
 use Rattle.c_typed_expressions.specs.Expressions.{written, type_exp}
 use Rattle.c_typed_scope.specs.Contents.{Filled, filled_to, filled}
 use Rattle.c_typed_definition.specs.Initialisers.{type_length, type_element, type_elements}
-use Rattle.c_typed_definition.specs.Forms.{text_of, given_count, own_length, form_of, many, automatic_form}
-use Rattle.c_program.specs.Statements.{ADeclaration, KeepOf, ClearOf, BeginOf}
-use Rattle.c_typed_definition.specs.State.{State, with_area, measuring, variable_of, array_entry, laid, text_contents}
-use Rattle.c_typed_definition.specs.State.{with_local, with_register}
+use Rattle.c_typed_definition.specs.Forms.{text_of, given_count, own_length, form_of, many}
+use Rattle.c_typed_definition.specs.State.{State, with_area, named_state, measuring, variable_of, array_entry, laid, text_contents}
 
 module _ (names : List (List ℕ × Entry)) (signatures : List Signature) where
   -- The number of elements. While it is measured, its literals take no room: they lie behind the array.
@@ -50,7 +45,7 @@ module _ (names : List (List ℕ × Entry)) (signatures : List Signature) where
   unfoldable pub object_with : ℕ → ℕ → CType → Bool → ADeclarator → Entry → State → Result (ℕ × State) Fault
   object_with n size t is_array d e s =
       finished n size t is_array (init_in d.init) (with_name d.name e s.scope) s.area >>= λ a.
-      Ok (n, record { scope = with_name d.name e s.scope; locals = s.locals; registers = s.registers; area = a })
+      Ok (n, with_area a (named_state d.name e s))
 
   -- the object of a variable that is no array
   unfoldable pub plain_object : Bool → CType → ADeclarator → State → Result (ℕ × State) Fault
@@ -78,24 +73,3 @@ module _ (names : List (List ℕ × Entry)) (signatures : List Signature) where
   unfoldable pub type_object : Bool → Spec → ADeclarator → State → Result (ℕ × State) Fault
   type_object is_static spec d s =
       form_of d (written spec d.stars) s.scope >>= λ ok. object_by is_static (written spec d.stars) d (brackets_in d.length) s
-
-  -- the value that an automatic local begins with
-  abbrev pub begun : CType → ℕ → Option AnInit → State → Result (ADeclaration × State) Fault
-  begun t n None s = Ok (ClearOf n, s)
-  begun t n (Some (elements es comma)) s = Ok (ClearOf n, s)
-  begun t n (Some (value e)) s = type_exp names signatures s.scope e s.area >>= λ x. given t (first e) x.0 >>= λ y.
-      Ok (BeginOf n y, with_area x.1 s)
-
-  unfoldable pub type_automatic : Spec → ADeclarator → State → Result (ADeclaration × State) Fault
-  type_automatic spec d s = automatic_form d (written spec d.stars) s.scope >>= λ ok.
-      begun (written spec d.stars) (length s.locals) (init_in d.init) (with_local (written spec d.stars) d.name s)
-
-  abbrev pub type_local : Storage → Spec → ADeclarator → State → Result (ADeclaration × State) Fault
-  type_local storages.Automatic spec d s = type_automatic spec d s
-  type_local (storages.Register at) spec d s = type_automatic spec d (with_register s)
-  type_local (storages.Static at) spec d s = type_object true spec d s >>= λ r. Ok (KeepOf r.0, r.1)
-
-  -- the declarators of one declaration, one after another, behind those that are done
-  abbrev pub type_locals : Storage → Spec → List ADeclarator → List ADeclaration → State → Result (List ADeclaration × State) Fault
-  type_locals storage spec [] done s = Ok (done, s)
-  type_locals storage spec (d ∷ ds) done s = type_local storage spec d s >>= λ r. type_locals storage spec ds (done ++ r.0 ∷ []) r.1

@@ -1,9 +1,9 @@
 -- What the form of a declarator tells by itself.
 -- This is how the code computes it; the rules of typing are the relations of c_typed_law.
-use Rattle.std.specs.Prelude.{not, ◌≡◌, ℕ, ◌+◌, ◌==◌, nat_lt, Bool, true, false, List, length, Option, Some, None}
+use Rattle.std.specs.Prelude.{not, ℕ, ◌+◌, ◌==◌, ◌&&◌, is_some, nat_lt, Bool, true, false, List, length, Option, Some, None}
 use Rattle.std.specs.Prelude.{Result, Ok, if◌then◌else◌}
 use Rattle.c_types.specs.declared.types.CType.{CType}
-use Rattle.c_types.specs.declared.fault.TypeKind.TheVariants.{Twice, LeftOut, BadInit, BadType}
+use Rattle.c_types.specs.declared.fault.TypeKind.TheVariants.{Twice, BadInit, BadType}
 use Rattle.c_types.specs.Answers.{Fault, bad}
 use Rattle.c_types.specs.Types.{size_of, is_scalar}
 use Rattle.c_phrases.specs.Phrases.{AnExp, str, paren}
@@ -57,12 +57,16 @@ form_of d t s =
     else if form_fits t (brackets_in d.length) (init_in d.init) then (if is_scalar t then Ok tt else bad d.at BadType)
     else bad d.at BadInit
 
-abbrev pub automatic_by : Option (Option AnExp) → ADeclarator → CType → Result (Unit {0}) Fault
-automatic_by (Some l) d t = bad d.at LeftOut
-automatic_by None d t = if form_fits t None (init_in d.init) then (if is_scalar t then Ok tt else bad d.at BadType) else bad d.at BadInit
+-- no array is declared `register`
+abbrev pub is_automatic : Bool → Option (Option AnExp) → CType → Bool
+is_automatic is_register l t = is_scalar t && not (is_register && is_some l)
 
-unfoldable pub automatic_form : ADeclarator → CType → Scope → Result (Unit {0}) Fault
-automatic_form d t s = if is_taken s d.name then bad d.at Twice else automatic_by (brackets_in d.length) d t
+unfoldable pub automatic_form : Bool → ADeclarator → CType → Scope → Result (Unit {0}) Fault
+automatic_form is_register d t s =
+    if is_taken s d.name then bad d.at Twice
+    else if form_fits t (brackets_in d.length) (init_in d.init)
+    then (if is_automatic is_register (brackets_in d.length) t then Ok tt else bad d.at BadType)
+    else bad d.at BadInit
 
 -- no more elements than the array has
 unfoldable pub many : ℕ → ℕ → ℕ → Result ℕ Fault

@@ -1,7 +1,7 @@
 -- The heading of a function: its earlier declaration, its result and its parameters.
 -- This is how the code computes it; the rules of typing are the relations of c_typed_law.
 use Rattle.std.specs.Prelude.{ℕ, nat_lt, Bool, true, false, ◌&&◌, List, [], ◌∷◌}
-use Rattle.std.specs.Prelude.{◌++◌, length, map, slice_get, Option, Some, None, Result, Ok, if◌then◌else◌}
+use Rattle.std.specs.Prelude.{◌++◌, length, slice_get, Option, Some, None, Result, Ok, if◌then◌else◌}
 use Rattle.c_phrases.specs.declared.operator.Spec.{Spec}
 use Rattle.c_phrases.specs.declared.operator.Spec.TheVariants as specs
 use Rattle.c_phrases.specs.declared.tree.Named.{Named}
@@ -10,26 +10,25 @@ use Rattle.c_types.specs.declared.types.Integer.{Integer}
 use Rattle.c_types.specs.declared.typed.Variable.TheVariants as variables
 use Rattle.c_types.specs.declared.fault.TypeKind.TheVariants.{Twice, BadType}
 use Rattle.c_types.specs.Answers.{Fault, bad}
-use Rattle.c_types.specs.Types.{same_type}
-use Rattle.c_types.specs.Types.{is_scalar}
+use Rattle.c_types.specs.Types.{same_type, is_scalar, size_of}
 use Rattle.c_typed_scope.specs.declared.entry.Entry.{Entry}
 use Rattle.c_typed_scope.specs.declared.entry.Entry.TheVariants as entries
 use Rattle.c_typed_scope.specs.declared.entry.Signature.{Signature}
 use Rattle.c_phrases.specs.Units.{AParam, AFunction}
-use Rattle.c_typed_expressions.specs.Phrases.{params_in}
-use Rattle.c_typed_scope.specs.Scopes.{Scope, is_taken, enter, leave}
+use Rattle.c_typed_scope.specs.Scopes.{Scope, is_taken}
 use Rattle.c_typed_expressions.specs.Expressions.{written}
-use Rattle.c_typed_definition.specs.State.{State, named_state}
-use Rattle.c_program.specs.Statements.{SomeActions}
+use Rattle.c_typed_definition.specs.Rooms.{is_parameter_addressed, offset_in, with_parameter_in}
+use Rattle.c_typed_definition.specs.State.{State, named_state, with_room}
 use Rattle.c_program.specs.Programs.{ARoutine}
-use Rattle.c_program.specs.Need.{need_of}
-use Rattle.c_typed_definition.specs.Signatures.{parameter_type, signature_of}
+use Rattle.c_typed_definition.specs.Signatures.{signature_of}
 
--- the text so far: what is in scope, the functions that were declared, and those that are typed
+-- the text so far: what is in scope, the functions that were declared, and those that are typed; and the offsets where the bodies of the
+-- text's functions end, in order
 pub record Text : Type 0 where
   pub state : State
   pub declared : List Signature
   pub bodies : List ARoutine
+  pub ends : List ℕ
 
 abbrev pub same_types : List CType → List CType → Bool
 same_types [] [] = true
@@ -81,7 +80,11 @@ parameter_form None defines at p s = if is_scalar (written p.spec p.stars) then 
 
 abbrev pub with_parameter : Option Named → CType → ℕ → State → State
 with_parameter None t n s = s
-with_parameter (Some name) t n s = named_state name.name (entries.Variable t (variables.Parameter n)) s
+with_parameter (Some name) t n s =
+    if is_parameter_addressed n s.room
+    then with_room (with_parameter_in t n s.room)
+    (named_state name.name (entries.Variable t (variables.InBlock (offset_in (size_of t) s.room))) s)
+    else named_state name.name (entries.Variable t (variables.Parameter n)) s
 
 -- at most 32 parameters, and the types of the earlier declaration
 abbrev pub agrees_by : Option Signature → Signature → ℕ → Result (Unit {0}) Fault
@@ -96,7 +99,7 @@ unfoldable pub agrees : Option ℕ → List Signature → Signature → ℕ → 
 agrees earlier declared mine at = if nat_lt 32 (length mine.parameters) then bad at BadType else agrees_with earlier declared mine at
 
 abbrev pub with_state : State → Text → Text
-with_state s t = record { state = s; declared = t.declared; bodies = t.bodies }
+with_state s t = record { state = s; declared = t.declared; bodies = t.bodies; ends = t.ends }
 
 -- the function's name is in scope from here on
 abbrev pub with_declared : Option ℕ → Spec → AFunction → Text → Text
@@ -106,25 +109,8 @@ with_declared None spec f t = record {
   declared =
       t.declared ++ signature_of spec f ∷ [];
   bodies = t.bodies;
-}
-
-abbrev pub body_of : Spec → AFunction → List CType → List ℕ → SomeActions → ARoutine
-body_of spec f locals registers body = record {
-  name = f.name;
-  result = written spec f.stars;
-  parameters =
-      map parameter_type (params_in f.params);
-  locals = locals;
-  registers = registers;
-  body = body;
-  need = need_of locals body;
+  ends = t.ends;
 }
 
 abbrev pub with_body : ARoutine → Text → Text
-with_body b t = record { state = t.state; declared = t.declared; bodies = t.bodies ++ b ∷ [] }
-
-abbrev pub entered_function : State → State
-entered_function s = record { scope = enter s.scope; locals = []; registers = []; area = s.area }
-
-abbrev pub left_function : State → State
-left_function s = record { scope = leave s.scope; locals = []; registers = []; area = s.area }
+with_body b t = record { state = t.state; declared = t.declared; bodies = t.bodies ++ b ∷ []; ends = t.ends }

@@ -2,9 +2,12 @@
 -- docs/READING.md.
 pub mod Initialisers
 pub mod Forms
+pub mod Rooms
 pub mod State
 pub mod Declarations
+pub mod Automatics
 pub mod Statements
 pub mod Signatures
 pub mod Headings
+pub mod Bodies
 pub mod Texts

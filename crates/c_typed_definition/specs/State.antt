@@ -13,20 +13,25 @@ use Rattle.c_typed_scope.specs.declared.entry.Entry.TheVariants as entries
 use Rattle.c_typed_scope.specs.Scopes.{Scope, with_name}
 use Rattle.c_typed_scope.specs.Layout.{Area, placed}
 use Rattle.c_typed_scope.specs.Contents.{Filled}
+use Rattle.c_typed_definition.specs.Rooms.{Room, one_declared, taking}
 
--- what is in scope and laid out while a function is read; of its locals so far the types, and the numbers of those that are declared
--- `register`
+-- what is in scope and laid out while a function is read; of its locals so far that are no memory locals the types, and the numbers of
+-- those that are declared `register`; and the block of its memory locals
 pub record State : Type 0 where
   pub scope : Scope
   pub locals : List CType
   pub registers : List ℕ
+  pub room : Room
   pub area : Area
 
 abbrev pub with_area : Area → State → State
-with_area a s = record { scope = s.scope; locals = s.locals; registers = s.registers; area = a }
+with_area a s = record { scope = s.scope; locals = s.locals; registers = s.registers; room = s.room; area = a }
 
 abbrev pub named_state : List ℕ → Entry → State → State
-named_state n e s = record { scope = with_name n e s.scope; locals = s.locals; registers = s.registers; area = s.area }
+named_state n e s = record { scope = with_name n e s.scope; locals = s.locals; registers = s.registers; room = s.room; area = s.area }
+
+abbrev pub with_room : Room → State → State
+with_room r s = record { scope = s.scope; locals = s.locals; registers = s.registers; room = r; area = s.area }
 
 abbrev pub measuring : Bool → Area → Area
 measuring b a = record { objects = a.objects; end = a.end; literals = a.literals; statics = a.statics; measuring = b }
@@ -66,9 +71,20 @@ with_local t n s = record {
   locals =
       s.locals ++ t ∷ [];
   registers = s.registers;
+  room = one_declared s.room;
   area = s.area;
 }
 
+-- a memory local of so many bytes is in scope
+abbrev pub with_memory : ℕ → ℕ → List ℕ → Entry → State → State
+with_memory align size n e s = with_room (one_declared (taking align size s.room)) (named_state n e s)
+
 -- the next local is declared `register`
 abbrev pub with_register : State → State
-with_register s = record { scope = s.scope; locals = s.locals; registers = s.registers ++ length s.locals ∷ []; area = s.area }
+with_register s = record {
+  scope = s.scope;
+  locals = s.locals;
+  registers = s.registers ++ length s.locals ∷ [];
+  room = s.room;
+  area = s.area;
+}

@@ -1,8 +1,8 @@
 -- The types of statements. What a declaration declares is in scope up to the end of its block.
 -- This is how the code computes it; the rules of typing are the relations of c_typed_law.
-use Rattle.std.specs.Prelude.{◌≡◌, ℕ, ◌+◌, Bool, true, false, List, [], ◌∷◌, Option, Some, None, Result, Ok, if◌then◌else◌}
+use Rattle.std.specs.Prelude.{ℕ, Bool, true, false, List, [], Option, Some, None, Result, Ok}
 use Rattle.c_types.specs.declared.types.CType.{CType}
-use Rattle.c_types.specs.declared.fault.TypeKind.TheVariants.{BadJump, BadType}
+use Rattle.c_types.specs.declared.fault.TypeKind.TheVariants.{BadJump}
 use Rattle.c_types.specs.Answers.{Fault, bad, ◌>>=◌}
 use Rattle.c_types.specs.Typed.{AnExpression}
 use Rattle.c_typed_operators.specs.Stores.{given}
@@ -17,15 +17,15 @@ use Rattle.c_typed_expressions.specs.Phrases.{first}
 use Rattle.c_typed_scope.specs.Scopes.{enter, leave}
 use Rattle.c_typed_expressions.specs.Expressions.{type_exp}
 use Rattle.c_typed_definition.specs.State.{State, with_area}
-use Rattle.c_typed_definition.specs.Declarations.{type_locals}
+use Rattle.c_typed_definition.specs.Automatics.{type_locals}
 use Rattle.c_program.specs.Statements.{AnAction, SomeActions, NoActions, MoreActions, DeclareOf, BlockOf, EvaluateOf}
 use Rattle.c_program.specs.Statements.{BreakOf, ContinueOf, ReturnOf, IfOf, IfElseOf, WhileOf, DoOf, ForOf}
 
 abbrev pub entered : State → State
-entered s = record { scope = enter s.scope; locals = s.locals; registers = s.registers; area = s.area }
+entered s = record { scope = enter s.scope; locals = s.locals; registers = s.registers; room = s.room; area = s.area }
 
 abbrev pub left : State → State
-left s = record { scope = leave s.scope; locals = s.locals; registers = s.registers; area = s.area }
+left s = record { scope = leave s.scope; locals = s.locals; registers = s.registers; room = s.room; area = s.area }
 
 abbrev pub jump : Bool → ℕ → AnAction → State → Result (AnAction × State) Fault
 jump true at a s = Ok (a, s)

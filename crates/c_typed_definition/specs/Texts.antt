@@ -1,6 +1,6 @@
 -- The types of a whole text.
 -- This is how the code computes it; the rules of typing are the relations of c_typed_law.
-use Rattle.std.specs.Prelude.{ℕ, ◌+◌, ◌==◌, Bool, false, ◌&&◌, is_some, List, [], ◌∷◌}
+use Rattle.std.specs.Prelude.{ℕ, ◌+◌, ◌==◌, nat_lt, Bool, true, false, ◌&&◌, ◌||◌, is_some, List, [], ◌∷◌}
 use Rattle.std.specs.Prelude.{length, codes, Option, Some, None, option_map, Result, Ok, if◌then◌else◌}
 use Rattle.std.specs.Str.{bytes_eq}
 use Rattle.c_phrases.specs.declared.operator.Spec.{Spec}
@@ -18,14 +18,16 @@ use Rattle.c_typed_scope.specs.Scopes.{Scope, find}
 use Rattle.c_typed_scope.specs.Layout.{Area}
 use Rattle.c_typed_expressions.specs.Expressions.{integer_of, written}
 use Rattle.c_typed_definition.specs.Initialisers.{type_length}
+use Rattle.c_typed_scope.specs.Stack.{with_stack}
+use Rattle.c_typed_definition.specs.Rooms.{no_room}
 use Rattle.c_typed_definition.specs.State.{State, with_area}
 use Rattle.c_typed_definition.specs.Declarations.{type_object}
 use Rattle.c_typed_definition.specs.Statements.{type_items}
 use Rattle.c_program.specs.Programs.{ARoutine, AProgram}
 use Rattle.c_typed_definition.specs.Signatures.{parameter_type, signature_of, services, service_names, known}
 use Rattle.c_typed_definition.specs.Headings.{Text, earlier_by, is_below, head_of, parameter_form, with_parameter}
-use Rattle.c_typed_definition.specs.Headings.{agrees, with_state, with_declared, body_of, with_body, entered_function}
-use Rattle.c_typed_definition.specs.Headings.{left_function}
+use Rattle.c_typed_definition.specs.Headings.{agrees, with_state, with_declared, with_body}
+use Rattle.c_typed_definition.specs.Bodies.{fits_stack, end_in, routine_of, entered_function, left_function}
 
 module _ (names : List (List ℕ × Entry)) (signatures : List Signature) where
   -- a length in a parameter's brackets, and its literals
@@ -47,12 +49,12 @@ module _ (names : List (List ℕ × Entry)) (signatures : List Signature) where
   abbrev pub type_body : Spec → AFunction → Option SomeItems → State → Text → Result Text Fault
   type_body spec f None s t = Ok (with_state (left_function s) t)
   type_body spec f (Some row) s t = type_items names signatures (written spec f.stars) false row s >>= λ r.
-      Ok (with_body (body_of spec f r.1.locals r.1.registers r.0) (with_state (left_function r.1) t))
+      fits_stack (end_in t) r.1.room >>= λ ok. Ok (with_body (routine_of spec f r.1 r.0) (with_state (left_function r.1) t))
 
   -- its parameters, its agreement with the earlier declaration, and its body, once its name is in scope
   unfoldable pub type_introduced : Option ℕ → Spec → AFunction → Text → Result Text Fault
   type_introduced earlier spec f t =
-      type_parameters (is_some f.body) f.at (params_in f.params) 0 (entered_function t.state) >>= λ s.
+      type_parameters (is_some f.body) f.at (params_in f.params) 0 (entered_function f t.state) >>= λ s.
       agrees earlier t.declared (signature_of spec f) f.at >>= λ same.
       type_body spec f f.body s t
 
@@ -88,23 +90,38 @@ abbrev pub main_of : List ARoutine → Option ℕ
 main_of [] = None
 main_of (b ∷ bs) = if is_main b then Some 0 else behind (main_of bs)
 
-abbrev pub whole_by : Option ℕ → ℕ → Text → Result AProgram Fault
-whole_by None end t = bad end NoMain
-whole_by (Some n) end t = Ok (record { objects = t.state.area.objects; routines = t.bodies; main = n })
+-- some function has memory locals
+abbrev pub any_block : List ARoutine → Bool
+any_block [] = false
+any_block (b ∷ bs) = nat_lt 0 b.block || any_block bs
 
-abbrev pub empty_text : Text
-empty_text = record {
+-- then the second stack lies behind the other objects
+abbrev pub stacked_if : Bool → ℕ → Area → Result Area Fault
+stacked_if true end a = with_stack end a
+stacked_if false end a = Ok a
+
+abbrev pub whole_by : Option ℕ → ℕ → List ARoutine → Area → Result AProgram Fault
+whole_by None end bodies a = bad end NoMain
+whole_by (Some n) end bodies a = Ok (record { objects = a.objects; routines = bodies; main = n })
+
+abbrev pub whole : ℕ → Text → Result AProgram Fault
+whole end t = stacked_if (any_block t.bodies) end t.state.area >>= λ a. whole_by (main_of t.bodies) end t.bodies a
+
+abbrev pub empty_text : List ℕ → Text
+empty_text ends = record {
   state = record {
     scope = record { outer = []; here = service_names };
     locals = [];
     registers = [];
+    room = no_room;
     area =
         record { objects = []; end = 65536; literals = 0; statics = 0; measuring = false };
   };
   declared = services;
   bodies = [];
+  ends = ends;
 }
 
--- NoMain comes after all other faults, at the end of the text
-unfoldable pub type_text : List AnExternal → ℕ → Result AProgram Fault
-type_text text end = type_externals (known text).names (known text).signatures text empty_text >>= λ t. whole_by (main_of t.bodies) end t
+-- Where the bodies of functions end, and the end of the text: NoMain comes there after all other faults, before it DataFull of the stack.
+unfoldable pub type_text : List AnExternal → List ℕ → ℕ → Result AProgram Fault
+type_text text ends end = type_externals (known text).names (known text).signatures text (empty_text ends) >>= λ t. whole end t

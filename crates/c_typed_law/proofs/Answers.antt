@@ -30,21 +30,21 @@ means_first view (Ok x) m R F h given f first = let same : m ≡ Err f = h.first
 means_first view (Err NoMemory) m R F h given f first = tt
 means_first view (Err (At place kind)) m R F h given f first = let same : m ≡ Err f = h.first f first in cc
 
-module _ {X : Type 0} (view : X → AProgram) (r : Result X TypeFault) (text : List AnExternal) (end : ℕ) where
+module _ {X : Type 0} (view : X → AProgram) (r : Result X TypeFault) (text : List AnExternal) (ends : List ℕ) (end : ℕ) where
   -- what is answered is the text's program
-  pub text_found : Gives view r (type_text text end) → IfOk r (λ x. IsText text (view x))
-  text_found given = means_found view r (type_text text end) (IsText text) (TextFault text end) (text_means text end) given
+  pub text_found : Gives view r (type_text text ends end) → IfOk r (λ x. IsText text ends end (view x))
+  text_found given = means_found view r (type_text text ends end) (IsText text ends end) (TextFault text ends end) (text_means text ends end) given
 
   -- what the text is typed as is answered
-  pub text_only : Gives view r (type_text text end) → (p : AProgram) → IsText text p → OnlyAnswer view r p
-  text_only given = means_only view r (type_text text end) (IsText text) (TextFault text end) (text_means text end) given
+  pub text_only : Gives view r (type_text text ends end) → (p : AProgram) → IsText text ends end p → OnlyAnswer view r p
+  text_only given = means_only view r (type_text text ends end) (IsText text ends end) (TextFault text ends end) (text_means text ends end) given
 
   -- the fault that is answered is the text's first one
-  pub text_refused : Gives view r (type_text text end) → IfErr r (λ e. Refused (TextFault text end) e)
-  text_refused given = means_refused view r (type_text text end) (IsText text) (TextFault text end) (text_means text end) given
+  pub text_refused : Gives view r (type_text text ends end) → IfErr r (λ e. Refused (TextFault text ends end) e)
+  text_refused given = means_refused view r (type_text text ends end) (IsText text ends end) (TextFault text ends end) (text_means text ends end) given
 
   -- the text's first fault is answered
-  pub text_first : Gives view r (type_text text end) → (f : Fault) → TextFault text end f → OnlyFault r f
-  text_first given = means_first view r (type_text text end) (IsText text) (TextFault text end) (text_means text end) given
+  pub text_first : Gives view r (type_text text ends end) → (f : Fault) → TextFault text ends end f → OnlyFault r f
+  text_first given = means_first view r (type_text text ends end) (IsText text ends end) (TextFault text ends end) (text_means text ends end) given
 
 pub ruleset text_answers = (text_found, text_only, text_refused, text_first)

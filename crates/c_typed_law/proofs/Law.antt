@@ -1,10 +1,11 @@
 -- Functions and whole texts: the definition's answer is what the relations say.
-use Rattle.std.proofs.Common.{◌≡◌, ℕ, ◌+◌, Bool, false, List, [], ◌∷◌, length, Option, Some, None, Err, refl, sym, ap}
-use Rattle.std.specs.Prelude.{nat_lt, ◌&&◌, is_some, slice_get}
+use Rattle.std.proofs.Common.{◌≡◌, ℕ, ◌+◌, Bool, true, false, List, [], ◌∷◌, length, Option, Some, None, Ok, Err, refl, sym, ap}
+use Rattle.std.specs.Prelude.{nat_lt, ◌&&◌, is_some, slice_get, if◌then◌else◌}
 use Rattle.c_phrases.specs.declared.operator.Spec.{Spec}
 use Rattle.c_phrases.specs.declared.tree.Named.{Named}
 use Rattle.c_types.specs.declared.types.Integer.{Integer}
-use Rattle.c_types.specs.declared.fault.TypeKind.TheVariants.{Twice, BadType, NoMain}
+use Rattle.c_types.specs.declared.fault.TypeKind.TheVariants.{Twice, BadType, DataFull, NoMain}
+use Rattle.c_types.specs.Answers.{bad, ◌>>=◌}
 use Rattle.c_types.specs.Types.{is_scalar}
 use Rattle.c_typed_operators.specs.Table.{Means, NoRow}
 use Rattle.c_typed_scope.specs.declared.entry.Entry.{Entry}
@@ -16,25 +17,28 @@ use Rattle.c_phrases.specs.Phrases.{AnExp}
 use Rattle.c_phrases.specs.Units.{SomeItems, ADeclarator, AParam, AFunction, ADeclared, function, globals, AnExternal}
 use Rattle.c_typed_expressions.specs.Phrases.{params_in, brackets_in}
 use Rattle.c_typed_expressions.specs.Expressions.{integer_of, written}
-use Rattle.c_typed_expressions.specs.Relations.{Joint}
-use Rattle.c_typed_expressions.proofs.Law.{means_then, means_ok}
+use Rattle.c_program.specs.Programs.{ARoutine}
+use Rattle.c_typed_expressions.specs.Relations.{Joint, Unless}
+use Rattle.c_typed_expressions.proofs.Law.{means_then, means_ok, means_is}
 use Rattle.c_typed_definition.specs.State.{State, with_area}
 use Rattle.c_typed_definition.specs.Signatures.{parameter_type, signature_of, known}
 use Rattle.c_typed_definition.specs.Headings.{Text, with_state, same_signature, earlier_by, is_below, head_by}
 use Rattle.c_typed_definition.specs.Headings.{head_of, word_of, parameter_form, with_parameter, agrees_by}
-use Rattle.c_typed_definition.specs.Headings.{agrees_with, agrees, with_declared, body_of, with_body}
-use Rattle.c_typed_definition.specs.Headings.{entered_function, left_function}
+use Rattle.c_typed_definition.specs.Headings.{agrees_with, agrees, with_declared, with_body}
+use Rattle.c_typed_definition.specs.Rooms.{Room}
+use Rattle.c_typed_definition.specs.Bodies.{fits_stack, end_in, routine_of, entered_function, left_function}
 use Rattle.c_typed_definition.specs.Texts.{parameter_length, type_parameter, type_parameters, type_body}
 use Rattle.c_typed_definition.specs.Texts.{type_introduced, type_function, type_globals, type_declared}
-use Rattle.c_typed_definition.specs.Texts.{type_externals, main_of, whole_by, empty_text, type_text}
+use Rattle.c_typed_definition.specs.Texts.{type_externals, main_of, any_block, stacked_if, whole_by, whole, empty_text, type_text}
 use Rattle.c_typed_law.specs.Headings.{IsEarlier, EarlierFault, IsResult, ResultFault, IsHead, HeadFault}
 use Rattle.c_typed_law.specs.Headings.{IsParameterForm, ParameterFormFault, IsSameAs, SameFault, AgreesWith}
 use Rattle.c_typed_law.specs.Headings.{DisagreesWith, Agrees, AgreesFault}
 use Rattle.c_typed_law.specs.Texts.{IsParameterLength, ParameterLengthFault, IsParameter, ParameterFault}
 use Rattle.c_typed_law.specs.Texts.{AreParameters, ParametersFault, IsBody, BodyFault, IsIntroduced, IntroducedFault}
 use Rattle.c_typed_law.specs.Texts.{IsFunction, FunctionFault, AreGlobals, GlobalsFault, IsExternalBy}
-use Rattle.c_typed_law.specs.Texts.{ExternalFaultBy, AreExternals, ExternalsFault, IsWhole, WholeFault, IsText}
-use Rattle.c_typed_law.specs.Texts.{TextFault}
+use Rattle.c_typed_law.specs.Texts.{ExternalFaultBy, AreExternals, ExternalsFault, IsText, TextFault}
+use Rattle.c_typed_law.specs.Wholes.{IsWhole, WholeFault}
+use Rattle.c_typed_law.specs.Tests.{Without, Never}
 use Rattle.c_typed_law.proofs.Combined.{means_bad, unless_means, with_means}
 use Rattle.c_typed_law.proofs.Values.{length_means}
 use Rattle.c_typed_law.proofs.Objects.{object_means}
@@ -75,6 +79,18 @@ agrees_means : (earlier : Option ℕ) (declared : List Signature) (mine : Signat
 unfolding agrees
 agrees_means earlier declared mine at = unless_means (nat_lt 32 (length mine.parameters)) at BadType _ _ _ (agrees_with_means earlier declared mine at)
 
+-- a test that refuses, and then one answer
+tested_means : (test : Bool) (at : ℕ) (t : Text)
+    → Means ((if test then bad at DataFull else Ok (tt {0})) >>= λ ok. Ok t) (Without test (λ u. u ≡ t)) (Unless test at DataFull Never)
+tested_means true at t = unless_means true at DataFull (Ok t) _ _ (means_ok t)
+tested_means false at t = unless_means false at DataFull (Ok t) _ _ (means_ok t)
+
+-- the memory locals of a function are no more than the stack has room for
+room_means : (at : ℕ) (room : Room) (t : Text)
+    → Means (fits_stack at room >>= λ ok. Ok t) (Without (nat_lt 262144 room.length) (λ u. u ≡ t)) (Unless (nat_lt 262144 room.length) at DataFull Never)
+unfolding fits_stack
+room_means at room t = tested_means (nat_lt 262144 room.length) at t
+
 module _ (names : List (List ℕ × Entry)) (signatures : List Signature) where
   parameter_length_means : (l : Option (Option AnExp)) (scope : Scope) (a : Area)
       → Means (parameter_length names signatures l scope a) (IsParameterLength names signatures l scope a) (ParameterLengthFault names signatures l scope a)
@@ -95,17 +111,17 @@ module _ (names : List (List ℕ × Entry)) (signatures : List Signature) where
   parameters_mean defines at (p ∷ ps) n s = means_then _ _ _ _ _ _ (parameter_means defines at p n s) (λ next. parameters_mean defines at ps (n + 1) next)
 
   body_means : (spec : Spec) (f : AFunction) (b : Option SomeItems) (s : State) (t : Text)
-      → Means (type_body names signatures spec f b s t) (IsBody names signatures spec f b s t) (BodyFault names signatures spec f b s)
+      → Means (type_body names signatures spec f b s t) (IsBody names signatures spec f b s t) (BodyFault names signatures spec f b s t)
   body_means spec f None s t = means_ok (with_state (left_function s) t)
   body_means spec f (Some row) s t =
       means_then _ _ _ _ _ _ (items_mean names signatures (written spec f.stars) false row s)
-      (λ x. means_ok (with_body (body_of spec f x.1.locals x.1.registers x.0) (with_state (left_function x.1) t)))
+      (λ x. room_means (end_in t) x.1.room (with_body (routine_of spec f x.1 x.0) (with_state (left_function x.1) t)))
 
   introduced_means : (earlier : Option ℕ) (spec : Spec) (f : AFunction) (t : Text)
       → Means (type_introduced names signatures earlier spec f t) (IsIntroduced names signatures earlier spec f t) (IntroducedFault names signatures earlier spec f t)
   unfolding type_introduced
   introduced_means earlier spec f t =
-      means_then _ _ _ _ _ _ (parameters_mean (is_some f.body) f.at (params_in f.params) 0 (entered_function t.state)) (λ s.
+      means_then _ _ _ _ _ _ (parameters_mean (is_some f.body) f.at (params_in f.params) 0 (entered_function f t.state)) (λ s.
       means_then _ _ _ _ _ _ (agrees_means earlier t.declared (signature_of spec f) f.at) (λ same.
       body_means spec f f.body s t))
 
@@ -128,24 +144,25 @@ module _ (names : List (List ℕ × Entry)) (signatures : List Signature) where
   externals_mean [] t = means_ok t
   externals_mean (e ∷ es) t = means_then _ _ _ _ _ _ (external_means e.spec e.declared t) (λ next. externals_mean es next)
 
-main_is : (o : Option ℕ) (end : ℕ) (t : Text) → Means (whole_by o end t) (Joint (λ n. o ≡ Some n) (λ n u. u ≡ record { objects = t.state.area.objects; routines = t.bodies; main = n }))
-    (NoRow (λ n. o ≡ Some n) end NoMain)
-main_is None end t = record {
+main_is : (o : Option ℕ) (end : ℕ) (bodies : List ARoutine) (a : Area)
+    → Means (whole_by o end bodies a) (Joint (λ n. o ≡ Some n) (λ n u. u ≡ record { objects = a.objects; routines = bodies; main = n })) (NoRow (λ n. o ≡ Some n) end NoMain)
+main_is None end bodies a = record {
   found = λ p e. absurd (cc);
   only = λ p j. absurd (cc (j.typed));
   faults = λ f e. record { none = λ n e. absurd (cc); is = cc };
   first = λ f w. ap Err (sym w.is);
 }
-main_is (Some n) end t = record {
+main_is (Some n) end bodies a = record {
   found = λ p e. record { part = n; typed = refl; whole = cc };
   only = λ p j. let same : n ≡ j.part = cc (j.typed) in cc (j.whole);
   faults = λ f e. absurd (cc);
   first = λ f w. absurd (w.none n refl);
 }
 
-whole_means : (end : ℕ) (t : Text) → Means (whole_by (main_of t.bodies) end t) (IsWhole t) (WholeFault t end)
-whole_means end t = main_is (main_of t.bodies) end t
+-- the second stack, and then the number of main
+whole_means : (end : ℕ) (t : Text) → Means (whole end t) (IsWhole end t) (WholeFault t end)
+whole_means end t = means_then _ _ _ _ _ _ (means_is (stacked_if (any_block t.bodies) end t.state.area)) (λ a. main_is (main_of t.bodies) end t.bodies a)
 
-pub text_means : (text : List AnExternal) (end : ℕ) → Means (type_text text end) (IsText text) (TextFault text end)
+pub text_means : (text : List AnExternal) (ends : List ℕ) (end : ℕ) → Means (type_text text ends end) (IsText text ends end) (TextFault text ends end)
 unfolding type_text IsText TextFault
-text_means text end = means_then _ _ _ _ _ _ (externals_mean (known text).names (known text).signatures text empty_text) (λ t. whole_means end t)
+text_means text ends end = means_then _ _ _ _ _ _ (externals_mean (known text).names (known text).signatures text (empty_text ends)) (λ t. whole_means end t)

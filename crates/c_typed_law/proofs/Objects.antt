@@ -1,11 +1,9 @@
 -- Declarations of variables: the definition's answer is what the relations say.
-use Rattle.std.proofs.Common.{◌≡◌, ℕ, ◌*◌, Bool, true, false, List, [], ◌∷◌, ◌++◌, length, Option, Some, None}
+use Rattle.std.proofs.Common.{◌≡◌, ℕ, ◌*◌, Bool, true, false, List, [], Option, Some, None}
 use Rattle.std.specs.Prelude.{nat_lt}
 use Rattle.c_phrases.specs.declared.operator.Spec.{Spec}
-use Rattle.c_phrases.specs.declared.operator.Storage.{Storage}
-use Rattle.c_phrases.specs.declared.operator.Storage.TheVariants as storages
 use Rattle.c_types.specs.declared.types.CType.{CType}
-use Rattle.c_types.specs.declared.fault.TypeKind.TheVariants.{Twice, LeftOut, BadInit, BadType}
+use Rattle.c_types.specs.declared.fault.TypeKind.TheVariants.{Twice, BadInit, BadType}
 use Rattle.c_types.specs.Types.{size_of, pointer_to, is_scalar}
 use Rattle.c_types.specs.Typed.{AnExpression, ConvertTo}
 use Rattle.c_typed_operators.specs.Rules.{fits}
@@ -19,26 +17,21 @@ use Rattle.c_typed_scope.specs.Layout.{Area}
 use Rattle.c_typed_scope.specs.Contents.{filled_to, filled}
 use Rattle.c_phrases.specs.Phrases.{AnExp}
 use Rattle.c_phrases.specs.Units.{AnInit, value, elements, ADeclarator}
-use Rattle.c_program.specs.Statements.{ADeclaration, KeepOf, ClearOf, BeginOf}
-use Rattle.c_typed_expressions.specs.Phrases.{first, init_in, brackets_in}
+use Rattle.c_typed_expressions.specs.Phrases.{init_in, brackets_in}
 use Rattle.c_typed_expressions.specs.Expressions.{written}
 use Rattle.c_typed_expressions.proofs.Law.{means_then, means_ok, means_is, exp_means}
-use Rattle.c_typed_definition.specs.Forms.{text_of, form_fits, given_count, own_length, form_of, automatic_by, automatic_form, many}
-use Rattle.c_typed_definition.specs.State.{State, with_area, measuring, variable_of, array_entry, laid, text_contents}
-use Rattle.c_typed_definition.specs.State.{with_local, with_register}
+use Rattle.c_typed_definition.specs.Forms.{text_of, form_fits, given_count, own_length, form_of, many}
+use Rattle.c_typed_definition.specs.State.{State, with_area, named_state, measuring, variable_of, array_entry, laid, text_contents}
 use Rattle.c_typed_definition.specs.Declarations.{length_in, literals_in, contents_of, object_with, plain_object}
-use Rattle.c_typed_definition.specs.Declarations.{counted_array, array_object, object_by, type_object, begun}
-use Rattle.c_typed_definition.specs.Declarations.{type_automatic, type_local, type_locals}
+use Rattle.c_typed_definition.specs.Declarations.{counted_array, array_object, object_by, type_object}
 use Rattle.c_typed_law.specs.Tests.{With, Without, Lacking, Never}
-use Rattle.c_typed_law.specs.Forms.{IsForm, FormFault, IsPlainForm, PlainFault, IsAutomaticForm, AutomaticFormFault}
+use Rattle.c_typed_law.specs.Forms.{IsForm, FormFault}
 use Rattle.c_typed_law.specs.Objects.{IsCount, CountFault, AreLaid, LaidFault, HoldsAtFirst, HoldsFault, IsFilled}
 use Rattle.c_typed_law.specs.Objects.{FilledFault, IsPlainObject, PlainObjectFault, IsCountedArray, CountedArrayFault}
 use Rattle.c_typed_law.specs.Objects.{IsArrayObject, ArrayObjectFault, IsObjectBy, ObjectFaultBy, IsObject}
 use Rattle.c_typed_law.specs.Objects.{ObjectFault}
-use Rattle.c_typed_law.specs.Locals.{IsBegun, BegunFault, IsAutomatic, AutomaticFault, IsLocal, LocalFault, AreLocals}
-use Rattle.c_typed_law.specs.Locals.{LocalsFault}
 use Rattle.c_typed_expressions.specs.Relations.{Unless}
-use Rattle.c_typed_law.proofs.Combined.{means_bad, unless_means, with_means}
+use Rattle.c_typed_law.proofs.Combined.{unless_means, with_means}
 use Rattle.c_typed_law.proofs.Values.{length_means, element_means, elements_mean}
 
 form_means : (d : ADeclarator) (t : CType) (s : Scope) → Means (form_of d t s) (IsForm d t s) (FormFault d t s)
@@ -47,15 +40,7 @@ form_means d t s =
     unless_means (is_taken s d.name) d.at Twice _ _ _
     (with_means (form_fits t (brackets_in d.length) (init_in d.init)) d.at BadInit _ _ _ (with_means (is_scalar t) d.at BadType _ _ _ (means_ok tt)))
 
-plain_means : (l : Option (Option AnExp)) (d : ADeclarator) (t : CType) → Means (automatic_by l d t) (IsPlainForm l d t) (PlainFault l d t)
-plain_means (Some l) d t = means_bad d.at LeftOut
-plain_means None d t = with_means (form_fits t None (init_in d.init)) d.at BadInit _ _ _ (with_means (is_scalar t) d.at BadType _ _ _ (means_ok tt))
-
-automatic_form_means : (d : ADeclarator) (t : CType) (s : Scope) → Means (automatic_form d t s) (IsAutomaticForm d t s) (AutomaticFormFault d t s)
-unfolding automatic_form
-automatic_form_means d t s = unless_means (is_taken s d.name) d.at Twice _ _ _ (plain_means (brackets_in d.length) d t)
-
-many_means : (at count n : ℕ) → Means (many at count n) (Without (nat_lt n count) (λ m. m ≡ n)) (Unless (nat_lt n count) at BadInit Never)
+pub many_means : (at count n : ℕ) → Means (many at count n) (Without (nat_lt n count) (λ m. m ≡ n)) (Unless (nat_lt n count) at BadInit Never)
 unfolding many
 many_means at count n = unless_means (nat_lt n count) at BadInit _ _ _ (means_ok n)
 
@@ -87,7 +72,7 @@ module _ (names : List (List ℕ × Entry)) (signatures : List Signature) where
   filled_means n size t is_array d e s =
       means_then _ _ _ _ _ _
       (means_then _ _ _ _ _ _ (holds_means t is_array (init_in d.init) (with_name d.name e s.scope) s.area) (λ h. means_ok (filled n (filled_to size h.0) h.1)))
-      (λ a. means_ok (n, record { scope = with_name d.name e s.scope; locals = s.locals; registers = s.registers; area = a }))
+      (λ a. means_ok (n, with_area a (named_state d.name e s)))
 
   plain_object_means : (is_static : Bool) (t : CType) (d : ADeclarator) (s : State)
       → Means (plain_object names signatures is_static t d s) (IsPlainObject names signatures is_static t d s) (PlainObjectFault names signatures is_static t d s)
@@ -121,26 +106,3 @@ module _ (names : List (List ℕ × Entry)) (signatures : List Signature) where
   unfolding type_object
   object_means is_static spec d s =
       means_then _ _ _ _ _ _ (form_means d (written spec d.stars) s.scope) (λ ok. object_by_means is_static (written spec d.stars) d (brackets_in d.length) s)
-
-  begun_means : (t : CType) (n : ℕ) (i : Option AnInit) (s : State) → Means (begun names signatures t n i s) (IsBegun names signatures t n i s) (BegunFault names signatures t n i s)
-  begun_means t n None s = means_ok (ClearOf n, s)
-  begun_means t n (Some (elements es comma)) s = means_ok (ClearOf n, s)
-  begun_means t n (Some (value e)) s =
-      means_then _ _ _ _ _ _ (exp_means names signatures s.scope e s.area) (λ x. means_then _ _ _ _ _ _ (given_means t (first e) x.0) (λ y. means_ok (BeginOf n y, with_area x.1 s)))
-
-  automatic_means : (spec : Spec) (d : ADeclarator) (s : State) → Means (type_automatic names signatures spec d s) (IsAutomatic names signatures spec d s) (AutomaticFault names signatures spec d s)
-  unfolding type_automatic
-  automatic_means spec d s =
-      means_then _ _ _ _ _ _ (automatic_form_means d (written spec d.stars) s.scope)
-      (λ ok. begun_means (written spec d.stars) (length s.locals) (init_in d.init) (with_local (written spec d.stars) d.name s))
-
-  local_means : (storage : Storage) (spec : Spec) (d : ADeclarator) (s : State)
-      → Means (type_local names signatures storage spec d s) (IsLocal names signatures storage spec d s) (LocalFault names signatures storage spec d s)
-  local_means storages.Automatic spec d s = automatic_means spec d s
-  local_means (storages.Register at) spec d s = automatic_means spec d (with_register s)
-  local_means (storages.Static at) spec d s = means_then _ _ _ _ _ _ (object_means true spec d s) (λ x. means_ok (KeepOf x.0, x.1))
-
-  pub locals_mean : (storage : Storage) (spec : Spec) (ds : List ADeclarator) (done : List ADeclaration) (s : State)
-      → Means (type_locals names signatures storage spec ds done s) (AreLocals names signatures storage spec ds done s) (LocalsFault names signatures storage spec ds done s)
-  locals_mean storage spec [] done s = means_ok (done, s)
-  locals_mean storage spec (d ∷ ds) done s = means_then _ _ _ _ _ _ (local_means storage spec d s) (λ x. locals_mean storage spec ds (done ++ x.0 ∷ []) x.1)

@@ -20,7 +20,8 @@ use Rattle.c_typed_definition.specs.Statements.{entered, left, jump, type_full, 
 use Rattle.c_typed_law.specs.Tests.{With, Lacking, Never}
 use Rattle.c_typed_law.specs.Statements.{IsFull, FullFault, IsCondition, ConditionFault, IsPart, PartFault, IsTurn, TurnFault, IsReturn, ReturnFault, IsStatement, StatementFault, AreItems, ItemsFault}
 use Rattle.c_typed_law.proofs.Combined.{with_means}
-use Rattle.c_typed_law.proofs.Objects.{given_means, locals_mean}
+use Rattle.c_typed_law.proofs.Objects.{given_means}
+use Rattle.c_typed_law.proofs.Automatics.{locals_mean}
 
 jump_means : (looping : Bool) (at : ℕ) (a : AnAction) (s : State) → Means (jump looping at a s) (With looping (λ u. u ≡ (a, s))) (Lacking looping at BadJump Never)
 jump_means true at a s = with_means true at BadJump _ _ _ (means_ok (a, s))

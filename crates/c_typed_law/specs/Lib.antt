@@ -2,7 +2,9 @@ pub mod Tests
 pub mod Values
 pub mod Forms
 pub mod Objects
+pub mod Arrays
 pub mod Locals
 pub mod Statements
 pub mod Headings
+pub mod Wholes
 pub mod Texts

@@ -17,7 +17,7 @@ use Rattle.c_typed_expressions.specs.Phrases.{init_in, brackets_in}
 use Rattle.c_typed_expressions.specs.Expressions.{written}
 use Rattle.c_typed_expressions.specs.Relations.{Joint, FirstOf, Unless, IsTyped, FirstFault}
 use Rattle.c_typed_definition.specs.Forms.{text_of, given_count, own_length}
-use Rattle.c_typed_definition.specs.State.{State, with_area, measuring, variable_of, array_entry, laid, text_contents}
+use Rattle.c_typed_definition.specs.State.{State, with_area, named_state, measuring, variable_of, array_entry, laid, text_contents}
 use Rattle.c_typed_law.specs.Tests.{Without, Never}
 use Rattle.c_typed_law.specs.Values.{IsLength, LengthFault, IsElement, ElementFault, AreElements, ElementsFault}
 use Rattle.c_typed_law.specs.Forms.{IsForm, FormFault}
@@ -63,7 +63,7 @@ module _ (names : List (List ℕ × Entry)) (signatures : List Signature) where
   IsFilled n size t is_array d e s r =
       Joint
       (Joint (HoldsAtFirst t is_array (init_in d.init) (with_name d.name e s.scope) s.area) (λ h a. a ≡ filled n (filled_to size h.0) h.1))
-      (λ a u. u ≡ (n, record { scope = with_name d.name e s.scope; locals = s.locals; registers = s.registers; area = a })) r
+      (λ a u. u ≡ (n, with_area a (named_state d.name e s))) r
 
   abbrev pub FilledFault : ℕ → ℕ → CType → Bool → ADeclarator → Entry → State → Fault → Type 0
   FilledFault n size t is_array d e s f =

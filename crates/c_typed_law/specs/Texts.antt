@@ -1,9 +1,8 @@
 -- Functions and whole texts: what a text is typed as, and which fault is its first.
-use Rattle.std.specs.Prelude.{◌≡◌, ℕ, ◌+◌, Bool, false, is_some, List, [], ◌∷◌, length, Option, Some, None}
+use Rattle.std.specs.Prelude.{◌≡◌, ℕ, ◌+◌, nat_lt, Bool, false, is_some, List, [], ◌∷◌, length, Option, Some, None}
 use Rattle.c_phrases.specs.declared.operator.Spec.{Spec}
-use Rattle.c_types.specs.declared.fault.TypeKind.TheVariants.{NoMain}
+use Rattle.c_types.specs.declared.fault.TypeKind.TheVariants.{DataFull}
 use Rattle.c_types.specs.Answers.{Fault}
-use Rattle.c_typed_operators.specs.Table.{NoRow}
 use Rattle.c_typed_scope.specs.declared.entry.Entry.{Entry}
 use Rattle.c_typed_scope.specs.declared.entry.Signature.{Signature}
 use Rattle.c_typed_scope.specs.Scopes.{Scope, find}
@@ -13,13 +12,14 @@ use Rattle.c_phrases.specs.Units.{SomeItems, ADeclarator, AParam, AFunction, ADe
 use Rattle.c_program.specs.Programs.{AProgram}
 use Rattle.c_typed_expressions.specs.Phrases.{params_in, brackets_in}
 use Rattle.c_typed_expressions.specs.Expressions.{integer_of, written}
-use Rattle.c_typed_expressions.specs.Relations.{Joint, FirstOf}
+use Rattle.c_typed_expressions.specs.Relations.{Joint, FirstOf, Unless}
 use Rattle.c_typed_definition.specs.State.{State, with_area}
 use Rattle.c_typed_definition.specs.Signatures.{parameter_type, signature_of, known}
-use Rattle.c_typed_definition.specs.Headings.{Text, with_state, is_below, with_parameter, with_declared, body_of}
-use Rattle.c_typed_definition.specs.Headings.{with_body, entered_function, left_function}
-use Rattle.c_typed_definition.specs.Texts.{main_of, empty_text}
-use Rattle.c_typed_law.specs.Tests.{Never}
+use Rattle.c_typed_definition.specs.Headings.{Text, with_state, is_below, with_parameter, with_declared, with_body}
+use Rattle.c_typed_definition.specs.Bodies.{end_in, routine_of, entered_function, left_function}
+use Rattle.c_typed_definition.specs.Texts.{empty_text}
+use Rattle.c_typed_law.specs.Tests.{Without, Never}
+use Rattle.c_typed_law.specs.Wholes.{IsWhole, WholeFault}
 use Rattle.c_typed_law.specs.Values.{IsLength, LengthFault}
 use Rattle.c_typed_law.specs.Objects.{IsObject, ObjectFault}
 use Rattle.c_typed_law.specs.Statements.{AreItems, ItemsFault}
@@ -66,27 +66,29 @@ module _ (names : List (List ℕ × Entry)) (signatures : List Signature) where
   abbrev pub IsBody : Spec → AFunction → Option SomeItems → State → Text → Text → Type 0
   IsBody spec f None s t r = r ≡ with_state (left_function s) t
   IsBody spec f (Some row) s t r =
-      Joint (AreItems names signatures (written spec f.stars) false row s)
-      (λ x u. u ≡ with_body (body_of spec f x.1.locals x.1.registers x.0) (with_state (left_function x.1) t)) r
+      Joint (AreItems names signatures (written spec f.stars) false row s) (λ x.
+      Without (nat_lt 262144 x.1.room.length) (λ u. u ≡ with_body (routine_of spec f x.1 x.0) (with_state (left_function x.1) t))) r
 
-  abbrev pub BodyFault : Spec → AFunction → Option SomeItems → State → Fault → Type 0
-  BodyFault spec f None s g = ⊥
-  BodyFault spec f (Some row) s g = FirstOf (AreItems names signatures (written spec f.stars) false row s)
-      (ItemsFault names signatures (written spec f.stars) false row s) (λ x. Never) g
+  -- DataFull of its memory locals comes behind its other faults, where it ends
+  abbrev pub BodyFault : Spec → AFunction → Option SomeItems → State → Text → Fault → Type 0
+  BodyFault spec f None s t g = ⊥
+  BodyFault spec f (Some row) s t g = FirstOf (AreItems names signatures (written spec f.stars) false row s)
+      (ItemsFault names signatures (written spec f.stars) false row s)
+      (λ x. Unless (nat_lt 262144 x.1.room.length) (end_in t) DataFull Never) g
 
   -- once its name is in scope: its parameters, its agreement with an earlier declaration, and its body
   abbrev pub IsIntroduced : Option ℕ → Spec → AFunction → Text → Text → Type 0
   IsIntroduced earlier spec f t r =
-      Joint (AreParameters (is_some f.body) (params_in f.params) 0 (entered_function t.state)) (λ s.
+      Joint (AreParameters (is_some f.body) (params_in f.params) 0 (entered_function f t.state)) (λ s.
       Joint (Agrees earlier t.declared (signature_of spec f)) (λ same.
       IsBody spec f f.body s t)) r
 
   abbrev pub IntroducedFault : Option ℕ → Spec → AFunction → Text → Fault → Type 0
   IntroducedFault earlier spec f t g =
-      FirstOf (AreParameters (is_some f.body) (params_in f.params) 0 (entered_function t.state))
-      (ParametersFault (is_some f.body) f.at (params_in f.params) 0 (entered_function t.state)) (λ s.
+      FirstOf (AreParameters (is_some f.body) (params_in f.params) 0 (entered_function f t.state))
+      (ParametersFault (is_some f.body) f.at (params_in f.params) 0 (entered_function f t.state)) (λ s.
       FirstOf (Agrees earlier t.declared (signature_of spec f)) (AgreesFault earlier t.declared (signature_of spec f) f.at) (λ same.
-      BodyFault spec f f.body s)) g
+      BodyFault spec f f.body s t)) g
 
   -- a function: its name, which is no variable's, its result, and then what follows
   abbrev pub IsFunction : Spec → AFunction → Text → Text → Type 0
@@ -129,20 +131,14 @@ module _ (names : List (List ℕ × Entry)) (signatures : List Signature) where
   ExternalsFault [] t f = ⊥
   ExternalsFault (e ∷ es) t f = FirstOf (IsExternalBy e.spec e.declared t) (ExternalFaultBy e.spec e.declared t) (ExternalsFault es) f
 
--- a program has its objects, its functions, and the number of main
-abbrev pub IsWhole : Text → AProgram → Type 0
-IsWhole t p = Joint (λ n. main_of t.bodies ≡ Some n) (λ n u. u ≡ record { objects = t.state.area.objects; routines = t.bodies; main = n }) p
-
-abbrev pub WholeFault : Text → ℕ → Fault → Type 0
-WholeFault t end f = NoRow (λ n. main_of t.bodies ≡ Some n) end NoMain f
-
 -- The text is well typed, as this program. A call may stand before its function's definition: the functions of the
--- whole text are known in each.
-unfoldable pub IsText : List AnExternal → AProgram → Type 0
-IsText text p = Joint (AreExternals (known text).names (known text).signatures text empty_text) IsWhole p
+-- whole text are known in each. Where the bodies of functions end, and the text, is told only by faults.
+unfoldable pub IsText : List AnExternal → List ℕ → ℕ → AProgram → Type 0
+IsText text ends end p = Joint (AreExternals (known text).names (known text).signatures text (empty_text ends)) (IsWhole end) p
 
--- The text's first fault is this one: all before it is well typed. NoMain comes behind all others, at the text's end.
-unfoldable pub TextFault : List AnExternal → ℕ → Fault → Type 0
-TextFault text end f =
-    FirstOf (AreExternals (known text).names (known text).signatures text empty_text)
-    (ExternalsFault (known text).names (known text).signatures text empty_text) (λ t. WholeFault t end) f
+-- The text's first fault is this one: all before it is well typed. NoMain comes behind all others, at the text's end, and before it DataFull of
+-- the second stack.
+unfoldable pub TextFault : List AnExternal → List ℕ → ℕ → Fault → Type 0
+TextFault text ends end f =
+    FirstOf (AreExternals (known text).names (known text).signatures text (empty_text ends))
+    (ExternalsFault (known text).names (known text).signatures text (empty_text ends)) (λ t. WholeFault t end) f

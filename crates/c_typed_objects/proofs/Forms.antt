@@ -1,6 +1,6 @@
 -- What an accepted form of a declarator says: its name is new here, and its type is an integer or a pointer.
 use Rattle.std.proofs.Common.{◌≡◌, ℕ, Bool, true, false, Option, Some, None, Result, Ok, Err, refl, if◌then◌else◌}
-use Rattle.std.specs.Prelude.{is_some}
+use Rattle.std.specs.Prelude.{is_some, ◌&&◌}
 use Rattle.c_types.specs.declared.types.CType.{CType}
 use Rattle.c_types.specs.declared.fault.TypeKind.TheVariants.{Twice, BadInit, BadType}
 use Rattle.c_types.specs.Answers.{Fault, bad}
@@ -10,7 +10,7 @@ use Rattle.c_phrases.specs.Phrases.{AnExp}
 use Rattle.c_typed_scope.specs.declared.entry.Entry.{Entry}
 use Rattle.c_typed_scope.specs.Scopes.{Scope, find, is_taken}
 use Rattle.c_typed_expressions.specs.Phrases.{brackets_in, init_in}
-use Rattle.c_typed_definition.specs.Forms.{form_fits, form_of, automatic_by, automatic_form}
+use Rattle.c_typed_definition.specs.Forms.{form_fits, form_of, is_automatic, automatic_form}
 
 pub free_by : (o : Option Entry) (at : ℕ) (m : Result (Unit {0}) Fault) → (if is_some o then bad at Twice else m) ≡ Ok tt → o ≡ None
 free_by None at m h = refl
@@ -35,6 +35,19 @@ form_scalar d t s h = scalar_by (is_some (find s.here d.name)) (form_fits t (bra
 
 pub ruleset form_facts = (form_free, form_scalar)
 
-pub automatic_free : (d : ADeclarator) (t : CType) (s : Scope) → automatic_form d t s ≡ Ok tt → find s.here d.name ≡ None
-unfolding automatic_form is_taken
-automatic_free d t s h = free_by (find s.here d.name) d.at _ h
+both_left : (a b : Bool) → (a && b) ≡ true → a ≡ true
+both_left true b h = refl
+both_left false b h = absurd (cc)
+
+module _ (is_register : Bool) (d : ADeclarator) (t : CType) (s : Scope) where
+  pub automatic_free : automatic_form is_register d t s ≡ Ok tt → find s.here d.name ≡ None
+  unfolding automatic_form is_taken
+  automatic_free h = free_by (find s.here d.name) d.at _ h
+
+  -- an array's type is one that a pointer points to
+  pub automatic_scalar : automatic_form is_register d t s ≡ Ok tt → is_scalar t ≡ true
+  unfolding automatic_form is_taken
+  automatic_scalar h = both_left (is_scalar t) _
+      (scalar_by (is_some (find s.here d.name)) (form_fits t (brackets_in d.length) (init_in d.init)) (is_automatic is_register (brackets_in d.length) t) d.at h)
+
+pub ruleset automatic_facts = (automatic_free, automatic_scalar)

@@ -3,18 +3,20 @@ ghost use Rattle.std.specs.Prelude.{◌≡◌, OnOk, None};
 ghost use Rattle.c_typed_scope.specs.Scopes.{find, with_name};
 ghost use Rattle.c_typed_scope.specs.Views.{scope};
 
+use crate::room::Room;
 use c_typed_scope::{Blocks, Data, Entry};
 use c_types::CType;
 use gg_base::Name;
 use std::alloc::{AllocError, Global};
 
-/// What is in scope and laid out while a function is read; of its automatic locals so far the types, and
-/// the numbers of those that are declared `register`.
+/// What is in scope and laid out while a function is read; of its automatic locals so far that are no memory locals the
+/// types, and the numbers of those that are declared `register`; and the block of its memory locals.
 #[derive(Drop)]
 pub struct Environment {
     pub blocks: Blocks,
     pub locals: Vec<CType>,
     pub registers: Vec<u32>,
+    pub room: Room,
     pub layout: Data,
 }
 

@@ -110,25 +110,25 @@ pub fn check_form(of: CType, d: &Declarator, blocks: &Blocks) -> Result<(), Type
     }
 }
 
-/// What an automatic local's own form tells: Twice, LeftOut, BadInit, BadType.
+/// What an automatic variable's own form tells: Twice, BadInit, BadType, also where an array is declared `register`.
 #[tactic(auto, unfolding(c_typed_definition::specs::Forms::automatic_form))]
-pub fn check_automatic(of: CType, d: &Declarator, blocks: &Blocks) -> Result<(), TypeFault>
-    ensures { Gives (λ u. u) result (automatic_form (declarator_of d.now) of (scope blocks.now)) }
+pub fn check_automatic(
+    is_register: bool,
+    of: CType,
+    d: &Declarator,
+    blocks: &Blocks,
+) -> Result<(), TypeFault>
+    ensures { Gives (λ u. u) result (automatic_form is_register (declarator_of d.now) of (scope blocks.now)) }
 {
     if blocks.is_taken(d.name.as_slice()) {
         return refuse(d.at, TypeKind::Twice);
     }
-    match &d.length {
-        Some(_) => refuse(d.at, TypeKind::LeftOut),
-        None => {
-            if !form_fits(of, &d.length, &d.initialiser) {
-                return refuse(d.at, TypeKind::BadInit);
-            }
-            if of.is_scalar() {
-                Ok(())
-            } else {
-                bad_type(d.at)
-            }
-        }
+    if !form_fits(of, &d.length, &d.initialiser) {
+        return refuse(d.at, TypeKind::BadInit);
+    }
+    if of.is_scalar() && !(is_register && d.length.is_some()) {
+        Ok(())
+    } else {
+        bad_type(d.at)
     }
 }

@@ -209,9 +209,9 @@ fn plain_object(
     )
 }
 
-// The entry of an array holds the type of its first element's address.
+/// The entry of an array holds the type of its first element's address.
 #[tactic(auto, unfolding(c_types::specs::Types::pointer_to))]
-fn array_entry(of: CType, variable: Variable, size: u32) -> Result<Entry, TypeFault>
+pub(crate) fn array_entry(of: CType, variable: Variable, size: u32) -> Result<Entry, TypeFault>
     ensures { Gives (λ e. e) result (Ok (array_entry (pointer_to of) variable size)) }
 {
     match of {

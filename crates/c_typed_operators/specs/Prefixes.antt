@@ -13,7 +13,7 @@ use Rattle.c_types.specs.declared.typed.UnaryOperator.TheVariants as unaries
 use Rattle.c_types.specs.declared.typed.Moment.{Moment}
 use Rattle.c_types.specs.declared.typed.Direction.{Direction}
 use Rattle.c_types.specs.declared.typed.Direction.TheVariants as directions
-use Rattle.c_types.specs.declared.fault.TypeKind.TheVariants.{BadType, LeftOut}
+use Rattle.c_types.specs.declared.fault.TypeKind.TheVariants.{BadType}
 use Rattle.c_types.specs.Answers.{Fault, bad, ◌>>=◌}
 use Rattle.c_types.specs.Types.{is_integer, is_scalar, target, pointer_to, size_of}
 use Rattle.c_types.specs.Typed.{APlace, VariableAt, PointedBy, ElementBy, AnExpression, ReadOf, AddressOf, SizeOfExpression}
@@ -49,10 +49,10 @@ abbrev pub address_by : Option CType → ℕ → APlace → Result AnExpression 
 address_by None at p = bad at BadType
 address_by (Some t) at p = Ok (AddressOf t p)
 
--- a global or static variable, *p, or a[i]; an automatic variable has no address
+-- a global or static variable, a memory local, *p, or a[i]; any other automatic variable or parameter has no address
 unfoldable pub address_of : ℕ → APlace → Result AnExpression Fault
-address_of at (VariableAt t (variables.Automatic n)) = bad at LeftOut
-address_of at (VariableAt t (variables.Parameter n)) = bad at LeftOut
+address_of at (VariableAt t (variables.Automatic n)) = bad at BadType
+address_of at (VariableAt t (variables.Parameter n)) = bad at BadType
 address_of at p = address_by (pointer_to (place_type p)) at p
 
 unfoldable pub address : ℕ → AnExpression → Result AnExpression Fault

@@ -277,10 +277,7 @@ fn address_of(at: u32, place: Place) -> Result<Expression, TypeFault>
     ensures { Gives (λ t. expression_of t) result (address_of at (place_of place)) }
 {
     if let Place::Variable(_, Variable::Automatic(_) | Variable::Parameter(_)) = place {
-        return Err(TypeFault::At {
-            place: at,
-            kind: TypeKind::LeftOut,
-        });
+        return bad_type(at);
     }
     match place.ctype() {
         CType::Void => bad_type(at),

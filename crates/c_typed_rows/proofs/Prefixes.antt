@@ -1,5 +1,5 @@
 -- Prefixes, indexes and steps.
-use Rattle.std.proofs.Common.{◌≡◌, ◌⊎◌, ℕ, Bool, true, false, Option, Some, None, Result, Ok, Err, inl, inr, refl, sym, ap, ◌∙◌, subst}
+use Rattle.std.proofs.Common.{◌≡◌, ◌⊎◌, ℕ, Bool, true, false, Option, Some, None, Result, Ok, Err, inl, inr, refl, sym, ap, ◌∙◌}
 use Rattle.c_phrases.specs.declared.operator.PrefixOperator.{PrefixOperator}
 use Rattle.c_phrases.specs.declared.operator.PrefixOperator.TheVariants as prefixes
 use Rattle.c_phrases.specs.declared.operator.StepOperator.{StepOperator}
@@ -10,7 +10,7 @@ use Rattle.c_types.specs.declared.typed.Variable.TheVariants as variables
 use Rattle.c_types.specs.declared.typed.UnaryOperator.{UnaryOperator}
 use Rattle.c_types.specs.declared.typed.UnaryOperator.TheVariants as unaries
 use Rattle.c_types.specs.declared.typed.Moment.{Moment}
-use Rattle.c_types.specs.declared.fault.TypeKind.TheVariants.{BadType, LeftOut}
+use Rattle.c_types.specs.declared.fault.TypeKind.TheVariants.{BadType}
 use Rattle.c_types.specs.Answers.{Fault, bad, ◌>>=◌}
 use Rattle.c_types.specs.Types.{is_integer, is_scalar, target, pointer_to}
 use Rattle.c_types.specs.Typed.{APlace, VariableAt, PointedBy, ElementBy, AnExpression, ReadOf, UnaryOf, place_type, type_of}
@@ -18,7 +18,7 @@ use Rattle.c_typed_operators.specs.Rules.{plus, binary_of}
 use Rattle.c_typed_operators.specs.Prefixes.{unary, negation, indirection_at, indirection, element_at, element, index_of, address_by, address_of, address, prefix_of, step_at, step}
 use Rattle.c_typed_operators.specs.Table.{IsPointer, IsSum, Means, NoRow}
 use Rattle.c_typed_operators.proofs.Law.{means_row, binary_means}
-use Rattle.c_typed_rows.specs.Prefixes.{IsUnary, IsNegation, IsIndirection, HasAddress, IsAddress, AddressFault, OfAutomatic, OfOther, IsPrefix, PrefixFault, IsIndex, IsStep}
+use Rattle.c_typed_rows.specs.Prefixes.{IsUnary, IsNegation, IsIndirection, HasAddress, IsAddress, IsPrefix, PrefixFault, IsIndex, IsStep}
 use Rattle.c_typed_rows.proofs.Tests.{by_test, by_test_one, integer_type, integer_test}
 
 unary_means : (op : UnaryOperator) (at : ℕ) (x : AnExpression) → Means (unary op at x) (IsUnary op x) (NoRow (IsUnary op x) at BadType)
@@ -55,6 +55,7 @@ address_or_none (VariableAt t (variables.Automatic n)) = inr (λ h. h)
 address_or_none (VariableAt t (variables.Parameter n)) = inr (λ h. h)
 address_or_none (VariableAt t (variables.Global n)) = inl tt
 address_or_none (VariableAt t (variables.Static n)) = inl tt
+address_or_none (VariableAt t (variables.InBlock o)) = inl tt
 address_or_none (PointedBy t e) = inl tt
 address_or_none (ElementBy t e) = inl tt
 
@@ -64,15 +65,17 @@ with_address at (VariableAt t (variables.Automatic n)) h = absurd h
 with_address at (VariableAt t (variables.Parameter n)) h = absurd h
 with_address at (VariableAt t (variables.Global n)) h = refl
 with_address at (VariableAt t (variables.Static n)) h = refl
+with_address at (VariableAt t (variables.InBlock o)) h = refl
 with_address at (PointedBy t e) h = refl
 with_address at (ElementBy t e) h = refl
 
-without_address : (at : ℕ) (p : APlace) → (HasAddress p → ⊥) → address_of at p ≡ bad at LeftOut
+without_address : (at : ℕ) (p : APlace) → (HasAddress p → ⊥) → address_of at p ≡ bad at BadType
 unfolding address_of
 without_address at (VariableAt t (variables.Automatic n)) h = refl
 without_address at (VariableAt t (variables.Parameter n)) h = refl
 without_address at (VariableAt t (variables.Global n)) h = absurd (h tt)
 without_address at (VariableAt t (variables.Static n)) h = absurd (h tt)
+without_address at (VariableAt t (variables.InBlock o)) h = absurd (h tt)
 without_address at (PointedBy t e) h = absurd (h tt)
 without_address at (ElementBy t e) h = absurd (h tt)
 
@@ -89,10 +92,7 @@ place_found at p t e = by (address_or_none p)
   where
     by : HasAddress p ⊎ (HasAddress p → ⊥) → IsAddress (ReadOf p) t
     by (inl h) = pointer_found at p t (pointer_to (place_type p)) h refl (sym (with_address at p h) ∙ e)
-    by (inr never) = absurd (let f : bad at LeftOut ≡ Ok t = sym (without_address at p never) ∙ e in cc)
-
-same_place : (p r : APlace) → ReadOf p ≡ ReadOf r → p ≡ r
-same_place p r e = cc
+    by (inr never) = absurd (let f : bad at BadType ≡ Ok t = sym (without_address at p never) ∙ e in cc)
 
 address_found : (at : ℕ) (x t : AnExpression) → address at x ≡ Ok t → IsAddress x t
 unfolding address
@@ -104,56 +104,20 @@ unfolding address
 address_only at x t r =
     ap (address at) r.read ∙ (with_address at r.place r.fixed ∙ (ap (λ (o : Option CType). address_by o at r.place) r.pointer ∙ ap Ok (sym r.is)))
 
--- an operand that is no place is refused
-abbrev IsOther : ℕ → AnExpression → Type 0
-IsOther at x = ((p : APlace) → x ≡ ReadOf p → ⊥) × (address at x ≡ bad at BadType)
-
-place_or_other : (at : ℕ) (x : AnExpression) → ((p : APlace) × (x ≡ ReadOf p)) ⊎ IsOther at x
-unfolding address
-place_or_other at (ReadOf p) = inl (p, refl)
-place_or_other at _ = inr ((λ p e. absurd (cc)), refl)
-
-at_place : (at : ℕ) (x : AnExpression) (p : APlace) → x ≡ ReadOf p → address at x ≡ address_of at p
-unfolding address
-at_place at x p is = ap (address at) is
-
-address_faults : (at : ℕ) (x : AnExpression) (f : Fault) → address at x ≡ Err f → AddressFault at x f
-address_faults at x f e = by (place_or_other at x)
+place_one : (at : ℕ) (p : APlace) (f : Fault) → address_of at p ≡ Err f → f ≡ record { place = at; kind = BadType }
+place_one at p f e = by (address_or_none p)
   where
-    none : (t : AnExpression) → IsAddress x t → ⊥
-    none t a = let g : Err f ≡ Ok t = sym e ∙ address_only at x t a in cc
+    by : HasAddress p ⊎ (HasAddress p → ⊥) → f ≡ record { place = at; kind = BadType }
+    by (inl h) = pointer_one at p f (pointer_to (place_type p)) (sym (with_address at p h) ∙ e)
+    by (inr never) = let g : bad at BadType ≡ Err f = sym (without_address at p never) ∙ e in cc
 
-    of_place : (p : APlace) → x ≡ ReadOf p → HasAddress p ⊎ (HasAddress p → ⊥) → AddressFault at x f
-    of_place p is (inl h) =
-        OfOther (λ r also. subst HasAddress (same_place p r (sym is ∙ also)) h)
-        (record { none = none; is = pointer_one at p f (pointer_to (place_type p)) (sym (with_address at p h) ∙ (sym (at_place at x p is) ∙ e)) })
-    of_place p is (inr never) =
-        OfAutomatic p is never (let g : bad at LeftOut ≡ Err f = sym (without_address at p never) ∙ (sym (at_place at x p is) ∙ e) in cc)
+address_one : (at : ℕ) (x : AnExpression) (f : Fault) → address at x ≡ Err f → f ≡ record { place = at; kind = BadType }
+unfolding address
+address_one at (ReadOf p) f e = place_one at p f e
+address_one at _ f e = cc
 
-    by : ((p : APlace) × (x ≡ ReadOf p)) ⊎ IsOther at x → AddressFault at x f
-    by (inl (p, is)) = of_place p is (address_or_none p)
-    by (inr other) =
-        OfOther (λ r also. absurd (other.0 r also)) (record { none = none; is = (let g : bad at BadType ≡ Err f = sym other.1 ∙ e in cc) })
-
-address_first : (at : ℕ) (x : AnExpression) (f : Fault) → AddressFault at x f → address at x ≡ Err f
-address_first at x f (OfAutomatic p read never is) = at_place at x p read ∙ (without_address at p never ∙ ap Err (sym is))
-address_first at x f (OfOther others row) = by (address at x) refl
-  where
-    same : (g : Fault) → address at x ≡ Err g → AddressFault at x g → g ≡ f
-    same g e (OfAutomatic p read never is) = absurd (never (others p read))
-    same g e (OfOther also other) = other.is ∙ sym row.is
-
-    by : (m : Result AnExpression Fault) → address at x ≡ m → m ≡ Err f
-    by (Ok t) e = absurd (row.none t (address_found at x t e))
-    by (Err g) e = ap Err (same g e (address_faults at x g e))
-
-address_means : (at : ℕ) (x : AnExpression) → Means (address at x) (IsAddress x) (AddressFault at x)
-address_means at x = record {
-  found = λ t e. address_found at x t e;
-  only = λ t r. address_only at x t r;
-  faults = λ f e. address_faults at x f e;
-  first = λ f w. address_first at x f w;
-}
+address_means : (at : ℕ) (x : AnExpression) → Means (address at x) (IsAddress x) (NoRow (IsAddress x) at BadType)
+address_means at x = means_row _ _ at BadType (λ t e. address_found at x t e) (λ t r. address_only at x t r) (λ f e. address_one at x f e)
 
 pub prefixes_mean : (op : PrefixOperator) (at : ℕ) (x : AnExpression) → Means (prefix_of op at x) (IsPrefix op x) (PrefixFault op at x)
 unfolding prefix_of

@@ -8,7 +8,7 @@ use Rattle.c_types.specs.declared.typed.Variable.TheVariants as variables
 use Rattle.c_types.specs.declared.typed.UnaryOperator.{UnaryOperator}
 use Rattle.c_types.specs.declared.typed.UnaryOperator.TheVariants as unaries
 use Rattle.c_types.specs.declared.typed.Moment.{Moment}
-use Rattle.c_types.specs.declared.fault.TypeKind.TheVariants.{BadType, LeftOut}
+use Rattle.c_types.specs.declared.fault.TypeKind.TheVariants.{BadType}
 use Rattle.c_types.specs.Answers.{Fault}
 use Rattle.c_types.specs.Types.{is_scalar, target, pointer_to}
 use Rattle.c_types.specs.Typed.{APlace, VariableAt, PointedBy, ElementBy, AnExpression, ReadOf, AddressOf, StepOf, UnaryOf}
@@ -31,12 +31,13 @@ pub record IsIndirection (x t : AnExpression) : Type 0 where
   pub operand : IsPointer x
   pub is : t ≡ ReadOf (PointedBy (target operand.to operand.stars) x)
 
--- a place that has an address: no automatic variable and no parameter
+-- a place that has an address: no automatic variable and no parameter but a memory local
 abbrev pub HasAddress : APlace → Type 0
 HasAddress (VariableAt t (variables.Automatic n)) = ⊥
 HasAddress (VariableAt t (variables.Parameter n)) = ⊥
 HasAddress (VariableAt t (variables.Global n)) = Unit {0}
 HasAddress (VariableAt t (variables.Static n)) = Unit {0}
+HasAddress (VariableAt t (variables.InBlock o)) = Unit {0}
 HasAddress (PointedBy t e) = Unit {0}
 HasAddress (ElementBy t e) = Unit {0}
 
@@ -48,12 +49,6 @@ pub record IsAddress (x t : AnExpression) : Type 0 where
   pub type : CType
   pub pointer : pointer_to (place_type place) ≡ Some type
   pub is : t ≡ AddressOf type place
-
--- `&` of an automatic variable or a parameter is left out; of anything else that no row has it is a fault of types
-pub data AddressFault (at : ℕ) (x : AnExpression) (f : Fault) : Type 0 where
-  OfAutomatic : (place : APlace) (read : x ≡ ReadOf place) (automatic : HasAddress place → ⊥)
-      (is : f ≡ record { place = at; kind = LeftOut }) → AddressFault at x f
-  OfOther : (others : (place : APlace) → x ≡ ReadOf place → HasAddress place) (row : NoRow (IsAddress x) at BadType f) → AddressFault at x f
 
 abbrev pub IsPrefix : PrefixOperator → AnExpression → AnExpression → Type 0
 IsPrefix prefixes.Plus x t = IsUnary unaries.Plus x t
@@ -69,7 +64,7 @@ PrefixFault prefixes.Minus at x f = NoRow (IsUnary unaries.Minus x) at BadType f
 PrefixFault prefixes.Complement at x f = NoRow (IsUnary unaries.Complement x) at BadType f
 PrefixFault prefixes.Not at x f = NoRow (IsNegation x) at BadType f
 PrefixFault prefixes.Indirection at x f = NoRow (IsIndirection x) at BadType f
-PrefixFault prefixes.Address at x f = AddressFault at x f
+PrefixFault prefixes.Address at x f = NoRow (IsAddress x) at BadType f
 
 -- `a[i]` means `*(a + i)`
 pub record IsIndex (x y t : AnExpression) : Type 0 where

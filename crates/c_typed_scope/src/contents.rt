@@ -61,7 +61,10 @@ fn linked(x: &Expression) -> Option<u32>
         Expression::Literal(object, _) => Some(*object),
         Expression::Array(_, variable, _) => match variable {
             Variable::Global(object) => Some(*object),
-            Variable::Automatic(_) | Variable::Parameter(_) | Variable::Static(_) => None,
+            Variable::Automatic(_)
+            | Variable::Parameter(_)
+            | Variable::Static(_)
+            | Variable::InBlock(_) => None,
         },
         Expression::Address(_, place) => linked_place(place),
         _ => None,
@@ -74,7 +77,10 @@ fn linked_place(place: &Place) -> Option<u32>
     match place {
         Place::Variable(_, variable) => match variable {
             Variable::Global(object) => Some(*object),
-            Variable::Automatic(_) | Variable::Parameter(_) | Variable::Static(_) => None,
+            Variable::Automatic(_)
+            | Variable::Parameter(_)
+            | Variable::Static(_)
+            | Variable::InBlock(_) => None,
         },
         _ => None,
     }
@@ -113,7 +119,7 @@ impl Contents {
     }
 
     // The address of an object.
-    fn put_link(&mut self, objects: &[Object], object: u32) -> Result<(), AllocError>
+    pub(crate) fn put_link(&mut self, objects: &[Object], object: u32) -> Result<(), AllocError>
         requires { length self.old.bytes.items < 2 ^ 32 }
         ensures { OnOk result (filled_so_far self.new ≡ with_link objects.now object (filled_so_far self.old)) }
     {

@@ -13,7 +13,7 @@ use Rattle.c_typed_definition.specs.Headings.{Text}
 use Rattle.c_typed_statements.specs.declared.functions.Builder.{Builder}
 
 abbrev pub text : Builder → Text
-text b = record { state = state b.environment; declared = b.declared.items; bodies = map routine b.routines.items }
+text b = record { state = state b.environment; declared = b.declared.items; bodies = map routine b.routines.items; ends = b.ends }
 
 abbrev pub function_of : Function → AFunction
 function_of f = record { stars = f.stars; name = f.name; at = f.at; opened = f.«open»; params = params_of f.params; body = body_of f.body }

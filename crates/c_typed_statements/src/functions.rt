@@ -11,8 +11,13 @@ ghost use Rattle.c_typed_expressions.specs.Functions.{by_functions};
 ghost use Rattle.c_typed_expressions.specs.Phrases.{brackets_in};
 ghost use Rattle.c_typed_expressions.specs.Expressions.{integer_of};
 ghost use Rattle.c_typed_objects.specs.Views.{state};
-ghost use Rattle.c_typed_definition.specs.Headings.{body_of, earlier_by, is_below, head_of, word_of, parameter_form};
-ghost use Rattle.c_typed_definition.specs.Headings.{agrees, with_declared, entered_function, left_function, head_by};
+ghost use Rattle.c_typed_definition.specs.Bodies.{body_of};
+ghost use Rattle.c_typed_definition.specs.Headings.{earlier_by, is_below, head_of, word_of, parameter_form};
+ghost use Rattle.c_typed_definition.specs.Headings.{agrees, with_declared, head_by};
+ghost use Rattle.c_typed_definition.specs.Bodies.{with_stores, marks_in, end_in, entered_function, left_function};
+ghost use Rattle.c_typed_addressed.specs.Views.{marks};
+ghost use Rattle.c_program.specs.Statements.{declaration};
+ghost use Rattle.std.specs.Prelude.{map};
 ghost use Rattle.c_typed_definition.specs.Texts.{parameter_length, type_parameter, type_parameters, type_body};
 ghost use Rattle.c_typed_definition.specs.Texts.{type_introduced, type_function};
 ghost use Rattle.c_typed_statements.specs.Views.{text, function_of};
@@ -22,25 +27,28 @@ use crate::statements::items;
 use c_phrases::operator::Spec;
 use c_phrases::tree::{Function, Item, Length, Param, Stars};
 use c_program::need::need;
-use c_program::{Action, Routine};
+use c_program::{Action, Declaration, Routine};
+use c_typed_addressed::{Addressed, addressed};
 use c_typed_expressions::Functions;
 use c_typed_expressions::phrase::{integer_of, written};
-use c_typed_objects::Environment;
 use c_typed_objects::environment::declare;
 use c_typed_objects::initialiser::array_length;
+use c_typed_objects::{Environment, Room};
 use c_typed_scope::{Block, Blocks, Data, Entry, Signature};
 use c_types::fault::{bad_type, refuse};
 use c_types::{CType, TypeFault, TypeKind, Types, Variable};
-use gg_base::Name;
-use std::alloc::Global;
+use gg_base::{ListOf, Name};
+use std::alloc::{AllocError, Global};
 use tree_core::LocalNumbers;
 
-/// A text so far: what is in scope, the functions that were declared, and those that are typed.
+/// A text so far: what is in scope, the functions that were declared, and those that are typed; and the offsets where the
+/// bodies of the text's functions end, in order.
 #[derive(Drop)]
 pub struct Builder {
     pub environment: Environment,
     pub declared: Vec<Signature>,
     pub routines: Vec<Routine>,
+    pub ends: ListOf<u32>,
 }
 
 /// The most parameters of a function.
@@ -193,7 +201,14 @@ fn declare_parameter(
             if number > 0xffff_ffff {
                 return Err(TypeFault::NoMemory);
             }
-            let entry = Entry::Variable(parameter_type(p), Variable::Parameter(number as u32));
+            let of = parameter_type(p);
+            let number = number as u32;
+            let variable = if environment.room.is_parameter_addressed(number as usize) {
+                Variable::InBlock(environment.room.take_parameter(of, number)?)
+            } else {
+                Variable::Parameter(number)
+            };
+            let entry = Entry::Variable(of, variable);
             declare(alloc, &mut environment.blocks, &name.name, entry)?;
             Ok(())
         }
@@ -283,13 +298,28 @@ fn introduce(
     }
 }
 
+// The variables of a definition to which `&` is applied.
+fn marks(alloc: Global, f: &Function) -> Result<Addressed, AllocError>
+    ensures { IfOk result (λ m. marks m ≡ marks_in (function_of f.now) (function_of f.now).body) }
+{
+    match &f.body {
+        None => Ok(Addressed::new(alloc)),
+        Some(row) => addressed(alloc, parameters(&f.params), row),
+    }
+}
+
 // The parameters and the body's outermost block are one scope.
-fn open_function(alloc: Global, environment: &mut Environment) -> Result<(), TypeFault>
-    ensures { OnlyTurns result (state environment.new) (Ok (entered_function (state environment.old))) }
+fn open_function(
+    alloc: Global,
+    f: &Function,
+    environment: &mut Environment,
+) -> Result<(), TypeFault>
+    ensures { OnlyTurns result (state environment.new) (Ok (entered_function (function_of f.now) (state environment.old))) }
 {
     environment.blocks.enter(alloc)?;
     environment.locals = Vec::new(alloc);
     environment.registers = Vec::new(alloc);
+    environment.room = Room::new(alloc, marks(alloc, f)?);
     Ok(())
 }
 
@@ -299,20 +329,33 @@ fn close_function(alloc: Global, environment: &mut Environment)
     environment.blocks.leave();
     environment.locals = Vec::new(alloc);
     environment.registers = Vec::new(alloc);
+    environment.room = Room::new(alloc, Addressed::new(alloc));
 }
 
-// The routine of a body that is typed, with the locals that it declared, and the numbers of those that are declared `register`.
+// What a call of a function does: it stores the parameters that are memory locals, and then its statements follow.
+fn with_stores(stores: Vec<Declaration>, body: &mut Vec<Action>) -> Result<(), TypeFault>
+    ensures { OnlyTurns result (acts body.new.items) (Ok (with_stores (map declaration stores.items) (acts body.old.items))) }
+{
+    if !stores.is_empty() {
+        body.insert(0, Action::Declare(stores))?;
+    }
+    Ok(())
+}
+
+// The routine of a body that is typed, with the locals that it declared, the numbers of those that are declared `register`,
+// and the bytes of its memory locals.
 fn routine(
     alloc: Global,
     spec: Spec,
     f: &Function,
     locals: Vec<CType>,
     registers: Vec<u32>,
+    block: u32,
     body: Vec<Action>,
 ) -> Result<Routine, TypeFault>
-    ensures { Gives (λ r. routine r) result (Ok (body_of spec (function_of f.now) locals.items registers.items (acts body.items))) }
+    ensures { Gives (λ r. routine r) result (Ok (body_of spec (function_of f.now) locals.items registers.items block (acts body.items))) }
 {
-    let Some(need) = need(&locals, &body) else {
+    let Some(need) = need(&locals, block, &body) else {
         return Err(TypeFault::NoMemory);
     };
     let Signature { result, parameters } = signature(alloc, spec, f)?;
@@ -322,9 +365,18 @@ fn routine(
         parameters,
         locals: Types::from_vec(locals),
         registers: LocalNumbers::from_vec(registers),
+        block,
         body,
         need,
     })
+}
+
+// Where the body of the next function ends.
+fn body_end(builder: &Builder) -> u32
+    ensures { result ≡ end_in (text builder.now) }
+{
+    let ends = builder.ends.as_slice();
+    ends.get(builder.routines.len()).copied().unwrap_or(0)
 }
 
 #[tactic(auto, using(std::proofs::lemmas::List::map_push))]
@@ -340,7 +392,7 @@ fn define(
         (function_of f.now) (Some (items_of row.now)) (state builder.old.environment) (text builder.old)) }
 {
     let result = written(spec, &f.stars);
-    let body = items(
+    let mut body = items(
         alloc,
         functions,
         result,
@@ -348,10 +400,13 @@ fn define(
         row,
         &mut builder.environment,
     )?;
+    let block = builder.environment.room.block(body_end(builder))?;
+    let stores = std::mem::replace(&mut builder.environment.room.stores, Vec::new(alloc));
+    with_stores(stores, &mut body)?;
     let locals = std::mem::replace(&mut builder.environment.locals, Vec::new(alloc));
     let registers = std::mem::replace(&mut builder.environment.registers, Vec::new(alloc));
     close_function(alloc, &mut builder.environment);
-    let routine = routine(alloc, spec, f, locals, registers, body)?;
+    let routine = routine(alloc, spec, f, locals, registers, block, body)?;
     builder.routines.push(routine)?;
     Ok(())
 }
@@ -370,7 +425,7 @@ fn introduced(
         spec (function_of f.now) (text builder.old)) }
 {
     let environment = &mut builder.environment;
-    open_function(alloc, environment)?;
+    open_function(alloc, f, environment)?;
     declare_parameters(
         alloc,
         functions,

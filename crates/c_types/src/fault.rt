@@ -10,8 +10,6 @@ pub enum TypeKind {
     UnknownName,
     /// A name is declared again in its scope, a function is defined twice, or a service is defined.
     Twice,
-    /// An automatic array, or `&` of an automatic variable or parameter.
-    LeftOut,
     /// The called name is no function, or the number of arguments differs.
     BadCall,
     /// `break` or `continue` outside a loop.
@@ -22,7 +20,7 @@ pub enum TypeKind {
     BadInit,
     /// Operands that the table of operators doesn't have, or a type that can't stand there.
     BadType,
-    /// An object ends behind the data area.
+    /// An object ends behind the data area, or the memory locals of a function take more than 262,144 bytes.
     DataFull,
     /// No definition of `main` with result `int` and no parameter.
     NoMain,

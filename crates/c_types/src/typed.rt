@@ -8,7 +8,7 @@ use gg_base::Rel;
 /// What a variable's name stands for.
 #[derive(Clone, Copy, Debug, PartialEq, Eq)]
 pub enum Variable {
-    /// An automatic local of the function, from 0 in order of declaration.
+    /// An automatic local of the function that is no memory local, from 0 in order of declaration.
     Automatic(u32),
     /// A parameter of the function, from 0.
     Parameter(u32),
@@ -16,7 +16,12 @@ pub enum Variable {
     Global(u32),
     /// The object of a static local.
     Static(u32),
+    /// A memory local of the function, by its offset in the block of a call.
+    InBlock(u32),
 }
+
+/// The most bytes of a function's memory locals, and those of the stack on which they lie.
+pub const BLOCK_LIMIT: u32 = 262_144;
 
 /// What a call calls.
 #[derive(Clone, Copy, Debug, PartialEq, Eq)]

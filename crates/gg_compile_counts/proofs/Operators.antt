@@ -162,6 +162,8 @@ address_of_nodes at (VariableAt t (variables.Global n)) =
     address_by_nodes (pointer_to (place_type (VariableAt t (variables.Global n)))) at (VariableAt t (variables.Global n))
 address_of_nodes at (VariableAt t (variables.Static n)) =
     address_by_nodes (pointer_to (place_type (VariableAt t (variables.Static n)))) at (VariableAt t (variables.Static n))
+address_of_nodes at (VariableAt t (variables.InBlock o)) =
+    address_by_nodes (pointer_to (place_type (VariableAt t (variables.InBlock o)))) at (VariableAt t (variables.InBlock o))
 address_of_nodes at (PointedBy t x) = address_by_nodes (pointer_to (place_type (PointedBy t x))) at (PointedBy t x)
 address_of_nodes at (ElementBy t x) = address_by_nodes (pointer_to (place_type (ElementBy t x))) at (ElementBy t x)
 

@@ -1,17 +1,20 @@
--- How large a program is: its nodes, branches and loops.
-use Rattle.std.specs.Prelude.{ℕ, ◌+◌, List, [], ◌∷◌}
+-- How large a program is: its nodes, branches and loops, its runs of zeros and its blocks.
+use Rattle.std.specs.Prelude.{ℕ, zero, suc, pred, ◌+◌, List, [], ◌∷◌}
 use Rattle.c_program.specs.Need.{nodes, maybe_nodes}
 use Rattle.c_program.specs.Programs.{ARoutine, AProgram}
-use Rattle.c_program.specs.Statements.{ADeclaration, KeepOf, ClearOf, BeginOf, AnAction, SomeActions, NoActions}
-use Rattle.c_program.specs.Statements.{MoreActions, DeclareOf, BlockOf, EvaluateOf, BreakOf, ContinueOf}
+use Rattle.c_program.specs.Statements.{ADeclaration, KeepOf, ClearOf, BeginOf, StoreOf, ZerosOf, AnAction}
+use Rattle.c_program.specs.Statements.{SomeActions, NoActions, MoreActions, DeclareOf, BlockOf, EvaluateOf, BreakOf, ContinueOf}
 use Rattle.c_program.specs.Statements.{ReturnOf, IfOf, IfElseOf, WhileOf, DoOf, ForOf}
 
--- the nodes of all initialisers
+-- the nodes of all initialisers, but one for each value that is stored in a block, so that a character of a string is none; a run of zeros
+-- is one
 abbrev pub declared_size : List ADeclaration → ℕ
 declared_size [] = 0
 declared_size (KeepOf object ∷ ds) = declared_size ds
 declared_size (ClearOf n ∷ ds) = declared_size ds
 declared_size (BeginOf n e ∷ ds) = nodes e + declared_size ds
+declared_size (StoreOf t o e ∷ ds) = pred (nodes e) + declared_size ds
+declared_size (ZerosOf t o count ∷ ds) = 1 + declared_size ds
 
 -- the nodes of all expressions of a statement, and one for each branch and each loop
 abbrev mutual
@@ -32,10 +35,15 @@ abbrev mutual
   row_size NoActions = 0
   row_size (MoreActions a row) = act_size a + row_size row
 
+-- a block of memory locals is one
+abbrev pub block_size : ℕ → ℕ
+block_size zero = 0
+block_size (suc n) = 1
+
 -- the same of all functions of a program
 abbrev pub routines_size : List ARoutine → ℕ
 routines_size [] = 0
-routines_size (g ∷ gs) = row_size g.body + routines_size gs
+routines_size (g ∷ gs) = block_size g.block + row_size g.body + routines_size gs
 
 abbrev pub program_size : AProgram → ℕ
 program_size p = routines_size p.routines

@@ -30,7 +30,8 @@ use Rattle.c_typed_expressions.specs.Expressions.{written}
 use Rattle.c_typed_definition.specs.State.{State, with_area}
 use Rattle.c_typed_definition.specs.Statements.{entered}
 use Rattle.c_typed_definition.specs.Signatures.{parameter_type}
-use Rattle.c_typed_definition.specs.Headings.{Text, with_parameter, with_declared, entered_function}
+use Rattle.c_typed_definition.specs.Headings.{Text, with_parameter, with_declared}
+use Rattle.c_typed_definition.specs.Bodies.{entered_function}
 use Rattle.c_typed_definition.specs.Texts.{empty_text}
 use Rattle.c_typed_law.specs.Statements.{IsFull, IsCondition, IsPart, IsTurn, IsReturn, IsStatement, AreItems}
 use Rattle.c_typed_law.specs.Texts.{IsParameterLength, IsParameter, AreParameters, IsBody, AreGlobals, IsExternalBy, AreExternals}

@@ -17,7 +17,8 @@ use Rattle.c_typed_scope.specs.declared.entry.Signature.{Signature}
 use Rattle.c_typed_expressions.specs.Phrases.{params_in}
 use Rattle.c_typed_expressions.specs.Expressions.{written}
 use Rattle.c_typed_definition.specs.State.{State, with_area}
-use Rattle.c_typed_definition.specs.Headings.{Text, with_parameter, with_declared, body_of, entered_function}
+use Rattle.c_typed_definition.specs.Headings.{Text, with_parameter, with_declared}
+use Rattle.c_typed_definition.specs.Bodies.{body_of, entered_function}
 use Rattle.c_typed_definition.specs.Signatures.{known, parameter_type}
 use Rattle.c_typed_definition.specs.Texts.{empty_text}
 use Rattle.c_typed_law.specs.Texts.{AreParameters, IsBody, IsFunction, IsExternalBy, AreExternals, IsText}

@@ -47,7 +47,7 @@ pub record Declares (unit : AUnit) (f : AFunction) : Type 0 where
 abbrev pub BodiesNeedLittle : Type 0
 BodiesNeedLittle = (unit : AUnit) → HasTokens unit → (f : AFunction) (row : SomeItems) → Declares unit f → f.body ≡ Some row
     → (names : List (List ℕ × Entry)) (signatures : List Signature) (result : CType) (s : State) (r : SomeActions × State)
-    → s.locals ≡ [] → AreItems names signatures result false row s r → need_of r.1.locals r.0 ≤ 4194304
+    → s.locals ≡ [] → AreItems names signatures result false row s r → (block : ℕ) → need_of r.1.locals block r.0 ≤ 4194304
 
 -- what a phrase of so many tokens adds at most
 pub record AddsLittle (tokens : ℕ) (s r : State) : Type 0 where
@@ -62,8 +62,8 @@ StatementsAddLittle = (names : List (List ℕ × Entry)) (signatures : List Sign
 
 -- So the weight is at most 4,194,308 behind each external of a unit.
 abbrev pub TextsAddLittle : Type 0
-TextsAddLittle = (unit : AUnit) → HasTokens unit → (before behind : List AnExternal) → unit.externals ≡ before ++ behind
-    → (names : List (List ℕ × Entry)) (signatures : List Signature) (t : Text) → AreExternals names signatures before empty_text t
+TextsAddLittle = (unit : AUnit) (ends : List ℕ) → HasTokens unit → (before behind : List AnExternal) → unit.externals ≡ before ++ behind
+    → (names : List (List ℕ × Entry)) (signatures : List Signature) (t : Text) → AreExternals names signatures before (empty_text ends) t
     → Weight t.state.area ≤ 4194308
 
 -- a string of at most so many bytes
@@ -102,4 +102,4 @@ pub record HasFewCounts (p : AProgram) : Type 0 where
 
 -- In the program that a unit is typed as these are few, where the unit's tokens are those of a source.
 abbrev pub CountsFit : Type 0
-CountsFit = (p : AProgram) (unit : AUnit) → HasTokens unit → IsText unit.externals p → HasFewCounts p
+CountsFit = (p : AProgram) (unit : AUnit) (ends : List ℕ) → HasTokens unit → IsText unit.externals ends unit.end p → HasFewCounts p

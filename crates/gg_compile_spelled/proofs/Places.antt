@@ -15,7 +15,8 @@ use Rattle.c_types.proofs.Sizes.{scale_small}
 use Rattle.c_sound.specs.Stands.{IsThere}
 use Rattle.c_lower_scheme.specs.Trees.{Tree, Num, Loc, Bin, Item}
 use Rattle.c_lower_scheme.specs.Parts.{Lowered, Where, InLoc, InArg, InMem, Located, Passing, Assignable, over, Destination, InLocal, AsResult}
-use Rattle.c_lower_scheme.specs.Places.{saved, next_if, read_from, assign_to, address_tree, where_of, found, pointed, read_low, address_low, holding, held}
+use Rattle.c_lower_scheme.specs.Saving.{saved, next_if}
+use Rattle.c_lower_scheme.specs.Places.{read_from, assign_to, address_tree, where_of, found, pointed, read_low, address_low, holding, held}
 use Rattle.c_lower_scheme.specs.Values.{scaled_by, advance, advance_by, retreat, apart, step}
 use Rattle.c_lower_scheme.specs.Calls.{pushes, called_drop, called_low, passed_as, pass_so, called_deliver}
 use Rattle.c_lower_scheme.specs.Assignments.{ready_so, update_so, store_drop, store_low_at, store_low, must_keep, step_tree, step_ready, step_low}

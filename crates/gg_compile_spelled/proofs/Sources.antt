@@ -8,7 +8,8 @@ use Rattle.c_typed_scope.specs.declared.entry.Entry.{Entry}
 use Rattle.c_typed_scope.specs.declared.entry.Signature.{Signature}
 use Rattle.c_typed_definition.specs.State.{State}
 use Rattle.c_typed_definition.specs.Signatures.{known}
-use Rattle.c_typed_definition.specs.Headings.{Text, with_declared, body_of}
+use Rattle.c_typed_definition.specs.Headings.{Text, with_declared}
+use Rattle.c_typed_definition.specs.Bodies.{body_of}
 use Rattle.c_typed_definition.specs.Texts.{empty_text}
 use Rattle.c_typed_law.specs.Texts.{IsBody, IsFunction, IsExternalBy, AreExternals, IsText}
 use Rattle.c_typed_words.specs.Words.{IsName, IsToken}

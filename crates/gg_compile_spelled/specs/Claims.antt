@@ -1,5 +1,5 @@
 -- What is claimed of the trees of a program where code is written for them: their names, numbers, offsets and labels can be spelled.
-use Rattle.std.specs.Prelude.{◌≡◌, ℕ, ◌≤◌, ◌^◌, List, [], ◌∷◌, length, Some, true, slice_get}
+use Rattle.std.specs.Prelude.{◌≡◌, ℕ, ◌-◌, ◌≤◌, ◌^◌, List, [], ◌∷◌, length, Some, true, slice_get}
 use Rattle.std.specs.List.{AllByRecursion}
 use Rattle.tree_core.specs.declared.program.TreeFn.{TreeFn}
 use Rattle.tree_core.specs.Names.{function_label}
@@ -15,13 +15,13 @@ use Rattle.vax_core.specs.Valid.{is_name}
 use Rattle.gg_compile_law.specs.Names.{HaveSmall}
 
 -- the first label that is free behind functions, from the one before them on
-abbrev pub labels_behind : ℕ → List ARoutine → ℕ → ℕ
-labels_behind count [] l = l
-labels_behind count (g ∷ gs) l = labels_behind count gs (body_of count g l).labels
+abbrev pub labels_behind : ℕ → ℕ → List ARoutine → ℕ → ℕ
+labels_behind pointer count [] l = l
+labels_behind pointer count (g ∷ gs) l = labels_behind pointer count gs (body_of pointer count g l).labels
 
 -- how many labels lowering takes for a program
 abbrev pub label_count : AProgram → ℕ
-label_count p = labels_behind (length p.routines) p.routines 0
+label_count p = labels_behind (length p.objects - 2) (length p.routines) p.routines 0
 
 -- The trees that a sound program is lowered to can be spelled, where longwords count its labels.
 abbrev pub LoweredIsSpelled : Type 0
@@ -42,11 +42,11 @@ NamesAreSpelled = (p : AProgram) → HaveNames p → AllByRecursion (λ (f : Tre
 
 -- The functions of the program that a unit is typed as have such names, where the unit's tokens are those of the grammar.
 abbrev pub TypedHaveNames : Type 0
-TypedHaveNames = (p : AProgram) (unit : AUnit) → HasTokens unit → IsText unit.externals p → HaveNames p
+TypedHaveNames = (p : AProgram) (unit : AUnit) (ends : List ℕ) → HasTokens unit → IsText unit.externals ends unit.end p → HaveNames p
 
 -- each function needs at most so many longwords of its frame
 abbrev pub NeedAtMost : AProgram → ℕ → Type 0
-NeedAtMost p most = (n : ℕ) (g : ARoutine) → slice_get p.routines n ≡ Some g → need_of g.locals g.body ≤ most
+NeedAtMost p most = (n : ℕ) (g : ARoutine) → slice_get p.routines n ≡ Some g → need_of g.locals g.block g.body ≤ most
 
 -- It has at most as many locals then.
 abbrev pub LocalsAreFew : Type 0

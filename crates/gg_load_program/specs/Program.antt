@@ -66,8 +66,9 @@ function_routine i =
       parameters = int ∷ [];
       locals = int ∷ [];
       registers = [];
+      block = 0;
       body = function_body i;
-      need = need_of (int ∷ []) (function_body i);
+      need = need_of (int ∷ []) 0 (function_body i);
     }
 
 abbrev pub function_routines : ℕ → List ARoutine
@@ -116,8 +117,9 @@ main_routine k =
       parameters = [];
       locals = int ∷ [];
       registers = [];
+      block = 0;
       body = main_body k;
-      need = need_of (int ∷ []) (main_body k);
+      need = need_of (int ∷ []) 0 (main_body k);
     }
 
 abbrev pub source_program : ℕ → AProgram
@@ -125,4 +127,4 @@ source_program k = record { objects = table ∷ []; routines = function_routines
 
 -- a function fits its frame
 abbrev pub IsSmall : ARoutine → Type 0
-IsSmall r = need_of r.locals r.body ≤ 1024
+IsSmall r = need_of r.locals r.block r.body ≤ 1024

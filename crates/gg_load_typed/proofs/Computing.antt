@@ -15,7 +15,7 @@ use Rattle.c_typed_definition.specs.Initialisers.{type_length}
 use Rattle.c_typed_definition.specs.Forms.{form_of, automatic_form, many}
 use Rattle.c_typed_definition.specs.State.{laid}
 use Rattle.c_typed_definition.specs.Declarations.{object_with, counted_array, array_object, type_object}
-use Rattle.c_typed_definition.specs.Declarations.{type_automatic}
+use Rattle.c_typed_definition.specs.Automatics.{type_automatic}
 use Rattle.c_typed_definition.specs.Statements.{type_full, type_condition}
 use Rattle.c_typed_definition.specs.Headings.{agrees}
 use Rattle.c_typed_definition.specs.Texts.{type_parameter, type_introduced}

@@ -1,3 +1,4 @@
+use Rattle.c_lower_code.specs.Views.{destination}
 use Rattle.c_program.specs.Statements.{acts, declaration}
 use Rattle.std.specs.Prelude.{map}
 use Rattle.std.proofs.Common.{ap}
@@ -6,6 +7,6 @@ use Rattle.c_lower_code.proofs.statement.one_declared.Goals as goal
 
 pub returns-in-Clear : goal.returns-in-Clear
 returns-in-Clear c =
-    let is = clear_is c.args.frame.locals c.args.frame.functions c.in-Clear.n (declaration c.args.d.now) (map declaration c.args.others.now)
+    let is = clear_is c.args.frame.locals c.args.frame.functions c.args.frame.first (destination c.args.frame.out) c.in-Clear.n (declaration c.args.d.now) (map declaration c.args.others.now)
     (acts c.args.rest.now) c.args.l c.is_zeroed.result (ap declaration c.in-Clear.is) c.is_zeroed.ensures in
     rw is c.cleared.ensures

@@ -2,7 +2,7 @@ use Rattle.std.proofs.Common.{◌≡◌, drop, map, []}
 use Rattle.c_phrases.specs.UnitShapes.{declarators_of}
 use Rattle.c_program.specs.Statements.{declaration}
 use Rattle.c_typed_objects.specs.Views.{state}
-use Rattle.c_typed_definition.specs.Declarations.{type_locals}
+use Rattle.c_typed_definition.specs.Automatics.{type_locals}
 use Rattle.c_typed_objects.proofs.declaration.locals.Given as goal
 
 abbrev pub invariant-loop-d : goal.invariant-loop-d

@@ -1,0 +1,5 @@
+-- Endings of names: in_ what is found behind a phrase; _of what an expression applies `&` to. See docs/READING.md.
+pub mod Marks
+pub mod Expressions
+pub mod Statements
+pub mod Views
