@@ -22,7 +22,7 @@ use Rattle.c_typed_expressions.specs.Calls.{callee_of, count, call_unless, calle
 use Rattle.c_typed_expressions.specs.Relations.{IsNamed, NamesVariable, NamesArray, IsTyped, AreTyped}
 use Rattle.c_sound.specs.Stands.{arguments}
 use Rattle.c_typed_words.specs.Phrases.{ExpOf, ExpsOf}
-use Rattle.c_sound_bodies.specs.Claim.{ScopeOf, Extends}
+use Rattle.c_sound_bodies.specs.States.{ScopeOf, Extends}
 use Rattle.c_sound_bodies.proofs.ByParts.{Every, Closed}
 use Rattle.c_sound_bodies.proofs.Rules.{binary_has, index_has, prefix_has, step_has, cast_has, sizeof_has, sizeof_type_has, choice_has, assign_has}
 use Rattle.c_sound_bodies.proofs.Names.{found}

@@ -9,7 +9,7 @@ use Rattle.c_types.specs.declared.typed.Variable.TheVariants as variables
 use Rattle.c_typed_scope.specs.declared.entry.Entry.{Entry}
 use Rattle.c_typed_scope.specs.declared.entry.Entry.TheVariants as entries
 use Rattle.c_typed_scope.specs.Scopes.{Scope, find, later, find_outer, lookup, with_name, enter, leave}
-use Rattle.c_sound_bodies.specs.Claim.{IsKnown, OfVariable, NamesOf, BlocksOf, ScopeOf}
+use Rattle.c_sound_bodies.specs.States.{IsKnown, OfVariable, NamesOf, BlocksOf, ScopeOf}
 
 found_by : (Q : Entry → Type 0) (test : Bool) (x e : Entry) (o : Option Entry) → (if test then Some x else o) ≡ Some e → Q x →
     (o ≡ Some e → Q e) → Q e
@@ -97,12 +97,13 @@ left_scope s r is =
     let last : slice_index_or r.outer (length r.outer - 1) r.here ≡ s.here = rw is (index_behind s.outer s.here r.here) in
     rw (first, last) refl
 
--- with more locals and objects, and another local in scope
-pub known_more : (scope other : ℕ → Type 0) (locals parameters objects block size many room : ℕ) → ((n : ℕ) → scope n → other n) → locals ≤ size →
-    objects ≤ many → block ≤ room → (v : Variable) → IsKnown scope locals parameters objects block v → IsKnown other size parameters many room v
+-- with more locals, objects and bytes of memory locals, and another local in scope
+pub known_more : (scope other : ℕ → Type 0) (locals parameters objects block size many room : ℕ) → ((n : ℕ) → scope n → other n) →
+    locals ≤ size → objects ≤ many → block ≤ room → (v : Variable) → IsKnown scope locals parameters objects block v →
+    IsKnown other size parameters many room v
 known_more scope other locals parameters objects block size many room f l o k (variables.Automatic n) h = let below : n < locals = h.1 in
     (f n h.0, omega arith)
 known_more scope other locals parameters objects block size many room f l o k (variables.Parameter n) h = h
 known_more scope other locals parameters objects block size many room f l o k (variables.Global n) h = omega arith
 known_more scope other locals parameters objects block size many room f l o k (variables.Static n) h = omega arith
-known_more scope other locals parameters objects block size many room f l o k (variables.InBlock x) h = ⊎_elim (λ full. inl (omega arith)) (λ lt. inr (omega arith)) h
+known_more scope other locals parameters objects block size many room f l o k (variables.InBlock x) h = omega arith

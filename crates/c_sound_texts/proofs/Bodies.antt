@@ -34,7 +34,8 @@ use Rattle.c_typed_law.specs.Texts.{IsParameterLength, AreParameters, IsBody, Is
 use Rattle.c_typed_law.specs.Texts.{AreExternals}
 use Rattle.c_typed_law.proofs.Statements.{items_mean}
 use Rattle.c_typed_law.proofs.Objects.{object_means}
-use Rattle.c_sound_bodies.specs.Claim.{IsKnown, OfVariable, InOrder, Extends, Grows, AreDefined}
+use Rattle.c_sound_bodies.specs.States.{IsKnown, OfVariable, InOrder, Extends, Grows}
+use Rattle.c_sound_bodies.specs.Claim.{AreDefined}
 use Rattle.c_sound_bodies.proofs.Names.{scope_more, scope_named, scope_entered, named_outer, left_scope}
 use Rattle.c_sound_bodies.proofs.Growth.{extends_same, extends_further}
 use Rattle.c_sound_bodies.proofs.Objects.{length_extends, objects_are_sound}

@@ -36,7 +36,7 @@ use Rattle.c_typed_law.proofs.Declared.{parameter_area}
 use Rattle.c_typed_words.specs.Words.{IsName, IsToken}
 use Rattle.c_typed_words.specs.Phrases.{DeclaratorsOf, DeclaredOf, ExternalsOf}
 use Rattle.c_typed_words.proofs.Any.{AnyToken, any_exp, any_items}
-use Rattle.c_sound_bodies.specs.Claim.{InOrder}
+use Rattle.c_sound_bodies.specs.States.{InOrder}
 use Rattle.c_sound_bodies.proofs.Names.{left_scope}
 use Rattle.c_sound_bodies.proofs.Growth.{exp_lays}
 use Rattle.c_sound_bodies.proofs.Areas.{items_lay, order_any}

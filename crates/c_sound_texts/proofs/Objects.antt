@@ -39,7 +39,7 @@ use Rattle.c_typed_law.specs.Objects.{IsArrayObject, IsObjectBy, IsObject}
 use Rattle.c_sound.specs.Fits.{AreBytes}
 use Rattle.c_typed_words.specs.Words.{IsToken}
 use Rattle.c_typed_words.specs.Phrases.{ExpOf, ExpsOf, PartOf, BracketsOf, InitOf, DeclaratorOf}
-use Rattle.c_sound_bodies.specs.Claim.{OfVariable, ScopeOf}
+use Rattle.c_sound_bodies.specs.States.{OfVariable, ScopeOf}
 use Rattle.c_sound_bodies.proofs.Names.{variable_more, scope_more, scope_named}
 use Rattle.c_sound_bodies.proofs.Objects.{IsObjectOf, object_declares, laid_small}
 use Rattle.c_sound_bodies.proofs.Growth.{exp_lays}

@@ -33,7 +33,7 @@ use Rattle.c_typed_law.specs.Texts.{IsParameterLength, AreParameters, IsBody, Is
 use Rattle.c_typed_law.specs.Texts.{AreExternals}
 use Rattle.c_typed_words.specs.Words.{IsToken}
 use Rattle.c_typed_words.specs.Phrases.{ExpOf, PartOf, BracketsOf, InitOf, DeclaratorOf, DeclaratorsOf, StatementOf, ItemsOf, ParamsOf, BodyOf, DeclaredOf, ExternalsOf}
-use Rattle.c_sound_bodies.specs.Claim.{OfVariable, NamesOf, BlocksOf, ScopeOf}
+use Rattle.c_sound_bodies.specs.States.{OfVariable, NamesOf, BlocksOf, ScopeOf}
 use Rattle.c_sound_bodies.proofs.Names.{scope_named, scope_entered}
 use Rattle.c_sound_bodies.proofs.Growth.{exp_lays}
 use Rattle.c_sound_texts.proofs.Areas.{Lays, lays_same, laying}
