@@ -24,13 +24,22 @@ use Rattle.c_sound_bodies.proofs.ByParts.{Every, Closed}
 use Rattle.c_sound_bodies.proofs.Growth.{exp_extends}
 use Rattle.c_sound_bodies.proofs.Expressions.{exp_has}
 
-stands_in : (scope : ℕ → Type 0) (locals parameters objects block : ℕ) (v : Variable) → IsKnown scope locals parameters objects block v →
-    StandsIn scope v
-stands_in scope locals parameters objects block (variables.Automatic n) h = h.0
-stands_in scope locals parameters objects block (variables.Parameter n) h = tt
-stands_in scope locals parameters objects block (variables.Global n) h = tt
-stands_in scope locals parameters objects block (variables.Static n) h = tt
-stands_in scope locals parameters objects block (variables.InBlock o) h = tt
+stands_in : (scope : ℕ → Type 0) (locals parameters objects block : ℕ) (v : Variable) (size : ℕ) →
+    IsKnown scope locals parameters objects block v size → StandsIn scope v
+stands_in scope locals parameters objects block (variables.Automatic n) size h = h.0
+stands_in scope locals parameters objects block (variables.Parameter n) size h = tt
+stands_in scope locals parameters objects block (variables.Global n) size h = tt
+stands_in scope locals parameters objects block (variables.Static n) size h = tt
+stands_in scope locals parameters objects block (variables.InBlock o) size h = tt
+
+-- an array's size is a longword
+short : (scope : ℕ → Type 0) (locals parameters objects block : ℕ) → block ≤ 262144 → (v : Variable) (size : ℕ) →
+    IsKnown scope locals parameters objects block v size → size < 2 ^ 32
+short scope locals parameters objects block l (variables.Automatic n) size h = h.2
+short scope locals parameters objects block l (variables.Parameter n) size h = h.1
+short scope locals parameters objects block l (variables.Global n) size h = h.1
+short scope locals parameters objects block l (variables.Static n) size h = h.1
+short scope locals parameters objects block l (variables.InBlock o) size h = let within : size ≤ block = h.1 in omega arith
 
 -- an expression that fits, whose size is a longword
 abbrev pub IsFit : (ℕ → Type 0) → AnExpression → Type 0
@@ -44,14 +53,14 @@ fits_all scope (MoreExpressions e es) (t ∷ to) many all = (all.0.0, fits_all s
 abbrev pub any_call : Callee → ℕ → Type 0
 any_call f n = Unit {0}
 
-pub fits_closed : (scope : ℕ → Type 0) (locals parameters known room objects : ℕ) →
+pub fits_closed : (scope : ℕ → Type 0) (locals parameters known room objects : ℕ) → room ≤ 262144 →
     Closed IsToken (IsKnown scope locals parameters known room) any_call objects (IsFit scope)
 unfolding operand_size
-fits_closed scope locals parameters known room objects = record {
+fits_closed scope locals parameters known room objects l = record {
   number = λ n small. (small, size_small _);
-  literal = λ n size l small. (tt, small);
-  array = λ t v size k small. (tt, small);
-  variable = λ t v k. (stands_in scope locals parameters known room v k, size_small _);
+  literal = λ n size h small. (tt, small);
+  array = λ t v size k. (tt, short scope locals parameters known room l v size k);
+  variable = λ t v k. (stands_in scope locals parameters known room v 0 k, size_small _);
   pointed = λ t x p. (p.0, size_small _);
   element = λ t x a p. (p.0, size_small _);
   size_of_expression = λ x p. (p.1, size_small _);
@@ -78,13 +87,13 @@ fits_closed scope locals parameters known room objects = record {
   comma = λ t x y p q. ((p.0, q.0), size_small _);
 }
 
-is_there : (scope : ℕ → Type 0) (locals parameters known room objects block : ℕ) → known ≤ objects → room ≤ block → (v : Variable) →
-    IsKnown scope locals parameters known room v → IsThere objects parameters block v
-is_there scope locals parameters known room objects block l m (variables.Automatic n) h = tt
-is_there scope locals parameters known room objects block l m (variables.Parameter n) h = h
-is_there scope locals parameters known room objects block l m (variables.Global n) h = omega arith
-is_there scope locals parameters known room objects block l m (variables.Static n) h = omega arith
-is_there scope locals parameters known room objects block l m (variables.InBlock o) h = omega arith
+is_there : (scope : ℕ → Type 0) (locals parameters known room objects block : ℕ) → known ≤ objects → room ≤ block → (v : Variable)
+    (size : ℕ) → IsKnown scope locals parameters known room v size → IsThere objects parameters block v
+is_there scope locals parameters known room objects block l m (variables.Automatic n) size h = tt
+is_there scope locals parameters known room objects block l m (variables.Parameter n) size h = h.0
+is_there scope locals parameters known room objects block l m (variables.Global n) size h = let below : n < known = h.0 in omega arith
+is_there scope locals parameters known room objects block l m (variables.Static n) size h = let below : n < known = h.0 in omega arith
+is_there scope locals parameters known room objects block l m (variables.InBlock o) size h = let below : o < room = h.0 in omega arith
 
 -- an expression that names what is there stands
 abbrev pub WillStand : (objects parameters block : ℕ) → List ARoutine → AnExpression → Type 0
@@ -100,8 +109,8 @@ pub stands_closed : (scope : ℕ → Type 0) (locals parameters known room objec
 stands_closed scope locals parameters known room objects block gs l m = record {
   number = λ n w. tt;
   literal = λ n size h small. h;
-  array = λ t v size k small. is_there scope locals parameters known room objects block l m v k;
-  variable = λ t v k. is_there scope locals parameters known room objects block l m v k;
+  array = λ t v size k. is_there scope locals parameters known room objects block l m v size k;
+  variable = λ t v k. is_there scope locals parameters known room objects block l m v 0 k;
   pointed = λ t x p. p;
   element = λ t x a p. (a, p);
   size_of_expression = λ x p. tt;
@@ -134,7 +143,7 @@ module _ (names : List (List ℕ × Entry)) (signatures : List Signature) where
       s.room.length ≤ 262144 → IsTyped names signatures s.scope e s.area t → ExpOf IsToken e → Fits scope t.0
   exp_fits scope parameters s e t o small j w =
       (exp_has IsToken (IsKnown scope (length s.locals) parameters (length s.area.objects) s.room.length) any_call (length t.1.objects) (IsFit scope)
-      (fits_closed scope (length s.locals) parameters (length s.area.objects) s.room.length (length t.1.objects))
+      (fits_closed scope (length s.locals) parameters (length s.area.objects) s.room.length (length t.1.objects) small)
       names signatures s.scope (o.names small) (λ n g is. tt) e w s.area t j (record { laying = o.laying; most = omega arith })).0
 
   pub exp_stands : (scope : ℕ → Type 0) (parameters : ℕ) (s : State) (gs : List ARoutine) (objects block : ℕ) (e : AnExp) (t : AnExpression × Area) →

@@ -68,7 +68,7 @@ local_order scope parameters t n s o =
           (known_more scope (more scope (length s.locals)) (length s.locals) parameters (length s.area.objects) s.room.length
           (length (with_local t n s).locals) (length s.area.objects) s.room.length (λ m k. inl k) (omega arith) (omega arith) (omega arith))
           (o.names small))
-          (inr refl, omega arith);
+          (inr refl, omega arith, omega arith);
       laying = o.laying;
     }
 

@@ -89,11 +89,11 @@ converted_small (types.Integer ints.Int) b h = omega arith
 converted_small (types.Pointer i n) b h = omega arith
 
 -- bytes of a literal, where there is one
-abbrev TextOf : Option (List ℕ) → Type 0
+abbrev pub TextOf : Option (List ℕ) → Type 0
 TextOf None = Unit {0}
 TextOf (Some bytes) = AreBytes bytes
 
-text_is : (e : AnExp) → ExpOf IsToken e → TextOf (text_of e)
+pub text_is : (e : AnExp) → ExpOf IsToken e → TextOf (text_of e)
 unfolding text_of
 text_is (str b at) w = w
 text_is (paren o e) w = text_is e w
@@ -200,7 +200,7 @@ text_form t None e form = form
 text_form t (Some n) e form = form
 
 -- a length is at least 1
-own_some : (t : CType) (i : Option AnInit) → array_form t None i ≡ true → 1 ≤ own_length i
+pub own_some : (t : CType) (i : Option AnInit) → array_form t None i ≡ true → 1 ≤ own_length i
 own_some t None form = absurd (cc)
 own_some t (Some (elements no_exps comma)) form = absurd (cc)
 own_some t (Some (elements (exps e es) comma)) form = omega arith
@@ -214,7 +214,7 @@ range_some (Some v) n e = by (nat_lt 0 v && nat_lt v 1048577) refl e
     by true is k = let same : n ≡ v = cc in rw same (grind (arith, nat_tests))
     by false is k = absurd (cc)
 
-length_some : (x : AnExpression) (n : ℕ) → length_of x ≡ Some n → 1 ≤ n
+pub length_some : (x : AnExpression) (n : ℕ) → length_of x ≡ Some n → 1 ≤ n
 unfolding length_of
 length_some x n e = by (is_integer (type_of x)) e
   where
@@ -222,14 +222,15 @@ length_some x n e = by (is_integer (type_of x)) e
     by true k = range_some (constant_of x) n k
     by false k = absurd (cc)
 
-many_enough : (m given n : ℕ) → nat_lt m given ≡ false → n ≡ m → given ≤ n
+-- and no fewer elements than its initialiser
+pub many_enough : (m given n : ℕ) → nat_lt m given ≡ false → n ≡ m → given ≤ n
 many_enough m given n fails is = grind (arith, nat_tests)
 
 -- an array's entry in the block
-entry_known : (scope : ℕ → Type 0) (locals parameters objects block o size : ℕ) (t : Option CType) → 1 ≤ size → o + size ≤ block → block ≤ 262144 →
+entry_known : (scope : ℕ → Type 0) (locals parameters objects block o size : ℕ) (t : Option CType) → 1 ≤ size → o + size ≤ block →
     OfVariable (IsKnown scope locals parameters objects block) (array_entry t (variables.InBlock o) size)
-entry_known scope locals parameters objects block o size None some end small = (omega arith, omega arith)
-entry_known scope locals parameters objects block o size (Some t) some end small = (omega arith, omega arith)
+entry_known scope locals parameters objects block o size None some end = (omega arith, omega arith)
+entry_known scope locals parameters objects block o size (Some t) some end = (omega arith, omega arith)
 
 module _ (names : List (List ℕ × Entry)) (signatures : List Signature) (parameters : ℕ) where
   given_is : {W : Type 0} (scope : ℕ → Type 0) (t : CType) (s : State) (y : AnExpression) (m : State) (x : AnExpression × State) (z : AnExpression) →
@@ -326,7 +327,7 @@ module _ (names : List (List ℕ × Entry)) (signatures : List Signature) (param
       let lies = memory_lies t (n * z) d.name e m.1 scalar in
       let order = memory_order t (n * z) d.name e m.1 scalar scope parameters counted.order
       (λ small. entry_known scope (length m.1.locals) parameters (length m.1.area.objects) (taking z (n * z) m.1.room).length at (n * z) (pointer_to t)
-      whole (lies small) small) in
+      whole (lies small)) in
       let start = none_declared signatures scope parameters s done a order
       (grows_further s m.1 a counted.grows (memory_grows t (n * z) d.name e m.1 scalar)) in
       let begun = array_begun (declaring scope start.rest) t at l (init_in d.init) done a q.part start.sound.order scalar form
@@ -349,7 +350,7 @@ module _ (names : List (List ℕ × Entry)) (signatures : List Signature) (param
       let some = some_bytes t scalar in
       let lies = memory_lies t z d.name e s scalar in
       let order = memory_order t z d.name e s scalar scope parameters o
-      (λ small. let end : at + z ≤ (taking z z s.room).length = lies small in omega arith) in
+      (λ small. let end : at + z ≤ (taking z z s.room).length = lies small in (omega arith, omega arith)) in
       let start = none_declared signatures scope parameters s done a order (memory_grows t z d.name e s scalar) in
       behind_given signatures scope parameters s done r
       (behind_further signatures scope parameters s done (done, a) r start

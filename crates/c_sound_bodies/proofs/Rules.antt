@@ -46,7 +46,7 @@ pub tested : {A : Type 0} (test : Bool) (m : Result A Fault) (f : Fault) (u : A)
 tested true m f u e = e
 tested false m f u e = absurd (cc)
 
-module _ (T : Token → Type 0) (known : Variable → Type 0) (calls : Callee → ℕ → Type 0) (objects : ℕ) (P : AnExpression → Type 0)
+module _ (T : Token → Type 0) (known : Variable → ℕ → Type 0) (calls : Callee → ℕ → Type 0) (objects : ℕ) (P : AnExpression → Type 0)
     (c : Closed T known calls objects P) where
   same : (t u : AnExpression) → typed t ≡ Ok u → P t → P u
   same t u e p = let is : u ≡ t = cc in rw is p

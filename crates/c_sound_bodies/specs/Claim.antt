@@ -52,6 +52,7 @@ BodiesAreSound =
 pub record ObjectIsSound (parameters : ℕ) (s r : State) : Type 0 where
   pub order : InOrder no_local parameters r
   pub locals : r.locals ≡ s.locals
+  pub room : r.room ≡ s.room
   pub grows : Grows s r
 
 -- The declaration of a variable at file level leaves what is in scope in order.

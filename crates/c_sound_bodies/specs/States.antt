@@ -11,29 +11,29 @@ use Rattle.c_typed_scope.specs.Layout.{Area}
 use Rattle.c_typed_definition.specs.State.{State}
 
 -- A variable of a function with so many locals, of which some are in scope, so many parameters and so many bytes of memory locals, where
--- there are so many objects.
-abbrev pub IsKnown : (ℕ → Type 0) → (locals parameters objects block : ℕ) → Variable → Type 0
-IsKnown scope locals parameters objects block (variables.Automatic n) = scope n × (n < locals)
-IsKnown scope locals parameters objects block (variables.Parameter n) = n < parameters
-IsKnown scope locals parameters objects block (variables.Global n) = n < objects
-IsKnown scope locals parameters objects block (variables.Static n) = n < objects
-IsKnown scope locals parameters objects block (variables.InBlock o) = o < block
+-- there are so many objects; or an array of so many bytes, a longword, which in the block is no more than its bytes.
+abbrev pub IsKnown : (ℕ → Type 0) → (locals parameters objects block : ℕ) → Variable → (size : ℕ) → Type 0
+IsKnown scope locals parameters objects block (variables.Automatic n) size = scope n × (n < locals) × (size < 2 ^ 32)
+IsKnown scope locals parameters objects block (variables.Parameter n) size = (n < parameters) × (size < 2 ^ 32)
+IsKnown scope locals parameters objects block (variables.Global n) size = (n < objects) × (size < 2 ^ 32)
+IsKnown scope locals parameters objects block (variables.Static n) size = (n < objects) × (size < 2 ^ 32)
+IsKnown scope locals parameters objects block (variables.InBlock o) size = (o < block) × (size ≤ block)
 
--- what a name stands for, where it is a variable, or an array, whose size is a longword
-abbrev pub OfVariable : (Variable → Type 0) → Entry → Type 0
-OfVariable known (entries.Variable t v) = known v
-OfVariable known (entries.Array t v size) = known v × (size < 2 ^ 32)
+-- what a name stands for, where it is a variable, or an array of so many bytes
+abbrev pub OfVariable : (Variable → ℕ → Type 0) → Entry → Type 0
+OfVariable known (entries.Variable t v) = known v 0
+OfVariable known (entries.Array t v size) = known v size
 OfVariable known (entries.Function n) = Unit {0}
 
 -- each variable that a block's names stand for
-abbrev pub NamesOf : (Variable → Type 0) → List (List ℕ × Entry) → Type 0
+abbrev pub NamesOf : (Variable → ℕ → Type 0) → List (List ℕ × Entry) → Type 0
 NamesOf known es = AllByRecursion (λ (e : List ℕ × Entry). OfVariable known e.1) es
 
-abbrev pub BlocksOf : (Variable → Type 0) → List (List (List ℕ × Entry)) → Type 0
+abbrev pub BlocksOf : (Variable → ℕ → Type 0) → List (List (List ℕ × Entry)) → Type 0
 BlocksOf known bs = AllByRecursion (NamesOf known) bs
 
 -- each variable that a name stands for, in each block that is open
-pub record ScopeOf (known : Variable → Type 0) (s : Scope) : Type 0 where
+pub record ScopeOf (known : Variable → ℕ → Type 0) (s : Scope) : Type 0 where
   pub here : NamesOf known s.here
   pub outer : BlocksOf known s.outer
 
