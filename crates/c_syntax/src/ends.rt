@@ -1,5 +1,5 @@
 // Where the bodies of functions end.
-ghost use Rattle.std.specs.Prelude.{◌≡◌, IfOk};
+ghost use Rattle.std.specs.Prelude.{◌≡◌, ◌<◌, IfOk};
 ghost use Rattle.c_syntax.specs.Ends.{at_first, is_end, behind, body_ends};
 ghost use Rattle.c_syntax.specs.Views.{braces};
 
@@ -68,5 +68,3 @@ pub fn body_ends(alloc: Global, tokens: &[Spanned]) -> Result<ListOf<u32>, Alloc
     }
     Ok(ListOf::from_vec(ends))
 }
-
-ghost use Rattle.std.specs.Prelude.{◌<◌};

@@ -1,8 +1,9 @@
 // Where an expression applies `&` to a name.
 ghost use Rattle.std.specs.Prelude.{◌≡◌, MatchOption, None, Some};
 ghost use Rattle.c_phrases.specs.Shapes.{exp, exp_list};
+ghost use Rattle.c_phrases.specs.UnitShapes.{part};
 ghost use Rattle.c_typed_scope.specs.Views.{scope};
-ghost use Rattle.c_typed_addressed.specs.Expressions.{name_of, applied, marks_of, marks_of_all};
+ghost use Rattle.c_typed_addressed.specs.Expressions.{name_of, applied, marks_of, marks_of_all, marks_of_part};
 ghost use Rattle.c_typed_addressed.specs.Views.{marks};
 
 use crate::search::Addressed;
@@ -97,6 +98,3 @@ pub(crate) fn maybe(blocks: &Blocks, e: &Option<Expr>, found: &mut Addressed)
         expression(blocks, e, found);
     }
 }
-
-ghost use Rattle.c_phrases.specs.UnitShapes.{part};
-ghost use Rattle.c_typed_addressed.specs.Expressions.{marks_of_part};

@@ -5,7 +5,7 @@ ghost use Rattle.c_phrases.specs.UnitShapes.{declarator_of, declarators_of, init
 ghost use Rattle.c_phrases.specs.UnitShapes.{param_of, param_list};
 ghost use Rattle.c_typed_expressions.specs.Phrases.{init_in, brackets_in};
 ghost use Rattle.c_typed_addressed.specs.Statements.{in_length, in_init, in_declarator, in_declarators, in_statement, in_item, in_items};
-ghost use Rattle.c_typed_addressed.specs.Statements.{in_parameter, in_parameters, addressed};
+ghost use Rattle.c_typed_addressed.specs.Statements.{in_parameter, in_parameters, addressed, next_variable, entered, scoped};
 ghost use Rattle.c_typed_addressed.specs.Views.{marks, search};
 
 use crate::expressions::{expression, expressions, maybe};
@@ -53,8 +53,6 @@ fn variable(storage: Storage, found: &mut Addressed) -> Result<Variable, AllocEr
     }
 }
 
-ghost use Rattle.c_typed_addressed.specs.Statements.{next_variable};
-
 fn declarator(
     alloc: Global,
     storage: Storage,
@@ -89,17 +87,23 @@ fn statement(alloc: Global, s: &Statement, search: &mut Search) -> Result<(), Al
     ensures { OnOk result (search search.new ≡ in_statement (statement_of s.now) (search search.old)) }
 {
     match s {
-        Statement::Block(row) => block(alloc, row, search)?,
-        Statement::Empty | Statement::Break { .. } | Statement::Continue { .. } => {}
-        Statement::Expr(e) => expression(&search.blocks, e, &mut search.found),
-        Statement::Return { value, .. } => maybe(&search.blocks, value, &mut search.found),
+        Statement::Block(row) => block(alloc, row, search),
+        Statement::Empty | Statement::Break { .. } | Statement::Continue { .. } => Ok(()),
+        Statement::Expr(e) => {
+            expression(&search.blocks, e, &mut search.found);
+            Ok(())
+        }
+        Statement::Return { value, .. } => {
+            maybe(&search.blocks, value, &mut search.found);
+            Ok(())
+        }
         Statement::If {
             condition,
             then,
             ..
         } => {
             expression(&search.blocks, condition, &mut search.found);
-            statement(alloc, then, search)?;
+            statement(alloc, then, search)
         }
         Statement::IfElse {
             condition,
@@ -109,7 +113,7 @@ fn statement(alloc: Global, s: &Statement, search: &mut Search) -> Result<(), Al
         } => {
             expression(&search.blocks, condition, &mut search.found);
             statement(alloc, then, search)?;
-            statement(alloc, otherwise, search)?;
+            statement(alloc, otherwise, search)
         }
         Statement::While {
             condition,
@@ -117,7 +121,7 @@ fn statement(alloc: Global, s: &Statement, search: &mut Search) -> Result<(), Al
             ..
         } => {
             expression(&search.blocks, condition, &mut search.found);
-            statement(alloc, body, search)?;
+            statement(alloc, body, search)
         }
         Statement::Do {
             body,
@@ -126,6 +130,7 @@ fn statement(alloc: Global, s: &Statement, search: &mut Search) -> Result<(), Al
         } => {
             statement(alloc, body, search)?;
             expression(&search.blocks, condition, &mut search.found);
+            Ok(())
         }
         Statement::For {
             start,
@@ -137,10 +142,9 @@ fn statement(alloc: Global, s: &Statement, search: &mut Search) -> Result<(), Al
             maybe(&search.blocks, start, &mut search.found);
             maybe(&search.blocks, condition, &mut search.found);
             maybe(&search.blocks, step, &mut search.found);
-            statement(alloc, body, search)?;
+            statement(alloc, body, search)
         }
     }
-    Ok(())
 }
 
 // The items of a block that has a scope of its own.
@@ -153,8 +157,6 @@ fn block(alloc: Global, row: &[Item], search: &mut Search) -> Result<(), AllocEr
     search.blocks.leave();
     Ok(())
 }
-
-ghost use Rattle.c_typed_addressed.specs.Statements.{entered, scoped};
 
 #[cycle(blocks)]
 fn one_item(alloc: Global, i: &Item, search: &mut Search) -> Result<(), AllocError>
