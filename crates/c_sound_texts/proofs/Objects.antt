@@ -73,7 +73,7 @@ laid_at is_static at name align size a l e =
     laid_by is_static (label_of is_static name a) align size _ a l e
     (λ r is. placed_is at (label_of is_static name a) align size [] a r is)
 
-laid_longer : (label : List ℕ) (align size : ℕ) (a : Area) (l : ℕ × Area) → LaidAt label align size a l →
+pub laid_longer : (label : List ℕ) (align size : ℕ) (a : Area) (l : ℕ × Area) → LaidAt label align size a l →
     length l.1.objects ≡ length a.objects + 1
 laid_longer label align size a l h =
     ap length h.objects ∙ length-append a.objects (object_at label align size [] [] a ∷ [])
@@ -85,12 +85,12 @@ held g [] o more = refl
 held g (x ∷ os) o more = ap (λ (z : List Object). x ∷ z) (held g os o more)
 
 -- an object that gets what it holds, once others were laid behind it
-held_places : (n : ℕ) (g : Filled) (os : List Object) → places_of (with_contents n g os) ≡ places_of os
+pub held_places : (n : ℕ) (g : Filled) (os : List Object) → places_of (with_contents n g os) ≡ places_of os
 held_places n g [] = refl
 held_places zero g (o ∷ os) = refl
 held_places (suc n) g (o ∷ os) = ap (λ (z : List ℕ). o.address ∷ z) (held_places n g os)
 
-filled_lays : (label : List ℕ) (align size : ℕ) (g : Filled) (a : Area) (l : ℕ × Area) (b : Area) → is_alignment align ≡ true →
+pub filled_lays : (label : List ℕ) (align size : ℕ) (g : Filled) (a : Area) (l : ℕ × Area) (b : Area) → is_alignment align ≡ true →
     LaidAt label align size a l → Lays l.1 b → Holds (length b.objects) size g → Contains (places_of b.objects) g → 1 ≤ size → Lays a (filled l.0 g b)
 unfolding filled
 filled_lays label align size g a l b fits h k holds contains some =
