@@ -1,5 +1,5 @@
 -- The items of a block as code holds them, one after another.
-use Rattle.std.proofs.Common.{◌≡◌, ℕ, ◌+◌, ◌<◌, ◌≤◌, List, ◌∷◌, length, drop, get_or, refl, ap, sym, ◌∙◌}
+use Rattle.std.proofs.Common.{◌≡◌, ℕ, ◌+◌, ◌<◌, ◌≤◌, List, ◌∷◌, length, drop, get_or, refl, ap, sym, ◌∙◌, OnOk, Result, Ok, Err}
 use Rattle.std.proofs.lemmas.List.{drop_more, drop_all}
 use Rattle.std.specs.Global.{Vec}
 use Rattle.c_phrases.specs.declared.tree.Item.{Item}
@@ -20,9 +20,10 @@ pub first_then : (i : Item) (rest : List Item) (s : Search) → in_items (items_
 first_then (item.Local l) rest s = refl
 first_then (item.Statement t) rest s = refl
 
-pub in_block : (s : Statement) (row : Vec Item) (list : List Item) (a b : Search) → s ≡ statement.Block row → list ≡ row.items
-    → b ≡ scoped (in_items (items_of list) (entered a)) → b ≡ in_statement (statement_of s) a
-in_block s row list a b is same found = found ∙ sym (ap (λ x. in_statement x a) (block_is s row list is same))
+pub in_block : {T E : Type 0} (r : Result T E) (s : Statement) (row : Vec Item) (list : List Item) (a b : Search) → s ≡ statement.Block row → list ≡ row.items
+    → OnOk r (b ≡ scoped (in_items (items_of list) (entered a))) → OnOk r (b ≡ in_statement (statement_of s) a)
+in_block (Err e) s row list a b is same found = tt
+in_block (Ok u) s row list a b is same found = found ∙ sym (ap (λ x. in_statement x a) (block_is s row list is same))
 
 pub item_step : (is : List Item) (n : ℕ) (i d : Item) (s t : Search) → n < length is → i ≡ get_or is n d → t ≡ in_item (item_onto i no_items) s
     → in_items (items_of (drop (n + 1) is)) t ≡ in_items (items_of (drop n is)) s
