@@ -19,6 +19,7 @@ use Rattle.c_typed_scope.specs.declared.entry.Entry.{Entry}
 use Rattle.c_typed_scope.specs.declared.entry.Entry.TheVariants as entries
 use Rattle.c_typed_scope.specs.declared.entry.Signature.{Signature}
 use Rattle.c_typed_scope.specs.Contents.{in_range, length_of}
+use Rattle.c_typed_scope.specs.Layout.{Area}
 use Rattle.c_program.specs.Statements.{ADeclaration, StoreOf, ZerosOf}
 use Rattle.c_program.specs.Programs.{ARoutine}
 use Rattle.c_typed_words.specs.Words.{IsToken}
@@ -102,7 +103,7 @@ text_is e w = tt
 -- elements of one byte
 text_room : (p : Option (List ℕ)) (t : CType) (s : State) (o : ℕ) → text_fits p t ≡ true → Lies s o (text_length p * size_of t) →
     Lies s o (text_length p)
-text_room None t s o form lies = absurd (cc)
+text_room None t s o form lies small = absurd (cc)
 text_room (Some b) t s o form lies small =
     let end : o + length b * size_of t ≤ s.room.length = lies small in
     let one : size_of t ≡ 1 = eqb-true (size_of t) 1 form in

@@ -1,5 +1,5 @@
 -- Statements are sound where their parts are.
-use Rattle.std.proofs.Common.{◌≡◌, ℕ, ◌≤◌, Bool, true, List, length, Option, Some, None, refl, ap, ◌∙◌}
+use Rattle.std.proofs.Common.{◌≡◌, ℕ, ◌≤◌, Bool, true, List, Option, Some, None, refl, ap, ◌∙◌}
 use Rattle.c_types.specs.Typed.{AnExpression}
 use Rattle.c_typed_scope.specs.declared.entry.Signature.{Signature}
 use Rattle.c_typed_scope.specs.Scopes.{Scope, leave}

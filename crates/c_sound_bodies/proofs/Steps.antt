@@ -64,7 +64,7 @@ room_before size m r h l =
 
 pub places_before : (objects block : ℕ) (m r : State) → Grows m r → HasPlaces objects block r → HasPlaces objects block m
 places_before objects block m r h l =
-    let objects : length m.area.objects ≤ length r.area.objects = h.area.objects in
+    let older : length m.area.objects ≤ length r.area.objects = h.area.objects in
     let most : length r.area.objects ≤ objects = l.objects in
     let inside : r.room.length ≤ block = l.block in
     let limit : block ≤ 262144 = l.limit in

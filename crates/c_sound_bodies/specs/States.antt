@@ -64,7 +64,7 @@ pub record HasRoom (size : ℕ) (r : State) : Type 0 where
   pub block : r.room.length ≤ 262144
 
 -- so many objects and so many bytes of memory locals, which are within their limit, are enough for a state
-pub record HasPlaces (objects block : ℕ) (r : State) : Type 0 where
-  pub objects : length r.area.objects ≤ objects
-  pub block : r.room.length ≤ block
-  pub limit : block ≤ 262144
+pub record HasPlaces (most size : ℕ) (r : State) : Type 0 where
+  pub objects : length r.area.objects ≤ most
+  pub block : r.room.length ≤ size
+  pub limit : size ≤ 262144
