@@ -6,6 +6,7 @@ use Rattle.tree_core.specs.declared.program.TreeFn.{TreeFn}
 use Rattle.tree_core_forks.specs.Forks.{forks}
 use Rattle.c_program.specs.Need.{need_of}
 use Rattle.c_program.specs.Programs.{ARoutine, AProgram}
+use Rattle.c_sound.specs.Sound.{IsSound}
 use Rattle.c_lower_scheme.specs.Programs.{lowered}
 
 -- A frame of so many longwords has room for a function: for its locals, and, with each of its trees, for one more and for one
@@ -14,9 +15,9 @@ pub record FitsFrame (need : ℕ) (f : TreeFn) : Type 0 where
   pub locals : f.locals ≤ need
   pub roots : (n : ℕ) (w : List Leaf) → slice_get f.items n ≡ Some (tree_item.Root w) → f.locals + 1 + forks w ≤ need
 
--- Each function that a program is lowered to fits the frame that the program's function needs.
+-- Each function that a sound program is lowered to fits the frame that the program's function needs.
 abbrev pub EachFunctionFits : Type 0
-EachFunctionFits = (p : AProgram) (n : ℕ) (g : ARoutine) (f : TreeFn)
+EachFunctionFits = (p : AProgram) → IsSound p → (n : ℕ) (g : ARoutine) (f : TreeFn)
     → slice_get p.routines n ≡ Some g → slice_get (lowered p).functions n ≡ Some f → FitsFrame (need_of g.locals g.block g.body) f
 
 -- what a function and the one that it is lowered to have in common; the locals that are wanted in registers are its `register` locals

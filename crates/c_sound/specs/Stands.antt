@@ -1,11 +1,12 @@
--- Expressions and statements in which each object and parameter that is named is there, and each call has its function
--- and as many arguments as that has parameters.
+-- Expressions and statements in which each object and parameter that is named is there, each element's address is a sum, and each call
+-- has its function and as many arguments as that has parameters.
 use Rattle.std.specs.Prelude.{◌≡◌, ℕ, ◌<◌, ◌+◌, ◌*◌, ◌-◌, List, [], ◌∷◌, length, Option, Some, None, slice_get}
 use Rattle.c_types.specs.Types.{size_of}
 use Rattle.c_types.specs.declared.typed.Variable.{Variable}
 use Rattle.c_types.specs.declared.typed.Variable.TheVariants as variables
 use Rattle.c_types.specs.declared.typed.Callee.{Callee}
 use Rattle.c_types.specs.declared.typed.Callee.TheVariants as callees
+use Rattle.c_types.specs.declared.typed.ArithmeticOperator.TheVariants as ariths
 use Rattle.c_types.specs.Typed.{APlace, VariableAt, PointedBy, ElementBy, AnExpression, Constant, LiteralAt, ArrayAt}
 use Rattle.c_types.specs.Typed.{ReadOf, SizeOfExpression, SizeOf, AddressOf, CallOf, StepOf}
 use Rattle.c_types.specs.Typed.{UnaryOf, CastTo, ConvertTo, ArithmeticOf, CompareOf, BothOf, EitherOf, AdvanceOf}
@@ -41,13 +42,20 @@ Takes gs (callees.Defined n) count = IsDefined gs n count
 Takes gs callees.Putchar count = count ≡ 1
 Takes gs callees.Getchar count = count ≡ 0
 
+-- `a[i]` is `*(a + i)`
+abbrev pub IsAddition : AnExpression → Type 0
+IsAddition (ArithmeticOf op l r) = op ≡ ariths.Add
+IsAddition (AdvanceOf t l r) = Unit {0}
+IsAddition (AdvanceByOf t l r) = Unit {0}
+IsAddition e = ⊥
+
 -- which variables are there, and which calls are right
 module _ (there : Variable → Type 0) (takes : Callee → ℕ → Type 0) (literals : ℕ) where
   abbrev mutual
     pub StandsAt : APlace → Type 0
     StandsAt (VariableAt t v) = there v
     StandsAt (PointedBy t e) = Stands e
-    StandsAt (ElementBy t e) = Stands e
+    StandsAt (ElementBy t e) = IsAddition e × Stands e
 
     pub Stands : AnExpression → Type 0
     Stands (Constant n) = Unit {0}
