@@ -420,13 +420,13 @@ module _ (program : TreeProgram) (code : List TreeItem) (callers : List Activati
     some = done.some;
     runs = λ k le js κ res st d ag h. subst (λ κ. Leads k (m κ st) (there_is ((e.deliver to t l).items ++ js) d)) (λ j v. κ (sym (whole_value ty v is) j)) (done.runs k le js κ res st d ag h);
   }
-  deliver_as_does ints.Char ty e m is does to t l sz = delivered_does program code callers size count first scope level within own to (over (conv ints.Char) (e.low t l)) t _
+  deliver_as_does ints.Char ty e m is does to t l sz = delivered_does program code callers size count first scope level within own to (over (conv ints.Char) (e.low t l)) t _ sz
       (conv_does ints.Char ty e m is does t l sz)
-  deliver_as_does ints.UnsignedChar ty e m is does to t l sz = delivered_does program code callers size count first scope level within own to (over (conv ints.UnsignedChar) (e.low t l)) t _
+  deliver_as_does ints.UnsignedChar ty e m is does to t l sz = delivered_does program code callers size count first scope level within own to (over (conv ints.UnsignedChar) (e.low t l)) t _ sz
       (conv_does ints.UnsignedChar ty e m is does t l sz)
-  deliver_as_does ints.Short ty e m is does to t l sz = delivered_does program code callers size count first scope level within own to (over (conv ints.Short) (e.low t l)) t _
+  deliver_as_does ints.Short ty e m is does to t l sz = delivered_does program code callers size count first scope level within own to (over (conv ints.Short) (e.low t l)) t _ sz
       (conv_does ints.Short ty e m is does t l sz)
-  deliver_as_does ints.UnsignedShort ty e m is does to t l sz = delivered_does program code callers size count first scope level within own to (over (conv ints.UnsignedShort) (e.low t l)) t _
+  deliver_as_does ints.UnsignedShort ty e m is does to t l sz = delivered_does program code callers size count first scope level within own to (over (conv ints.UnsignedShort) (e.low t l)) t _ sz
       (conv_does ints.UnsignedShort ty e m is does t l sz)
 
   converting_does : (ty : CType) (e : Lowering) (m : Rest → State → Runs) → WayOf e m → WayOf (converting ty e) (λ κ. m (λ v. κ (converted ty v)))

@@ -6,6 +6,7 @@ pub mod Values
 pub mod Leads
 pub mod Carried
 pub mod Steps
+pub mod Areas
 pub mod Agreeing
 pub mod Doing
 pub mod Placing
@@ -15,6 +16,7 @@ pub mod Calling
 pub mod Conditions
 pub mod Expressions
 pub mod Scopes
+pub mod Blocks
 pub mod Waiting
 pub mod Statements
 pub mod Functions

@@ -131,7 +131,8 @@ impl<'a> Machine<'a> {
     fn end_call(&mut self, caller: Activation, active: u32, block: u32, flow: Flow) -> Event
         ensures { Makes self.old (λ κ. before (program_of self.old) (frames.ForCall caller active block) κ (Leaves flow)) 1 result self.new }
     {
-        if self.store.release(self.program.objects.as_slice(), block) {
+        let program = self.program;
+        if self.store.release(program.objects.as_slice(), block) {
             self.store.leave(caller, active);
             self.give(flow.answer())
         } else {
