@@ -28,7 +28,7 @@ wild_same : (o : Option ℕ) (κ μ : Rest) (st : State) → ((v : ℕ) → κ v
 wild_same None κ μ st h = refl
 wild_same (Some v) κ μ st h = h v
 
-trap_same : (o : Option ℕ) (κ μ : Rest) (st : State) → ((v : ℕ) → κ v st ≡ μ v st) → or_trap o κ st ≡ or_trap o μ st
+pub trap_same : (o : Option ℕ) (κ μ : Rest) (st : State) → ((v : ℕ) → κ v st ≡ μ v st) → or_trap o κ st ≡ or_trap o μ st
 trap_same None κ μ st h = refl
 trap_same (Some v) κ μ st h = h v
 
@@ -161,6 +161,9 @@ module _ (b o : ℕ) (st : State) (is : st.call.block ≡ Some b) where
   pub block_address_is : (κ : Rest) → address_of (Memory (add32 b o)) κ st ≡ address_of (InBlock o) κ st
   block_address_is κ = ap (λ (a : Option ℕ). or_wild (option_map (λ x. add32 x o) a) κ st) (sym is)
 
+  pub block_put_is : (t : CType) (v : ℕ) → put t (Memory (add32 b o)) v st ≡ put t (InBlock o) v st
+  block_put_is t v = ap (λ (a : Option ℕ). put_at t (option_map (λ x. add32 x o) a) v st) (sym is)
+
   pub block_put : (t : CType) (x v : ℕ) (κ : Rest) → written (put t (Memory (add32 b o)) x st) v κ ≡ written (put t (InBlock o) x st) v κ
   block_put t x v κ = ap (λ (a : Option ℕ). written (put_at t (option_map (λ x. add32 x o) a) x st) v κ) (sym is)
 
@@ -223,6 +226,3 @@ module _ (p : AProgram) (next : Next) where
       block_read b o st is t (λ x. expr p next e (λ y. g t x y (λ v. store_at t (Memory (add32 b o)) v κ)))
       ∙ wild_same (held t (InBlock o) st) _ _ st (λ x. expr_same (Some b) p next e _ _ st is
       (λ y st' is'. same t x y (λ v. store_at t (Memory (add32 b o)) v κ) (λ v. store_at t (InBlock o) v κ) st' (λ v. block_store b o st' is' t v κ)))
-
-pub trap_alike : (op : CType → ℕ → ℕ → Option ℕ) (t : CType) (x y : ℕ) (κ μ : Rest) (st : State) → ((v : ℕ) → κ v st ≡ μ v st) → or_trap (op t x y) κ st ≡ or_trap (op t x y) μ st
-trap_alike op t x y κ μ st h = trap_same (op t x y) κ μ st h

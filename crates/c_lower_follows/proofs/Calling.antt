@@ -12,9 +12,9 @@ use Rattle.tree_meaning.specs.State.{Activation, with_local, arrived}
 use Rattle.tree_meaning.specs.Values.{there}
 use Rattle.c_meaning.specs.State.{State}
 use Rattle.c_meaning.specs.Values.{RestAll, Behind, Next, Rest}
-use Rattle.c_lower_scheme.specs.Trees.{Push, Call, Save, Tree, Loc, Item, AssignLoc, divides, reads, breaks, stable}
+use Rattle.c_lower_scheme.specs.Trees.{Push, Call, Save, Tree, Num, Loc, Item, AssignLoc, divides, reads, breaks, stable}
 use Rattle.c_lower_scheme.specs.Spelling.{spelled_all}
-use Rattle.c_lower_scheme.specs.Parts.{Passing, Lowered, is_nil, Destination, InLocal, AsResult, Releasing, delivered}
+use Rattle.c_lower_scheme.specs.Parts.{Passing, Lowered, Emitted, is_nil, Destination, InLocal, AsResult, Releasing, due, delivered}
 use Rattle.c_lower_scheme.specs.Calls.{pushes, called_drop, called_low, must_pass_by, must_pass, pass_on, pass_so, no_arguments, callee_number, called_deliver}
 use Rattle.c_lower_scheme.specs.Assignments.{stays}
 use Rattle.c_sound.specs.Fits.{AreBytes}
@@ -39,7 +39,10 @@ use Rattle.c_lower_follows.proofs.Carried.{called as called_tree, entered_is}
 use Rattle.std.proofs.lemmas.Option.{slice_get_past}
 use Rattle.c_meaning.specs.Calls.{put_char, got, call, answer, back, begun as begun_source, performed, entered}
 use Rattle.c_meaning.specs.Calls.{called as called_source}
-use Rattle.c_lower_scheme.specs.Programs.{body_of}
+use Rattle.c_lower_scheme.specs.Flow.{done_by}
+use Rattle.c_lower_scheme.specs.Statements.{lower_row}
+use Rattle.c_lower_scheme.specs.Programs.{first_temporary, way_in, way_out, body_of}
+use Rattle.c_program.specs.Statements.{SomeActions}
 use Rattle.c_meaning.specs.Blocks.{pointer_number}
 use Rattle.c_lower_scheme.proofs.Facts.{stable_inert, pushes_append}
 use Rattle.c_lower_follows.proofs.Assigning.{agreed, gone, DoesLow}
@@ -265,6 +268,12 @@ module _ (program : TreeProgram) (code : List TreeItem) (callers : List Activati
   pushes_step (w ∷ []) k is κ d small pure r h = push_step program code callers k w is (λ v. κ (v ∷ [])) d small.0 r
       (λ v e. h (v ∷ []) (omega arith) (subst Small e (worth_small program.objects (desk_sight d) r w small.0), tt))
   pushes_step (w ∷ x ∷ ws) k is κ d small pure r h = first_push w x ws k is κ d small.0 pure.0 r h (value program w d) refl (λ κ' g. pushes_step (x ∷ ws) k (Push w ∷ is) κ' d small.1 pure.1 r g)
+
+-- a function's items, by the bytes of its block
+abbrev pub items_by : ℕ → ℕ → ℕ → SomeActions → ℕ → ℕ → Emitted
+items_by size count pointer body label block =
+    done_by (way_in size (first_temporary size block) pointer block label) (λ m. done_by (lower_row size count (first_temporary size block) (way_out pointer size block) body 0 0 m)
+    (λ n. delivered (way_out pointer size block) (due (Num 0) (first_temporary size block) n)))
 
 -- a function's items, and that each label stands where a jump to it goes
 pub record CodeOf (pointer count : ℕ) (g : ARoutine) (code : List TreeItem) : Type 0 where

@@ -42,6 +42,14 @@ abbrev pub either_way : Bool → (State → Runs) → (State → Runs) → State
 either_way true met unmet = met
 either_way false met unmet = unmet
 
+-- A block can be given back: the stack's pointer, an object, lies in the data area, and the local behind the function's own keeps the block's address.
+pub record Opens (program : TreeProgram) (size first pointer n : ℕ) : Type 0 where
+  pub local : n ≡ size
+  pub blocked : size < first
+  pub address : ℕ
+  pub stands : object_address (slice_get program.objects pointer) 0 ≡ Number address
+  pub inside : (area : List ℕ) → length area ≡ extent_of program → is_inside sizes.Long area address ≡ true
+
 -- The program of trees, the function's items, those who wait; the function's number of locals, and which of them are in scope; the bound on counted turns.
 module _ (program : TreeProgram) (code : List TreeItem) (callers : List Activation) (size count first : ℕ) (scope : ℕ → Type 0) (level : ℕ) where
   abbrev pub Agrees : State → Desk → Type 0
@@ -87,20 +95,12 @@ module _ (program : TreeProgram) (code : List TreeItem) (callers : List Activati
         → Out k t p.temps p.items st d (either_way sense unmet met) (spelled_all is)
         → Leads k (m (λ v st. chosen v (met st) (unmet st)) st) (here (p.items ++ is) d)
 
-  -- A block can be given back: the stack's pointer, an object, lies in the data area.
-  pub record Opens (pointer n : ℕ) : Type 0 where
-    pub local : n ≡ size
-    pub blocked : size < first
-    pub address : ℕ
-    pub stands : object_address (slice_get program.objects pointer) 0 ≡ Number address
-    pub inside : (area : List ℕ) → length area ≡ extent_of program → is_inside sizes.Long area address ≡ true
-
   -- At a destination: the items leave with the value in a local, or to the caller; or the block is still to be given back before that.
   abbrev pub Arrives : Destination → (k t u : ℕ) (is : List Item) (d : Desk) (κ : Rest) → Type 0
   Arrives (InLocal n) k t u is d κ = (v : ℕ) (st' : State) (d' : Desk) → v < 2 ^ 32 → Agrees st' d' → ((j : ℕ) → size ≤ j → (j < t) ⊎ (u ≤ j) → d'.locals j ≡ d.locals j)
       → Leads k (κ v st') (here is (record d' { locals = with_local d'.locals n v }))
   Arrives AsResult k t u is d κ = (v : ℕ) (st' : State) → v < 2 ^ 32 → IsArea (extent_of program) st'.area → AreBytes st'.input → Leads k (κ v st') (left_runs program (returned v callers st'.area st'.input))
-  Arrives (Releasing pointer n) k t u is d κ = Opens pointer n × ((v : ℕ) (w : Tree) (js : List Item) (st' : State) (d' : Desk) → v < 2 ^ 32 → SmallTree w → ((area : List ℕ) → value program w (record d' { area = area }) ≡ Number v)
+  Arrives (Releasing pointer n) k t u is d κ = Opens program size first pointer n × ((v : ℕ) (w : Tree) (js : List Item) (st' : State) (d' : Desk) → v < 2 ^ 32 → SmallTree w → ((area : List ℕ) → value program w (record d' { area = area }) ≡ Number v)
       → Agree (extent_of program) size first no_local (length callers) st' d' → Leads k (κ v st') (here (AssignMem ints.Int (Gaddr pointer) (Loc n) ∷ Ret w ∷ js) d'))
 
   pub record Delivers (to : Destination) (p : Emitted) (t : ℕ) (m : Rest → State → Runs) : Type 0 where
@@ -114,6 +114,31 @@ module _ (program : TreeProgram) (code : List TreeItem) (callers : List Activati
     pub branch : (sense : Bool) (to t l : ℕ) → first ≤ t → Asks (w.branch sense to t l) sense to t m
     pub drop : (t l : ℕ) → first ≤ t → Drops (w.drop t l) t m
     pub deliver : (to : Destination) (t l : ℕ) → first ≤ t → Delivers to (w.deliver to t l) t m
+
+  -- the same meaning where the states agree
+  pub way_same : (w : Lowering) (m m' : Rest → State → Runs) → ((κ : Rest) (st : State) (d : Desk) → Agrees st d → m κ st ≡ m' κ st) → DoesWay w m → DoesWay w m'
+  way_same w m m' same does = record {
+    low = λ t l sz. let q = does.low t l sz in record {
+      grows = q.grows;
+      below = q.below;
+      small = q.small;
+      runs = λ k le is κ res st d ag h. subst (λ r. Leads k r (here ((w.low t l).items ++ is) d)) (same κ st d ag) (q.runs k le is κ res st d ag h);
+    };
+    branch = λ sense to t l sz. let q = does.branch sense to t l sz in record {
+      grows = q.grows;
+      runs = λ k le is met unmet res st d ag taken falls.
+          subst (λ r. Leads k r (here ((w.branch sense to t l).items ++ is) d)) (same (λ v st. chosen v (met st) (unmet st)) st d ag) (q.runs k le is met unmet res st d ag taken falls);
+    };
+    drop = λ t l sz. let q = does.drop t l sz in record {
+      grows = q.grows;
+      runs = λ k le is κ res st d ag h. subst (λ r. Leads k r (here ((w.drop t l).items ++ is) d)) (same (λ v. κ) st d ag) (q.runs k le is κ res st d ag h);
+    };
+    deliver = λ to t l sz. let q = does.deliver to t l sz in record {
+      grows = q.grows;
+      some = q.some;
+      runs = λ k le is κ res st d ag h. subst (λ r. Leads k r (here ((w.deliver to t l).items ++ is) d)) (same κ st d ag) (q.runs k le is κ res st d ag h);
+    };
+  }
 
   pub assoc : (k : ℕ) (a b is : List Item) (d : Desk) (r : Runs) → Leads k r (here (a ++ (b ++ is)) d) → Leads k r (here ((a ++ b) ++ is) d)
   assoc k a b is d r h = moves program code callers k (spelled_all ((a ++ b) ++ is)) (spelled_all (a ++ (b ++ is))) d r (ap spelled_all (append_assoc a b is)) h
@@ -302,7 +327,7 @@ module _ (program : TreeProgram) (code : List TreeItem) (callers : List Activati
     }
 
     -- a block is given back before a value that traps, which changes nothing
-    trapped_behind : (pointer n k : ℕ) (w : Tree) (is : List Item) (st : State) (d : Desk) → Opens pointer n → SmallTree w → ((area : List ℕ) → value program w (record d { area = area }) ≡ ZeroDivisor)
+    trapped_behind : (pointer n k : ℕ) (w : Tree) (is : List Item) (st : State) (d : Desk) → Opens program size first pointer n → SmallTree w → ((area : List ℕ) → value program w (record d { area = area }) ≡ ZeroDivisor)
         → Agrees st d → Leads k (stop ends.Trapped) (here (AssignMem ints.Int (Gaddr pointer) (Loc n) ∷ Ret w ∷ is) d)
     trapped_behind pointer n k w is st d open small traps ag =
         let block = ag.pointer open.blocked in

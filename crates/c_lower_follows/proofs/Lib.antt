@@ -10,13 +10,16 @@ pub mod Areas
 pub mod Agreeing
 pub mod Doing
 pub mod Placing
+pub mod Filling
 pub mod Storing
 pub mod Assigning
 pub mod Calling
+pub mod Entering
 pub mod Conditions
 pub mod Expressions
 pub mod Scopes
 pub mod Blocks
+pub mod Held
 pub mod Waiting
 pub mod Statements
 pub mod Functions
