@@ -16,7 +16,6 @@ use Rattle.c_types.specs.Typed.{APlace, VariableAt, PointedBy, ElementBy, AnExpr
 use Rattle.c_types.specs.Typed.{UnaryOf, CastTo, ConvertTo, ArithmeticOf, CompareOf, BothOf, EitherOf, AdvanceOf, AdvanceByOf, RetreatOf, DistanceOf, ChoiceOf, AssignTo}
 use Rattle.c_types.specs.Typed.{ArithmeticAssignTo, AdvanceAssignTo, RetreatAssignTo, CommaOf, SomeExpressions, NoExpressions, MoreExpressions}
 use Rattle.c_program.specs.Programs.{ARoutine, AProgram}
-use Rattle.c_meaning.specs.declared.flow.Flow.{Flow}
 use Rattle.c_meaning.specs.declared.store.Spot.{Spot}
 use Rattle.c_meaning.specs.declared.store.Spot.TheVariants.{Local, Parameter, Memory, InBlock}
 use Rattle.c_meaning.specs.State.{State, address, spot_of, block_address, loaded_at, held, access_size, kept_in, set_at, with_locals, with_parameters, with_area, put_at, put}

@@ -329,15 +329,15 @@ module _ (program : TreeProgram) (code : List TreeItem) (callers : List Activati
     -- a block is given back before a value that traps, which changes nothing
     trapped_behind : (pointer n k : ℕ) (w : Tree) (is : List Item) (st : State) (d : Desk) → Opens program size first pointer n → SmallTree w → ((area : List ℕ) → value program w (record d { area = area }) ≡ ZeroDivisor)
         → Agrees st d → Leads k (stop ends.Trapped) (here (AssignMem ints.Int (Gaddr pointer) (Loc n) ∷ Ret w ∷ is) d)
-    trapped_behind pointer n k w is st d open small traps ag =
-        let block = ag.pointer open.blocked in
+    trapped_behind pointer n k w is st d opens small traps ag =
+        let block = ag.pointer opens.blocked in
         let run = here (AssignMem ints.Int (Gaddr pointer) (Loc n) ∷ Ret w ∷ is) d in
-        let known : value program (Loc n) d ≡ Number block.0 = ap (λ x. there (d.locals x)) open.local ∙ ap there block.2 in
+        let known : value program (Loc n) d ≡ Number block.0 = ap (λ x. there (d.locals x)) opens.local ∙ ap there block.2 in
         let whole = assign_mem_step program code callers k ints.Int (Gaddr pointer) (Loc n) (Ret w ∷ is) (λ x y. stop ends.Trapped) d tt tt ag.ranged
         (λ x y ex ey.
-        let found : Number open.address ≡ Number x = sym open.stands ∙ ex in
-        let same : open.address ≡ x = cc in
-        let inside : is_inside sizes.Long d.area x ≡ true = subst (λ a. is_inside sizes.Long d.area a ≡ true) same (open.inside d.area ag.whole.long) in
+        let found : Number opens.address ≡ Number x = sym opens.stands ∙ ex in
+        let same : opens.address ≡ x = cc in
+        let inside : is_inside sizes.Long d.area x ≡ true = subst (λ a. is_inside sizes.Long d.area a ≡ true) same (opens.inside d.area ag.whole.long) in
         let area : List ℕ = with_number sizes.Long d.area (x - 65536) y in
         let kept : stored sizes.Long d.area x y ≡ Some area = ap (λ b. cond b (Some area) None) inside in
         let after : Desk = record d { area = area } in
@@ -346,7 +346,7 @@ module _ (program : TreeProgram) (code : List TreeItem) (callers : List Activati
         let done = subst (λ o. Leads k (on o (λ v. stop ends.Trapped)) (here (Ret w ∷ is) after)) (traps area) ends in
         subst (λ o. Leads k (stop ends.Trapped) (written_at program code callers (Ret w ∷ is) d o)) (sym kept) done) in
         subst (λ o. Leads k (on o (λ y. stop ends.Trapped)) run) known
-        (subst (λ o. Leads k (on o (λ x. on (value program (Loc n) d) (λ y. stop ends.Trapped))) run) open.stands whole)
+        (subst (λ o. Leads k (on o (λ x. on (value program (Loc n) d) (λ y. stop ends.Trapped))) run) opens.stands whole)
 
     -- the value of a tree that reads no memory is the same behind that
     kept_value : (o : Value) (pointer n k : ℕ) (w : Tree) (is : List Item) (κ : Rest) (st : State) (d : Desk) → value program w d ≡ o → reads w ≡ false → SmallTree w → Agrees st d

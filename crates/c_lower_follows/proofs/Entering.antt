@@ -1,6 +1,6 @@
 -- A block is taken where a function begins, and given back where it is left.
-use Rattle.std.proofs.Common.{◌≡◌, ℕ, zero, suc, ◌+◌, ◌≤◌, ◌<◌, ◌^◌, List, [], ◌∷◌, ◌++◌, length, Option, Some, None, refl, ap, arith, sym, ◌∙◌, subst}
-use Rattle.std.specs.Prelude.{Bool, true, false, ◌&&◌, cond, slice_get, nat_lt, nat_le, ◌-◌, if◌then◌else◌}
+use Rattle.std.proofs.Common.{◌≡◌, ℕ, zero, suc, ◌+◌, ◌<◌, ◌^◌, List, ◌∷◌, ◌++◌, length, Option, Some, None, refl, ap, arith, sym, ◌∙◌, subst}
+use Rattle.std.specs.Prelude.{Bool, true, false, ◌&&◌, cond, slice_get, nat_le, ◌-◌, if◌then◌else◌}
 use Rattle.std.specs.Option.{option_map}
 use Rattle.std.proofs.lemmas.Bool.{leb-true, lt-ltb, le-ltb}
 use Rattle.std.proofs.lemmas.Bool.Decides.{nat_tests}
@@ -10,14 +10,12 @@ use Rattle.gg_base.specs.declared.size.Size.TheVariants as sizes
 use Rattle.gg_base.specs.Arithmetic.{add32, sub32}
 use Rattle.gg_base.specs.LittleEndian.{number_in}
 use Rattle.gg_base.specs.Sizes.{bytes_of}
-use Rattle.gg_base.specs.Relations.{holds}
-use Rattle.gg_base.specs.Runs.{Runs, stop, counted}
+use Rattle.gg_base.specs.Runs.{Runs, stop}
 use Rattle.tree_core.specs.declared.program.Object.{Object}
 use Rattle.tree_core.specs.declared.program.TreeItem.{TreeItem}
 use Rattle.tree_core.specs.declared.program.TreeProgram.{TreeProgram}
 use Rattle.tree_core.specs.Area.{fetched, stored, is_inside}
-use Rattle.tree_meaning.specs.declared.value.Value.{Value}
-use Rattle.tree_meaning.specs.declared.value.Value.TheVariants.{Number, ZeroDivisor, Wild}
+use Rattle.tree_meaning.specs.declared.value.Value.TheVariants.{Number, ZeroDivisor}
 use Rattle.tree_meaning.specs.Meaning.{runs as left_runs}
 use Rattle.tree_meaning.specs.State.{Activation, with_local, behind, returned}
 use Rattle.tree_meaning.specs.Values.{bind, there, address_of as object_address}
@@ -28,7 +26,7 @@ use Rattle.c_types.specs.Constants.{apply, converted}
 use Rattle.c_program.specs.Programs.{AProgram}
 use Rattle.c_meaning.specs.declared.flow.Flow.{Flow}
 use Rattle.c_meaning.specs.declared.store.Spot.TheVariants.{Memory}
-use Rattle.c_meaning.specs.State.{State, address, integer_access, with_area, put}
+use Rattle.c_meaning.specs.State.{State, address, with_area, put}
 use Rattle.c_meaning.specs.Values.{Rest, Behind, or_wild, or_trap, written, read_at, store_at}
 use Rattle.c_meaning.specs.Calls.{answer}
 use Rattle.c_meaning.specs.Blocks.{int, pointer_number, area_number, beginning, with_block, claimed, released}
@@ -38,10 +36,9 @@ use Rattle.c_lower_scheme.specs.Flow.{claimed as claiming}
 use Rattle.c_sound.specs.Fits.{AreBytes, no_local}
 use Rattle.c_lower_follows.proofs.Values.{SmallTree, Small, worth_small, or_zero}
 use Rattle.c_lower_follows.proofs.Leads.{Leads, leads_quiet}
-use Rattle.c_lower_follows.proofs.Steps.{Desk, desk_sight, on, Resolves, at, at_items, narrowed, written_at, moves, lost, assign_loc_step, assign_mem_step, cbr_step, label_step, ret_step}
+use Rattle.c_lower_follows.proofs.Steps.{Desk, desk_sight, on, Resolves, at, written_at, moves, lost, assign_loc_step, assign_mem_step, cbr_step, ret_step}
 use Rattle.c_lower_follows.proofs.Agreeing.{value, IsArea, extent_of, Agree, agree_temp, set_same}
-use Rattle.c_lower_follows.proofs.Doing.{Opens}
-use Rattle.c_lower_follows.proofs.Placing.{put_memory_step, read_mem, stored_narrowed}
+use Rattle.c_lower_follows.proofs.Placing.{put_memory_step, read_mem}
 use Rattle.c_lower_follows.proofs.Calling.{Backed}
 
 -- an int stays as it is

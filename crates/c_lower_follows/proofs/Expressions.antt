@@ -38,7 +38,7 @@ use Rattle.c_types.proofs.Sizes.{scale_small}
 use Rattle.c_program.specs.Programs.{ARoutine, AProgram}
 use Rattle.c_meaning.specs.declared.store.Spot.{Spot}
 use Rattle.c_meaning.specs.declared.store.Spot.TheVariants.{Memory}
-use Rattle.c_meaning.specs.State.{State, address, spot_of, block_address}
+use Rattle.c_meaning.specs.State.{State, address, block_address}
 use Rattle.c_meaning.specs.Values.{Rest, RestAt, Next, or_wild, or_trap, read_at, store_at, stepped, of_moment}
 use Rattle.c_meaning.specs.Values.{step_at, address_of, located, array_address}
 use Rattle.c_meaning.specs.Meaning.{expr, place, arguments}

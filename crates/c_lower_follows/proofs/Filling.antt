@@ -1,11 +1,10 @@
 -- Values and zeros are stored in the block.
-use Rattle.std.proofs.Common.{◌≡◌, ℕ, zero, suc, ◌+◌, ◌*◌, ◌≤◌, ◌<◌, ◌^◌, ◌%◌, List, [], ◌∷◌, ◌++◌, Option, Some, None, refl, ap, arith, sym, ◌∙◌, subst}
-use Rattle.std.specs.Prelude.{Bool, true, false, not, ◌==◌}
+use Rattle.std.proofs.Common.{◌≡◌, ℕ, zero, suc, ◌+◌, ◌*◌, ◌≤◌, ◌<◌, ◌^◌, List, ◌∷◌, ◌++◌, Option, Some, None, refl, ap, arith, sym, ◌∙◌, subst}
+use Rattle.std.specs.Prelude.{true, false, not, ◌==◌}
 use Rattle.std.proofs.lemmas.Bool.{not-false, not-true, eqb-true, eqb-false}
 use Rattle.gg_base.specs.declared.relation.Rel.TheVariants as relations
 use Rattle.gg_base.specs.Arithmetic.{add32}
-use Rattle.gg_base.specs.Relations.{holds}
-use Rattle.gg_base.specs.Runs.{Runs, counted}
+use Rattle.gg_base.specs.Runs.{Runs}
 use Rattle.tree_core.specs.Area.{stored}
 use Rattle.tree_core.specs.declared.program.TreeItem.{TreeItem}
 use Rattle.tree_core.specs.declared.program.TreeProgram.{TreeProgram}
@@ -20,7 +19,7 @@ use Rattle.c_types.specs.declared.typed.ArithmeticOperator.TheVariants as ariths
 use Rattle.c_types.specs.Types.{size_of, integer_size, is_scalar}
 use Rattle.c_types.specs.Constants.{apply}
 use Rattle.c_types.proofs.Sizes.{size_small}
-use Rattle.c_meaning.specs.declared.store.Spot.TheVariants.{Memory, InBlock}
+use Rattle.c_meaning.specs.declared.store.Spot.TheVariants.{Memory}
 use Rattle.c_meaning.specs.State.{State, integer_access, with_area, put, put_zeros}
 use Rattle.c_meaning.specs.Values.{written}
 use Rattle.c_meaning.specs.Blocks.{block_set, zeros_set}
@@ -31,7 +30,7 @@ use Rattle.c_lower_scheme.specs.Flow.{zeros_in_block}
 use Rattle.c_sound.specs.Fits.{HasSize}
 use Rattle.c_lower_follows.proofs.Values.{SmallTree, or_zero}
 use Rattle.c_lower_follows.proofs.Leads.{Leads, leads_quiet}
-use Rattle.c_lower_follows.proofs.Steps.{Desk, on, Resolves, at_items, narrowed, written_at, moves, assign_mem_step, cbr_step, label_step}
+use Rattle.c_lower_follows.proofs.Steps.{Desk, on, Resolves, narrowed, written_at, moves, assign_mem_step, cbr_step, label_step}
 use Rattle.c_lower_follows.proofs.Agreeing.{value, set_same, set_other}
 use Rattle.c_lower_follows.proofs.Doing.{Agrees, here, save_temp}
 use Rattle.c_lower_follows.proofs.Blocks.{block_put, block_put_is}

@@ -21,6 +21,7 @@ pub mod Scopes
 pub mod Blocks
 pub mod Held
 pub mod Waiting
+pub mod Locals
 pub mod Statements
 pub mod Functions
 pub mod Labels

@@ -1,7 +1,7 @@
 -- What the items of places and assignments do.
-use Rattle.std.proofs.Common.{◌≡◌, ℕ, zero, suc, ◌+◌, ◌≤◌, ◌<◌, ◌^◌, ◌%◌, List, [], ◌∷◌, ◌++◌, length, Option, Some, None, refl, ap, arith, sym, ◌∙◌, subst, ⊎_elim}
+use Rattle.std.proofs.Common.{◌≡◌, ℕ, zero, ◌+◌, ◌≤◌, ◌<◌, ◌^◌, ◌%◌, List, [], ◌++◌, length, Option, Some, None, refl, ap, arith, sym, ◌∙◌, subst, ⊎_elim}
 use Rattle.std.specs.Prelude.{Bool, true, false, cond, slice_get, slice_set, nat_lt, take, drop, ◌-◌}
-use Rattle.std.specs.Int.{w16, w32, to_le_bytes}
+use Rattle.std.specs.Int.{w16, to_le_bytes}
 use Rattle.std.specs.Option.{option_map}
 use Rattle.std.proofs.lemmas.Bool.{cases_eq, ltb-true}
 use Rattle.std.proofs.lemmas.List.{length-set}

@@ -1,16 +1,12 @@
 -- What each statement is lowered to does what the statement means.
-use Rattle.std.proofs.Common.{◌≡◌, ℕ, zero, suc, ◌+◌, ◌*◌, ◌≤◌, ◌<◌, ◌^◌, List, [], ◌∷◌, ◌++◌, length, Option, Some, None, refl, ap, arith, sym, ◌∙◌, subst, ◌⊎◌, inl, inr, ⊎_elim, append_assoc}
+use Rattle.std.proofs.Common.{◌≡◌, ℕ, zero, suc, ◌+◌, ◌*◌, ◌≤◌, ◌<◌, ◌^◌, List, [], ◌∷◌, ◌++◌, length, Option, Some, None, refl, ap, arith, sym, subst, ◌⊎◌, inl, inr, ⊎_elim, append_assoc}
 use Rattle.std.specs.Prelude.{Bool, true, false, cond, slice_get, slice_set, nat_lt, ◌-◌}
-use Rattle.std.specs.Option.{option_map}
-use Rattle.std.proofs.lemmas.Bool.{cases_eq, ltb-true}
-use Rattle.std.proofs.lemmas.List.{length-set}
 use Rattle.gg_base.specs.Runs.{Runs, counted}
-use Rattle.gg_base.proofs.Facts.{slice_set_same, slice_set_other}
 use Rattle.tree_core.specs.declared.program.Object.{Object}
 use Rattle.tree_core.specs.declared.program.TreeItem.{TreeItem}
 use Rattle.tree_core.specs.declared.program.TreeFn.{TreeFn}
 use Rattle.tree_core.specs.declared.program.TreeProgram.{TreeProgram}
-use Rattle.tree_meaning.specs.State.{Activation, with_local, behind, returned, arrived}
+use Rattle.tree_meaning.specs.State.{Activation, with_local, behind, returned}
 use Rattle.tree_meaning.specs.Meaning.{runs}
 use Rattle.c_types.specs.declared.types.CType.{CType}
 use Rattle.c_types.specs.declared.typed.Callee.{Callee}
@@ -42,11 +38,11 @@ use Rattle.c_lower_scheme.specs.Statements.{unless, when, effect, returning, dec
 use Rattle.c_sound.specs.Fits.{Fits, FitsMaybe, more, declaring, behind_act, FitsDeclared, FitsAct, FitsActs, no_local}
 use Rattle.c_sound.specs.Stands.{Stands, StandsMaybe, StandsDeclared, StandsAct, StandsActs}
 use Rattle.c_lower_scheme.proofs.Places.{local_is}
-use Rattle.c_lower_follows.proofs.Values.{SmallTree, Small, worth_small}
-use Rattle.c_lower_follows.proofs.Leads.{Leads, leads_wild, leads_quiet, leads_counted, leads_none, leads_below}
-use Rattle.c_lower_follows.proofs.Steps.{on, Desk, desk_sight, Resolves, resolves_back, at, at_items, state, silent, moves, assign_loc_step, jump_step, jump_counts, label_step, label_counts}
+use Rattle.c_lower_follows.proofs.Leads.{Leads, leads_quiet, leads_counted, leads_none, leads_below}
+use Rattle.c_lower_follows.proofs.Steps.{on, Desk, Resolves, resolves_back, at, at_items, state, moves, jump_step, jump_counts, label_step, label_counts}
 use Rattle.c_lower_follows.proofs.Steps.{resolves_split}
-use Rattle.c_lower_follows.proofs.Agreeing.{value, extent_of, Agree, set_same, set_other, ranged_set}
+use Rattle.c_lower_follows.proofs.Agreeing.{extent_of, Agree}
+use Rattle.c_lower_follows.proofs.Locals.{local_step, cleared_by, set_local}
 use Rattle.c_lower_follows.proofs.Doing.{Arrives, Does, DoesWay, due_does, delivered_does}
 use Rattle.c_lower_follows.proofs.Filling.{stored_does, zeros_does}
 use Rattle.c_lower_follows.proofs.Calling.{CodeOf, Calls}
@@ -102,66 +98,6 @@ module _ (program : TreeProgram) (code : List TreeItem) (callers : List Activati
     left = leaves_below out j k (λ v. κ (Returned v)) le h.left;
   }
 
-  -- a local is set, and is in scope from there on
-  local_by : (n u k : ℕ) (scope after : ℕ → Type 0) (is : List Item) (κ : State → Runs) (st : State) (d : Desk) (b : Bool) → nat_lt n (length st.call.locals) ≡ b → u < 2 ^ 32
-      → ((x : ℕ) → after x → (x ≡ n → ⊥) → scope x) → fair scope st d
-      → (fair after (with_locals st (slice_set st.call.locals n u)) (record d { locals = with_local d.locals n u })
-      → Leads k (κ (with_locals st (slice_set st.call.locals n u))) (from is (record d { locals = with_local d.locals n u })))
-      → Leads k (written (option_map (with_locals st) (cond b (Some (slice_set st.call.locals n u)) None)) u (λ v. κ)) (from is (record d { locals = with_local d.locals n u }))
-  local_by n u k scope after is κ st d false e lt sub ag h = leads_wild k _
-      (silent program code callers (arrived (state program code callers (spelled_all is) (record d { locals = with_local d.locals n u }))))
-  local_by n u k scope after is κ st d true e lt sub ag h =
-      let inside : n < length st.call.locals = ltb-true n (length st.call.locals) e in
-      h (record {
-        local = λ x sc. ⊎_elim
-            (λ eq. subst (λ i. with_local d.locals n u i ≡ slice_get (slice_set st.call.locals n u) i) (sym eq) (set_same d.locals n u ∙ sym (slice_set_same st.call.locals n u inside)))
-            (λ ne. set_other d.locals n u x ne ∙ ag.local x (sub x sc ne) ∙ sym (slice_set_other st.call.locals n u x ne))
-            (cases_eq x n);
-        count = length-set st.call.locals n u ∙ ag.count;
-        arguments = ag.arguments;
-        area = ag.area;
-        input = ag.input;
-        pushed = ag.pushed;
-        active = ag.active;
-        ranged = ranged_set d n u lt ag.ranged;
-        bytes = ag.bytes;
-        whole = ag.whole;
-        pointer = λ s. let k = ag.pointer s in (k.0, k.1, set_other d.locals n u size (λ q. omega (arith, ag.count)) ∙ k.2);
-      })
-
-  local_step : (n u k : ℕ) (scope after : ℕ → Type 0) (is : List Item) (κ : State → Runs) (st : State) (d : Desk) → u < 2 ^ 32 → ((x : ℕ) → after x → (x ≡ n → ⊥) → scope x) → fair scope st d
-      → (fair after (with_locals st (slice_set st.call.locals n u)) (record d { locals = with_local d.locals n u })
-      → Leads k (κ (with_locals st (slice_set st.call.locals n u))) (from is (record d { locals = with_local d.locals n u })))
-      → Leads k (written (put_local n u st) u (λ v. κ)) (from is (record d { locals = with_local d.locals n u }))
-  local_step n u k scope after is κ st d lt sub ag h = local_by n u k scope after is κ st d (nat_lt n (length st.call.locals)) refl lt sub ag h
-
-  -- the source alone clears a local that is out of scope
-  cleared_by : (n k : ℕ) (scope : ℕ → Type 0) (is : List Item) (κ : State → Runs) (st : State) (d : Desk) (b : Bool) → nat_lt n (length st.call.locals) ≡ b → fair scope st d
-      → (fair (without scope n) (with_locals st (slice_set st.call.locals n 0)) d → Leads k (κ (with_locals st (slice_set st.call.locals n 0))) (from is d))
-      → Leads k (written (option_map (with_locals st) (cond b (Some (slice_set st.call.locals n 0)) None)) 0 (λ v. κ)) (from is d)
-  cleared_by n k scope is κ st d false e ag h = leads_wild k _ (silent program code callers (arrived (state program code callers (spelled_all is) d)))
-  cleared_by n k scope is κ st d true e ag h = h (record {
-    local = λ x sc. ag.local x sc.0 ∙ sym (slice_set_other st.call.locals n 0 x sc.1);
-    count = length-set st.call.locals n 0 ∙ ag.count;
-    arguments = ag.arguments;
-    area = ag.area;
-    input = ag.input;
-    pushed = ag.pushed;
-    active = ag.active;
-    ranged = ag.ranged;
-    bytes = ag.bytes;
-    whole = ag.whole;
-    pointer = ag.pointer;
-  })
-
-  -- a tree's value is assigned to a local that is declared
-  set_local : (n k : ℕ) (w : Tree) (scope after : ℕ → Type 0) (is : List Item) (κ : State → Runs) (st : State) (d : Desk) → SmallTree w → ((x : ℕ) → after x → (x ≡ n → ⊥) → scope x) → fair scope st d
-      → ((st' : State) (d' : Desk) → fair after st' d' → Leads k (κ st') (from is d'))
-      → Leads k (on (value program w d) (λ v. written (put_local n v st) v (λ v. κ))) (from (AssignLoc n w ∷ is) d)
-  set_local n k w scope after is κ st d small sub ag h =
-      assign_loc_step program code callers k n w is (λ v. written (put_local n v st) v (λ v. κ)) d small ag.ranged
-      (λ v e. local_step n v k scope after is κ st d (subst Small e (worth_small program.objects (desk_sight d) ag.ranged w small)) sub ag (λ ag'. h _ _ ag'))
-
   module _ (p : AProgram) (next : Next) (counts_all : length program.functions ≡ count)
       (lowers : (f : ℕ) (g : ARoutine) → slice_get p.routines f ≡ Some g → (tf : TreeFn) × (slice_get program.functions f ≡ Some tf) × CodeOf (pointer_number p.objects) count g tf.items)
       (calls : Calls program count p next level) (objects_are : program.objects ≡ p.objects) (addresses : (n : ℕ) (o : Object) → slice_get p.objects n ≡ Some o → o.address < 2 ^ 32)
@@ -200,23 +136,23 @@ module _ (program : TreeProgram) (code : List TreeItem) (callers : List Activati
     begin_does true n e scope within lt mentioned fit std l k le is κ res st d ag h =
         let q = (way size count e).deliver (InLocal n) first l in
         let does = (expression (more scope n) (more_within size scope n lt within) e fit std).deliver (InLocal n) first l (omega arith) in
-        set_local n k (Num 0) scope (more scope n) (q.items ++ is) (expr p next e (λ v. local_set p next n v κ)) st d (omega arith) (λ x sc ne. ⊎_elim (λ s. s) (λ eq. absurd (ne eq)) sc) ag
+        set_local program code callers size first own n k (Num 0) scope (more scope n) (q.items ++ is) (expr p next e (λ v. local_set p next n v κ)) st d (omega arith) (λ x sc ne. ⊎_elim (λ s. s) (λ eq. absurd (ne eq)) sc) ag
         (λ st1 d1 ag1. does.runs k le is (λ v. local_set p next n v κ) res.1 st1 d1 ag1
-        (λ v st2 d2 small ag2 kept. local_step n v k (more scope n) (more scope n) is κ st2 d2 small (λ x sc ne. sc) ag2 (λ ag3. h _ _ ag3)))
+        (λ v st2 d2 small ag2 kept. local_step program code callers size first own n v k (more scope n) (more scope n) is κ st2 d2 small (λ x sc ne. sc) ag2 (λ ag3. h _ _ ag3)))
     begin_does false n e scope within lt mentioned fit std l k le is κ res st d ag h =
         let q = (way size count e).deliver (InLocal n) first l in
         let does = (expression (without scope n) (λ x sc. within x sc.0) e (fits_without scope n e mentioned fit) std).deliver (InLocal n) first l (omega arith) in
-        cleared_by n k scope (q.items ++ is) (expr p next e (λ v. local_set p next n v κ)) st d (nat_lt n (length st.call.locals)) refl ag
+        cleared_by program code callers size first own n k scope (q.items ++ is) (expr p next e (λ v. local_set p next n v κ)) st d (nat_lt n (length st.call.locals)) refl ag
         (λ ag1. does.runs k le is (λ v. local_set p next n v κ) res (with_locals st (slice_set st.call.locals n 0)) d ag1
-        (λ v st2 d2 small ag2 kept. local_step n v k (without scope n) (more scope n) is κ st2 d2 small (λ x sc ne. ⊎_elim (λ s. (s, ne)) (λ eq. absurd (ne eq)) sc) ag2 (λ ag3. h _ _ ag3)))
+        (λ v st2 d2 small ag2 kept. local_step program code callers size first own n v k (without scope n) (more scope n) is κ st2 d2 small (λ x sc ne. ⊎_elim (λ s. (s, ne)) (λ eq. absurd (ne eq)) sc) ag2 (λ ag3. h _ _ ag3)))
 
     clear_does : (b : Bool) (n : ℕ) (live : ℕ → Type 0) (k : ℕ) (is : List Item) (κ : State → Runs) (st : State) (d : Desk) → fair live st d
         → (b ≡ true → (st' : State) (d' : Desk) → fair (more live n) st' d' → Leads k (κ st') (from is d'))
         → (b ≡ false → (st' : State) (d' : Desk) → fair (without live n) st' d' → Leads k (κ st') (from is d'))
         → Leads k (local_set p next n 0 κ st) (from (clearing b n ++ is) d)
     clear_does true n live k is κ st d ag h g =
-        set_local n k (Num 0) live (more live n) is κ st d (omega arith) (λ x sc ne. ⊎_elim (λ s. s) (λ eq. absurd (ne eq)) sc) ag (h refl)
-    clear_does false n live k is κ st d ag h g = cleared_by n k live is κ st d (nat_lt n (length st.call.locals)) refl ag (λ ag1. g refl _ _ ag1)
+        set_local program code callers size first own n k (Num 0) live (more live n) is κ st d (omega arith) (λ x sc ne. ⊎_elim (λ s. s) (λ eq. absurd (ne eq)) sc) ag (h refl)
+    clear_does false n live k is κ st d ag h g = cleared_by program code callers size first own n k live is κ st d (nat_lt n (length st.call.locals)) refl ag (λ ag1. g refl _ _ ag1)
 
     declare_does : (ds : List ADeclaration) (rest : SomeActions) (scope live : ℕ → Type 0) → ((x : ℕ) → scope x → x < size) → FitsDeclared size scope ds → StdDeclared ds
         → Partly live scope ds rest → (l k : ℕ) → k ≤ level → (is : List Item) (κ : Behind) → Resolves code ((declare size count first out ds rest l).items ++ is)
@@ -286,7 +222,7 @@ module _ (program : TreeProgram) (code : List TreeItem) (callers : List Activati
         let maps = fitted_maps program code callers size count first live level within own t in
         joined_at k q.items (i ∷ []) is d _ (does.runs k le (i ∷ is) (λ v. store_at t (Local m) v (λ v. κ)) (resolves_split code q.items (i ∷ []) is res) st d ag
         (λ st1 d1 ag1 s1. subst (λ r. Leads k r (from (i ∷ is) d1)) (maps.maps q.tree d1 (λ u. written (put_local m u st1) u (λ v. κ)))
-        (set_local m k w live (more live m) is κ st1 d1 (maps.small q.tree does.small) (λ x sc ne. ⊎_elim (λ s. s) (λ eq. absurd (ne eq)) sc) ag1 h)))
+        (set_local program code callers size first own m k w live (more live m) is κ st1 d1 (maps.small q.tree does.small) (λ x sc ne. ⊎_elim (λ s. s) (λ eq. absurd (ne eq)) sc) ag1 h)))
     assigned_by (Some n) t m e live within fit std at l k le is κ res st d ag h =
         let whole = local_is (integer_of t) (InLoc m) n at in
         let same : m ≡ n = let z = whole.0 in cc in
@@ -295,7 +231,7 @@ module _ (program : TreeProgram) (code : List TreeItem) (callers : List Activati
         (λ v st1 d1 small ag1 kept.
         subst (λ c. Leads k (written (put_local m c st1) c (λ v. κ)) (from is (record d1 { locals = with_local d1.locals n v }))) (sym (whole_value t v whole.1))
         (subst (λ j. Leads k (written (put_local m v st1) v (λ v. κ)) (from is (record d1 { locals = with_local d1.locals j v }))) same
-        (local_step m v k live (more live m) is κ st1 d1 small (λ x sc ne. ⊎_elim (λ s. s) (λ eq. absurd (ne eq)) sc) ag1 (λ ag2. h _ _ ag2))))
+        (local_step program code callers size first own m v k live (more live m) is κ st1 d1 small (λ x sc ne. ⊎_elim (λ s. s) (λ eq. absurd (ne eq)) sc) ag1 (λ ag2. h _ _ ag2))))
 
     assigned_does : (t : CType) (m : ℕ) (e : AnExpression) (live : ℕ → Type 0) → ((x : ℕ) → live x → x < size) → Fits live e → Std e → (l k : ℕ) → k ≤ level → (is : List Item)
         (κ : State → Runs) → Resolves code (((way size count (AssignTo (VariableAt t (variables.Automatic m)) e)).drop first l).items ++ is) → (st : State) (d : Desk)
