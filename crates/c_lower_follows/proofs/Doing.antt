@@ -406,7 +406,6 @@ module _ (program : TreeProgram) (code : List TreeItem) (callers : List Activati
           subst (λ a. Leads k (κ v st1) (left_runs program (returned v callers a d1.input))) (sym ag1.area)
           (subst (λ i. Leads k (κ v st1) (left_runs program (returned v callers st1.area i))) (sym ag1.input) done))));
     }
-
     delivered_does (Releasing pointer n) p t m sz does = released_by pointer n p t m (reads p.tree) refl sz does
 
     -- behind items that keep the temporaries from t up to p for themselves

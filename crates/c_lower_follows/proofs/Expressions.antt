@@ -327,7 +327,6 @@ module _ (program : TreeProgram) (code : List TreeItem) (callers : List Activati
     runs = λ k le is κ res st d ag h.
         subst (λ r. Leads k r (there_is is d)) (gaddr n d (λ x. κ ty (Memory x) st) ∙ located_at (address p.objects n) (κ ty) st) (h st d ag (since_start size t t [] st d));
   }
-
   variable_does ty (variables.InBlock o) t l fit std sz =
       let does = held_does o t l std sz in
       record { grows = does.grows; fits = does.below; small = does.small; runs = λ k le is κ res st d ag h. does.runs k le is (λ x. κ ty (Memory x)) res st d ag h }

@@ -181,7 +181,6 @@ module _ (program : TreeProgram) (code : List TreeItem) (callers : List Activati
         (others.items ++ is) (declared p next ds κ) res' st d ag
         (λ st1 d1 ag1. declare_does ds rest (more scope n) (more live n) (more_within size scope n fit.0 within) fit.2 std.1 (past_begin live scope rest n e ds part) a.labels k le is κ
         behind_it st1 d1 ag1 h))
-
     declare_does (StoreOf t o e ∷ ds) rest scope live within fit std part l k le is κ res st d ag h =
         let q = (way size count e).low first l in
         let inside = lies o std.0 in
