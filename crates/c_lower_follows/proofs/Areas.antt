@@ -35,7 +35,8 @@ stored_bytes z area x v area' h e = subst AreBytes (stored_by (is_inside z area 
 
 -- bytes in the middle of a list are replaced
 replaced_long : (area mid : List ℕ) (x n : ℕ) → length mid ≡ n → x + n ≤ length area → length (take x area ++ (mid ++ drop (x + n) area)) ≡ length area
-replaced_long area mid x n is le = omega (arith, length-append (take x area) (mid ++ drop (x + n) area), length-append mid (drop (x + n) area), length-take-le x area (omega arith), length-drop (x + n) area)
+replaced_long area mid x n is le =
+    omega (arith, length-append (take x area) (mid ++ drop (x + n) area), length-append mid (drop (x + n) area), length-take-le x area (omega arith), length-drop (x + n) area)
 
 number_long : (z : Size) (area : List ℕ) (x v : ℕ) → x + bytes_of z ≤ length area → length (with_number z area x v) ≡ length area
 number_long sizes.Byte area x v le = length-set area x (v % 2 ^ 8)

@@ -126,8 +126,10 @@ module _ (c : Option ℕ) where
       expr_same (ConvertTo t e) κ μ st is h = expr_same e _ _ st is (λ v. h (converted t v))
       expr_same (ArithmeticOf op l r) κ μ st is h = expr_same l _ _ st is (λ x st1 is1. expr_same r _ _ st1 is1 (λ y st2 is2. trap_same (apply op x y) κ μ st2 (λ v. h v st2 is2)))
       expr_same (CompareOf rel l r) κ μ st is h = expr_same l _ _ st is (λ x st1 is1. expr_same r _ _ st1 is1 (λ y. h _))
-      expr_same (BothOf l r) κ μ st is h = expr_same l _ _ st is (λ x st1 is1. let one = expr_same r (λ y. κ (logical y)) (λ y. μ (logical y)) st1 is1 (λ y. h (logical y)) in let two = h 0 st1 is1 in λ i. chosen x (one i) (two i))
-      expr_same (EitherOf l r) κ μ st is h = expr_same l _ _ st is (λ x st1 is1. let one = h 1 st1 is1 in let two = expr_same r (λ y. κ (logical y)) (λ y. μ (logical y)) st1 is1 (λ y. h (logical y)) in λ i. chosen x (one i) (two i))
+      expr_same (BothOf l r) κ μ st is h =
+          expr_same l _ _ st is (λ x st1 is1. let one = expr_same r (λ y. κ (logical y)) (λ y. μ (logical y)) st1 is1 (λ y. h (logical y)) in let two = h 0 st1 is1 in λ i. chosen x (one i) (two i))
+      expr_same (EitherOf l r) κ μ st is h =
+          expr_same l _ _ st is (λ x st1 is1. let one = h 1 st1 is1 in let two = expr_same r (λ y. κ (logical y)) (λ y. μ (logical y)) st1 is1 (λ y. h (logical y)) in λ i. chosen x (one i) (two i))
       expr_same (AdvanceOf t l r) κ μ st is h = expr_same l _ _ st is (λ x st1 is1. expr_same r _ _ st1 is1 (λ y. h _))
       expr_same (AdvanceByOf t l r) κ μ st is h = expr_same l _ _ st is (λ x st1 is1. expr_same r _ _ st1 is1 (λ y. h _))
       expr_same (RetreatOf t l r) κ μ st is h = expr_same l _ _ st is (λ x st1 is1. expr_same r _ _ st1 is1 (λ y. h _))

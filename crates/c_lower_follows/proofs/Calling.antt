@@ -21,7 +21,8 @@ use Rattle.c_sound.specs.Fits.{AreBytes}
 use Rattle.c_lower_follows.proofs.Values.{SmallTree, Ranged, Small, worth_small}
 use Rattle.c_lower_follows.proofs.Leads.{Leads, leads_deep, leads_none, leads_below, leads_counted, leads_quiet, leads_emit}
 use Rattle.c_lower_follows.proofs.Steps.{moves, Desk, desk_sight, on, Resolves, resolves_back, state, lost, push_step, call_counts, save_step, resolves_split}
-use Rattle.c_lower_follows.proofs.Agreeing.{Below, below_more, Alike, value, value_alike, value_stable, value_pure, IsArea, extent_of, Since, agree_temp, set_same, set_other, not_nil, front_nil, back_nil}
+use Rattle.c_lower_follows.proofs.Agreeing.{Below, below_more, Alike, value, value_alike, value_stable, value_pure, IsArea}
+use Rattle.c_lower_follows.proofs.Agreeing.{extent_of, Since, agree_temp, set_same, set_other, not_nil, front_nil, back_nil}
 use Rattle.c_lower_follows.proofs.Storing.{use_number}
 use Rattle.c_lower_follows.proofs.Doing.{Drops, Delivers, delivered_does, assoc, save_temp}
 use Rattle.std.specs.Prelude.{if◌then◌else◌}
@@ -91,7 +92,8 @@ nil_from : (a : List Item) → is_nil a ≡ true → a ≡ []
 nil_from [] e = refl
 nil_from (i ∷ is) e = absurd (cc)
 
-module _ (program : TreeProgram) (code : List TreeItem) (callers : List Activation) (size count first : ℕ) (scope : ℕ → Type 0) (level : ℕ) (within : (x : ℕ) → scope x → x < size) (own : size ≤ first) where
+module _ (program : TreeProgram) (code : List TreeItem) (callers : List Activation) (size count first : ℕ) (scope : ℕ → Type 0) (level : ℕ) (within : (x : ℕ) → scope x → x < size)
+    (own : size ≤ first) where
   abbrev pub well : State → Desk → Type 0
   well st d = agreed program code callers size count first scope level within own st d
 
@@ -291,7 +293,8 @@ pub record Calls (program : TreeProgram) (count : ℕ) (p : AProgram) (next : Ne
       → (κ : Behind) (cs : List Activation) → Backed program k κ cs → (st : State) → st.active ≡ length cs → IsArea (extent_of program) st.area → AreBytes st.input
       → Leads k (performed p.objects next g κ (begun_source g vs st)) (runs program (arrived (record { running = begun_tree tf vs; callers = cs; area = st.area; input = st.input })))
 
-module _ (program : TreeProgram) (code : List TreeItem) (callers : List Activation) (size count first : ℕ) (scope : ℕ → Type 0) (level : ℕ) (within : (x : ℕ) → scope x → x < size) (own : size ≤ first) (p : AProgram)
+module _ (program : TreeProgram) (code : List TreeItem) (callers : List Activation) (size count first : ℕ) (scope : ℕ → Type 0) (level : ℕ) (within : (x : ℕ) → scope x → x < size)
+    (own : size ≤ first) (p : AProgram)
     (next : Next) (counts_all : length program.functions ≡ count)
     (lowers : (f : ℕ) (g : ARoutine) → slice_get p.routines f ≡ Some g → (tf : TreeFn) × (slice_get program.functions f ≡ Some tf) × CodeOf (pointer_number p.objects) count g tf.items)
     (calls : Calls program count p next level) where

@@ -85,7 +85,8 @@ pick true false met unmet = unmet
 pick false true met unmet = unmet
 pick false false met unmet = met
 
-module _ (program : TreeProgram) (code : List TreeItem) (callers : List Activation) (size count first : ℕ) (scope : ℕ → Type 0) (level : ℕ) (within : (x : ℕ) → scope x → x < size) (own : size ≤ first) where
+module _ (program : TreeProgram) (code : List TreeItem) (callers : List Activation) (size count first : ℕ) (scope : ℕ → Type 0) (level : ℕ) (within : (x : ℕ) → scope x → x < size)
+    (own : size ≤ first) where
   abbrev sure : State → Desk → Type 0
   sure st d = Agrees program code callers size count first scope level st d
 
@@ -163,7 +164,8 @@ module _ (program : TreeProgram) (code : List TreeItem) (callers : List Activati
         let res1 = resolves_split code p.items q.items is res in
         bind_up k p.items q.items is d _ (drops.runs k le (q.items ++ is) (n (λ v. κ)) res1 st d ag
         (λ st1 d1 ag1 s1. drops'.runs k le is κ (resolves_back code p.items (q.items ++ is) res1) st1 d1 ag1
-        (λ st2 d2 ag2 s2. h st2 d2 ag2 (since_both program code callers size count first scope level within own t p.temps q.temps p.items q.items st st1 st2 d d1 d2 drops.grows drops'.grows s1 s2))));
+        (λ st2 d2 ag2 s2. h st2 d2 ag2 (since_both program code callers size count first scope level within own t p.temps q.temps p.items q.items st st1 st2 d d1 d2 drops.grows drops'.grows s1
+        s2))));
   }
 
   compare_by : (sense : Bool) (r : Rel) (x y : ℕ) (b : Bool) (met unmet : Runs) → holds (sensed sense r) x y ≡ b → chosen (truth (holds r x y)) met unmet ≡ pick b sense met unmet
@@ -254,7 +256,8 @@ module _ (program : TreeProgram) (code : List TreeItem) (callers : List Activati
         (λ st1 d1 ag1 s1. leads_quiet k _ _ (subst (λ κ. Leads k (n κ st1) (going (q.items ++ is) d1)) (λ j y st. sym (logical_chosen y (met st) (unmet st)) j)
         (asks'.runs k le is met unmet (resolves_back code p.items (q.items ++ is) res1) st1 d1 ag1
         (λ st2 d2 ag2 s2. taken st2 d2 ag2 (since_both program code callers size count first scope level within own t p.temps q.temps p.items q.items st st1 st2 d d1 d2 asks.grows asks'.grows s1 s2))
-        (λ st2 d2 ag2 s2. falls st2 d2 ag2 (since_both program code callers size count first scope level within own t p.temps q.temps p.items q.items st st1 st2 d d1 d2 asks.grows asks'.grows s1 s2))))));
+        (λ st2 d2 ag2 s2. falls st2 d2 ag2 (since_both program code callers size count first scope level within own t p.temps q.temps p.items q.items st st1 st2 d d1 d2 asks.grows asks'.grows s1
+        s2))))));
   }
   chain_direct false to p q t m n asks asks' = record {
     grows = omega (arith, asks.grows, asks'.grows);
@@ -266,7 +269,8 @@ module _ (program : TreeProgram) (code : List TreeItem) (callers : List Activati
         (λ st1 d1 ag1 s1. leads_quiet k _ _ (subst (λ κ. Leads k (n κ st1) (going (q.items ++ is) d1)) (λ j y st. sym (logical_chosen y (met st) (unmet st)) j)
         (asks'.runs k le is met unmet (resolves_back code p.items (q.items ++ is) res1) st1 d1 ag1
         (λ st2 d2 ag2 s2. taken st2 d2 ag2 (since_both program code callers size count first scope level within own t p.temps q.temps p.items q.items st st1 st2 d d1 d2 asks.grows asks'.grows s1 s2))
-        (λ st2 d2 ag2 s2. falls st2 d2 ag2 (since_both program code callers size count first scope level within own t p.temps q.temps p.items q.items st st1 st2 d d1 d2 asks.grows asks'.grows s1 s2))))));
+        (λ st2 d2 ag2 s2. falls st2 d2 ag2 (since_both program code callers size count first scope level within own t p.temps q.temps p.items q.items st st1 st2 d d1 d2 asks.grows asks'.grows s1
+        s2))))));
   }
 
   chain_inner_true : (to l : ℕ) (p q : Emitted) (t : ℕ) (m n : Rest → State → Runs) → AsksIt p true l t m → AsksIt q false to p.temps n
@@ -558,7 +562,8 @@ module _ (program : TreeProgram) (code : List TreeItem) (callers : List Activati
         bind_up k p.items q.items is d _ (drops.runs k le (q.items ++ is) (n (λ v st. chosen v (met st) (unmet st))) res1 st d ag
         (λ st1 d1 ag1 s1. asks.runs k le is met unmet (resolves_back code p.items (q.items ++ is) res1) st1 d1 ag1
         (λ st2 d2 ag2 s2. taken st2 d2 ag2 (since_both program code callers size count first scope level within own t p.temps q.temps p.items q.items st st1 st2 d d1 d2 drops.grows asks.grows s1 s2))
-        (λ st2 d2 ag2 s2. falls st2 d2 ag2 (since_both program code callers size count first scope level within own t p.temps q.temps p.items q.items st st1 st2 d d1 d2 drops.grows asks.grows s1 s2))));
+        (λ st2 d2 ag2 s2. falls st2 d2 ag2 (since_both program code callers size count first scope level within own t p.temps q.temps p.items q.items st st1 st2 d d1 d2 drops.grows asks.grows s1
+        s2))));
   }
 
   comma_delivers : (to : Destination) (p q : Emitted) (t : ℕ) (m n : Rest → State → Runs) → DropsIt p t m → DeliversIt to q p.temps n → DeliversIt to (then_done p q) t (λ κ. m (λ x. n κ))

@@ -29,9 +29,11 @@ use Rattle.c_sound.specs.Fits.{AreBytes, no_local}
 use Rattle.c_lower_follows.proofs.Values.{SmallTree, Small, Ranged, worth_small}
 use Rattle.c_lower_follows.proofs.Areas.{stored_bytes}
 use Rattle.c_lower_follows.proofs.Leads.{Leads, leads_wild}
-use Rattle.c_lower_follows.proofs.Steps.{Desk, desk_sight, on, Resolves, resolves_back, at, at_items, written_at, state, moves, lost, silent, assign_loc_step, assign_mem_step, cbr_step, ret_step, resolves_split}
+use Rattle.c_lower_follows.proofs.Steps.{Desk, desk_sight, on, Resolves, resolves_back, at, at_items, written_at}
+use Rattle.c_lower_follows.proofs.Steps.{state, moves, lost, silent, assign_loc_step, assign_mem_step, cbr_step, ret_step, resolves_split}
 use Rattle.c_lower_follows.proofs.Scopes.{agree_less}
-use Rattle.c_lower_follows.proofs.Agreeing.{Below, below_more, value, value_stable, value_pure, value_unread, IsArea, extent_of, Agree, Since, since_start, agree_temp, set_same, set_other, not_nil, front_nil, back_nil}
+use Rattle.c_lower_follows.proofs.Agreeing.{Below, below_more, value, value_stable, value_pure, value_unread, IsArea, extent_of}
+use Rattle.c_lower_follows.proofs.Agreeing.{Agree, Since, since_start, agree_temp, set_same, set_other, not_nil, front_nil, back_nil}
 
 pub on_bind : (o : Value) (f : ℕ → Value) (κ : ℕ → Runs) → on (bind o f) κ ≡ on o (λ x. on (f x) κ)
 on_bind (Number x) f κ = refl
@@ -99,8 +101,10 @@ module _ (program : TreeProgram) (code : List TreeItem) (callers : List Activati
   abbrev pub Arrives : Destination → (k t u : ℕ) (is : List Item) (d : Desk) (κ : Rest) → Type 0
   Arrives (InLocal n) k t u is d κ = (v : ℕ) (st' : State) (d' : Desk) → v < 2 ^ 32 → Agrees st' d' → ((j : ℕ) → size ≤ j → (j < t) ⊎ (u ≤ j) → d'.locals j ≡ d.locals j)
       → Leads k (κ v st') (here is (record d' { locals = with_local d'.locals n v }))
-  Arrives AsResult k t u is d κ = (v : ℕ) (st' : State) → v < 2 ^ 32 → IsArea (extent_of program) st'.area → AreBytes st'.input → Leads k (κ v st') (left_runs program (returned v callers st'.area st'.input))
-  Arrives (Releasing pointer n) k t u is d κ = Opens program size first pointer n × ((v : ℕ) (w : Tree) (js : List Item) (st' : State) (d' : Desk) → v < 2 ^ 32 → SmallTree w → ((area : List ℕ) → value program w (record d' { area = area }) ≡ Number v)
+  Arrives AsResult k t u is d κ =
+      (v : ℕ) (st' : State) → v < 2 ^ 32 → IsArea (extent_of program) st'.area → AreBytes st'.input → Leads k (κ v st') (left_runs program (returned v callers st'.area st'.input))
+  Arrives (Releasing pointer n) k t u is d κ = Opens program size first pointer n × ((v : ℕ) (w : Tree) (js : List Item) (st' : State) (d' : Desk) → v < 2 ^ 32 → SmallTree w →
+      ((area : List ℕ) → value program w (record d' { area = area }) ≡ Number v)
       → Agree (extent_of program) size first no_local (length callers) st' d' → Leads k (κ v st') (here (AssignMem ints.Int (Gaddr pointer) (Loc n) ∷ Ret w ∷ js) d'))
 
   pub record Delivers (to : Destination) (p : Emitted) (t : ℕ) (m : Rest → State → Runs) : Type 0 where
@@ -150,7 +154,8 @@ module _ (program : TreeProgram) (code : List TreeItem) (callers : List Activati
   module _ (within : (x : ℕ) → scope x → x < size) (own : size ≤ first) where
     -- a value's tree that has no items
     pub due_does : (w : Tree) (t l : ℕ) (m : Rest → State → Runs) → Below t w → SmallTree w
-        → ((k : ℕ) (is : List Item) (κ : Rest) (st : State) (d : Desk) → Agrees st d → Leads k (on (value program w d) (λ v. κ v st)) (here is d) → Leads k (m κ st) (here is d)) → Does (due w t l) t m
+        → ((k : ℕ) (is : List Item) (κ : Rest) (st : State) (d : Desk) → Agrees st d → Leads k (on (value program w d) (λ v. κ v st)) (here is d) → Leads k (m κ st) (here is d))
+        → Does (due w t l) t m
     due_does w t l m below small same = record { grows = omega arith; below = below; small = small; runs = λ k le is κ res st d ag h. same k is κ st d ag (h st d ag (since_start size t t [] st d)) }
 
     -- two parts, the first of which is saved
@@ -327,7 +332,8 @@ module _ (program : TreeProgram) (code : List TreeItem) (callers : List Activati
     }
 
     -- a block is given back before a value that traps, which changes nothing
-    trapped_behind : (pointer n k : ℕ) (w : Tree) (is : List Item) (st : State) (d : Desk) → Opens program size first pointer n → SmallTree w → ((area : List ℕ) → value program w (record d { area = area }) ≡ ZeroDivisor)
+    trapped_behind : (pointer n k : ℕ) (w : Tree) (is : List Item) (st : State) (d : Desk) → Opens program size first pointer n → SmallTree w
+        → ((area : List ℕ) → value program w (record d { area = area }) ≡ ZeroDivisor)
         → Agrees st d → Leads k (stop ends.Trapped) (here (AssignMem ints.Int (Gaddr pointer) (Loc n) ∷ Ret w ∷ is) d)
     trapped_behind pointer n k w is st d opens small traps ag =
         let block = ag.pointer opens.blocked in

@@ -148,7 +148,8 @@ module _ (program : TreeProgram) (code : List TreeItem) (callers : List Activati
       let room : ℕ = sub32 (add32 ar 262144) q in
       let run : Runs = from (Cbr relations.Geu l w (Num n) ∷ ks) d in
       let goal : Runs = or_trap (beginning ar n q) (λ b. taking a n b κ) st in
-      let room_value : value program w d ≡ Number room = ap (λ o. bind (bind o (λ y. or_zero (apply ariths.Add y 262144))) (λ y. bind (there (d.locals size)) (λ z. or_zero (apply ariths.Subtract y z)))) at_ar
+      let room_value : value program w d ≡ Number room = ap (λ o. bind (bind o (λ y. or_zero (apply ariths.Add y 262144))) (λ y. bind (there (d.locals size))
+      (λ z. or_zero (apply ariths.Subtract y z)))) at_ar
       ∙ ap (λ m. bind (bind (Number ar) (λ y. or_zero (apply ariths.Add y 262144))) (λ y. bind (there m) (λ z. or_zero (apply ariths.Subtract y z)))) at_q ∙ room_is ar q in
       let whole = cbr_step program code callers k l relations.Geu w (Num n) ks (λ x y. goal) d ((tt, omega arith), tt) small ag.ranged
       (λ x y ex ey taken.
@@ -165,13 +166,15 @@ module _ (program : TreeProgram) (code : List TreeItem) (callers : List Activati
       let full : nat_le n room ≡ false = subst (λ z. nat_le z room ≡ false) (sym equal) (subst (λ z. nat_le y z ≡ false) (sym same) falls) in
       let traps = assign_loc_step program code callers k size (Bin ariths.Divide (Num 0) (Num 0)) (Label l ∷ js) (λ v. stop ends.Trapped) d (omega arith, omega arith) ag.ranged
       (λ v e. absurd (let z : ZeroDivisor ≡ Number v = sym divided ∙ e in cc)) in
-      leads_quiet k _ _ (subst (λ o. Leads k (or_trap o (λ b. taking a n b κ) st) (from ks d)) (sym (no_begin ar n q full)) (subst (λ o. Leads k (on o (λ v. stop ends.Trapped)) (from ks d)) divided traps))) in
+      leads_quiet k _ _ (subst (λ o. Leads k (or_trap o (λ b. taking a n b κ) st) (from ks d)) (sym (no_begin ar n q full)) (subst
+      (λ o. Leads k (on o (λ v. stop ends.Trapped)) (from ks d)) divided traps))) in
       subst (λ o. Leads k (on o (λ x. on (value program (Num n) d) (λ y. goal))) run) room_value whole
 
   second : (o : Option ℕ) → address p.objects (suc pointer) ≡ o → (a n l q k : ℕ) (is : List Item) (κ : State → Runs) (st : State) (d : Desk) → n < 2 ^ 32 → value program (Gaddr pointer) d ≡ Number a
       → before st d → d.locals size ≡ Some q → behind code l ≡ spelled_all (AssignMem ints.Int (Gaddr pointer) (Bin ariths.Add (Loc size) (Num n)) ∷ is)
       → ((st' : State) (d' : Desk) → inside st' d' → Leads k (κ st') (from is d'))
-      → Leads k (or_wild o (λ area. or_trap (beginning area n q) (λ b. taking a n b κ)) st) (from (Cbr relations.Geu l (Bin ariths.Subtract (Bin ariths.Add (Gaddr (suc pointer)) (Num 262144)) (Loc size))
+      → Leads k (or_wild o (λ area. or_trap (beginning area n q) (λ b. taking a n b κ)) st)
+      (from (Cbr relations.Geu l (Bin ariths.Subtract (Bin ariths.Add (Gaddr (suc pointer)) (Num 262144)) (Loc size))
       (Num n) ∷ AssignLoc size (Bin ariths.Divide (Num 0) (Num 0)) ∷ Label l ∷ AssignMem ints.Int (Gaddr pointer) (Bin ariths.Add (Loc size) (Num n)) ∷ is) d)
   second None e a n l q k is κ st d small at_a ag at_q there_is h = lost program code callers k _ d
   second (Some ar) e a n l q k is κ st d small at_a ag at_q there_is h = tested a n l q ar k is κ st d small at_a (object_value (suc pointer) d ∙ ap there e) ag at_q there_is h
@@ -204,7 +207,8 @@ module _ (program : TreeProgram) (code : List TreeItem) (callers : List Activati
       let lies : Lies a = λ area long. subst (λ z. (nat_le 65536 a && nat_le (a + bytes_of sizes.Long) (65536 + z)) ≡ true) (ag.whole.long ∙ sym long) inside_a in
       subst (λ z. Leads k (or_wild (address p.objects z) (λ area. or_trap (beginning area (suc n) q) (λ b. taking a (suc n) b κ)) st) (from js d1)) (sym behind_area)
       (second (address p.objects (suc pointer)) refl a (suc n) l q k is κ st d1 small (object_value pointer d1 ∙ ap there e) ag1 (set_same d.locals size q) res.1.1.1.0 (h a refl lies))) in
-      subst (λ o. Leads k (on o (λ x. read_at int (Memory x) next st)) run) at_a (read_mem program code callers size count size no_local level int (Gaddr pointer) k (AssignLoc size w ∷ js) next st d ag loads)
+      subst (λ o. Leads k (on o (λ x. read_at int (Memory x) next st)) run) at_a (read_mem program code callers size count size no_local level int (Gaddr pointer) k
+      (AssignLoc size w ∷ js) next st d ag loads)
 
   -- the way in of a function that has a block
   pub claim_does : (n l k : ℕ) (is : List Item) (κ : State → Runs) (st : State) (d : Desk) → suc n < 2 ^ 32 → Resolves code ((claiming size (suc size) pointer (suc n) l).items ++ is)

@@ -100,7 +100,8 @@ mul_one y s e h = let one : mul32 y 1 ≡ y = omega arith in sym (ap (mul32 y) e
 div_one : (x s : ℕ) → s ≡ 1 → x < 2 ^ 32 → div32 x s ≡ Some x
 div_one x s e h = ap (div32 x) e ∙ grind (arith, nat_tests)
 
-module _ (program : TreeProgram) (code : List TreeItem) (callers : List Activation) (size count first : ℕ) (scope : ℕ → Type 0) (level : ℕ) (within : (x : ℕ) → scope x → x < size) (own : size ≤ first) where
+module _ (program : TreeProgram) (code : List TreeItem) (callers : List Activation) (size count first : ℕ) (scope : ℕ → Type 0) (level : ℕ) (within : (x : ℕ) → scope x → x < size)
+    (own : size ≤ first) where
   abbrev MakesOf : (Tree → Tree → Tree) → (ℕ → ℕ → Rest → State → Runs) → Type 0
   MakesOf f g = Makes program code callers size count first scope level within own f g
 
@@ -262,7 +263,8 @@ located_at : (o : Option ℕ) (f : Spot → State → Runs) (st : State) → at_
 located_at None f st = refl
 located_at (Some a) f st = refl
 
-module _ (program : TreeProgram) (code : List TreeItem) (callers : List Activation) (size count first : ℕ) (scope : ℕ → Type 0) (level : ℕ) (within : (x : ℕ) → scope x → x < size) (own : size ≤ first) (p : AProgram)
+module _ (program : TreeProgram) (code : List TreeItem) (callers : List Activation) (size count first : ℕ) (scope : ℕ → Type 0) (level : ℕ) (within : (x : ℕ) → scope x → x < size)
+    (own : size ≤ first) (p : AProgram)
     (next : Next) (counts_all : length program.functions ≡ count)
     (lowers : (f : ℕ) (g : ARoutine) → slice_get p.routines f ≡ Some g → (tf : TreeFn) × (slice_get program.functions f ≡ Some tf) × CodeOf (pointer_number p.objects) count g tf.items)
     (calls : Calls program count p next level) (objects_are : program.objects ≡ p.objects) (addresses : (n : ℕ) (o : Object) → slice_get p.objects n ≡ Some o → o.address < 2 ^ 32)
@@ -381,7 +383,8 @@ module _ (program : TreeProgram) (code : List TreeItem) (callers : List Activati
 
       low_of : (moment : Moment) (t l : ℕ) → first ≤ t → LowOf (step_low size count moment by (seek size count a t l)) t (λ κ. m (λ ty s. step_at moment by ty s κ))
       low_of moments.Before t l sz = let f = does t l sz in let q = seek size count a t l in
-          post_does program code callers size count first scope level within own q t (step_tree size count by q.type) (stepped by) m sz (step_maps program code callers size count first scope level within own by q.type) f
+          post_does program code callers size count first scope level within own q t (step_tree size count by q.type) (stepped by) m sz
+          (step_maps program code callers size count first scope level within own by q.type) f
       low_of moments.After t l sz = let q = seek size count a t l in
           let r = step_ready_does by q t m sz (does t l sz) in
           let low = store_low_does program code callers size count first scope level within own (step_ready size count by q) t
@@ -447,7 +450,8 @@ module _ (program : TreeProgram) (code : List TreeItem) (callers : List Activati
   conv_does : (i : Integer) (ty : CType) (e : Lowering) (m : Rest → State → Runs) → integer_of ty ≡ i → WayOf e m → (t l : ℕ) → first ≤ t
       → LowOf (over (conv i) (e.low t l)) t (λ κ. m (λ v. κ (converted ty v)))
   conv_does i ty e m is does t l sz = subst (λ i. LowOf (over (conv i) (e.low t l)) t (λ κ. m (λ v. κ (converted ty v)))) is
-      (over_does program code callers size count first scope level within own (fitted ty) (converted ty) (e.low t l) t m (fitted_maps program code callers size count first scope level within own ty) (does.low t l sz))
+      (over_does program code callers size count first scope level within own (fitted ty) (converted ty) (e.low t l) t m
+      (fitted_maps program code callers size count first scope level within own ty) (does.low t l sz))
 
   deliver_as_does : (i : Integer) (ty : CType) (e : Lowering) (m : Rest → State → Runs) → integer_of ty ≡ i → WayOf e m → (to : Destination) (t l : ℕ) → first ≤ t
       → Delivers program code callers size count first scope level to (deliver_as i e to t l) t (λ κ. m (λ v. κ (converted ty v)))
@@ -474,7 +478,8 @@ module _ (program : TreeProgram) (code : List TreeItem) (callers : List Activati
   update_way : (f : CType → Tree → Tree → Tree) (g : CType → ℕ → ℕ → Rest → State → Runs) (a : APlace) (e : AnExpression) (m : RestAt → State → Runs) (n : Rest → State → Runs)
       → ((ty : CType) → MakesOf program code callers size count first scope level within own (f ty) (g ty)) → ((t l : ℕ) → first ≤ t → PlaceOf (seek size count a t l) t m)
       → WayOf (way size count e) n → WayOf (update_by size count f (seek size count a) (way size count e)) (λ κ. m (λ ty s. read_at ty s (λ x. n (λ y. g ty x y (λ v. store_at ty s v κ)))))
-  update_way f g a e m n made does does' = effective_does program code callers size count first scope level within own _ _ (λ κ. m (λ ty s. read_at ty s (λ x. n (λ y. g ty x y (λ v. store_at ty s v κ)))))
+  update_way f g a e m n made does does' =
+      effective_does program code callers size count first scope level within own _ _ (λ κ. m (λ ty s. read_at ty s (λ x. n (λ y. g ty x y (λ v. store_at ty s v κ)))))
       (λ t l sz.
       let q = seek size count a t l in
       let h = does t l sz in
@@ -514,8 +519,10 @@ module _ (program : TreeProgram) (code : List TreeItem) (callers : List Activati
 
     pub way_does : (e : AnExpression) → Fits scope e → Stands there takes literals e → WayOf (way size count e) (expr p next e)
     way_does (Constant n) fit std = valued_does program code callers size count first scope level within own (due (Num n)) (λ κ. κ n) (λ t l sz. number_does n fit t l)
-    way_does (LiteralAt n bytes) fit std = valued_does program code callers size count first scope level within own (due (Gaddr n)) (λ κ. or_wild (address p.objects n) κ) (λ t l sz. literal_does n t l)
-    way_does (ArrayAt ty v bytes) fit std = valued_does program code callers size count first scope level within own (due (address_tree (where_of size v))) (array_address p v) (λ t l sz. array_does v t l std sz)
+    way_does (LiteralAt n bytes) fit std =
+        valued_does program code callers size count first scope level within own (due (Gaddr n)) (λ κ. or_wild (address p.objects n) κ) (λ t l sz. literal_does n t l)
+    way_does (ArrayAt ty v bytes) fit std =
+        valued_does program code callers size count first scope level within own (due (address_tree (where_of size v))) (array_address p v) (λ t l sz. array_does v t l std sz)
     way_does (ReadOf a) fit std = as_place a (way size count (ReadOf a)) (λ κ ty s. read_at ty s κ) std (read_blind p next)
         (valued_does program code callers size count first scope level within own (λ t l. read_low (seek size count a t l)) (λ κ. place_as p next a (λ ty s. read_at ty s κ))
         (λ t l sz. read_does program code callers size count first scope level within own (seek size count a t l) t (place_as p next a) sz (seek_does a fit std t l sz)))
@@ -534,13 +541,15 @@ module _ (program : TreeProgram) (code : List TreeItem) (callers : List Activati
         (expr p next a) (expr p next b) (bin_makes program code callers size count first scope level within own op) (way_does a fit.0 std.0) (way_does b fit.1 std.1)
     way_does (CompareOf r a b) fit std = relation_does program code callers size count first scope level within own r (way size count a) (way size count b) (expr p next a) (expr p next b)
         (way_does a fit.0 std.0) (way_does b fit.1 std.1)
-    way_does (BothOf a b) fit std = chain_does program code callers size count first scope level within own false (way size count a) (way size count b) (expr p next a) (expr p next b) (way_does a fit.0 std.0)
+    way_does (BothOf a b) fit std =
+        chain_does program code callers size count first scope level within own false (way size count a) (way size count b) (expr p next a) (expr p next b) (way_does a fit.0 std.0)
         (way_does b fit.1 std.1)
     way_does (EitherOf a b) fit std = chain_does program code callers size count first scope level within own true (way size count a) (way size count b) (expr p next a) (expr p next b)
         (way_does a fit.0 std.0) (way_does b fit.1 std.1)
     way_does (AdvanceOf ty a b) fit std = binary_does program code callers size count first scope level within own (advance ty) (λ x y κ. κ (advanced ty x y)) (way size count a) (way size count b)
         (expr p next a) (expr p next b) (advance_makes program code callers size count first scope level within own ty) (way_does a fit.0 std.0) (way_does b fit.1 std.1)
-    way_does (AdvanceByOf ty a b) fit std = binary_does program code callers size count first scope level within own (advance_by ty) (λ i x κ. κ (advanced ty x i)) (way size count a) (way size count b)
+    way_does (AdvanceByOf ty a b) fit std =
+        binary_does program code callers size count first scope level within own (advance_by ty) (λ i x κ. κ (advanced ty x i)) (way size count a) (way size count b)
         (expr p next a) (expr p next b) (advance_by_makes program code callers size count first scope level within own ty) (way_does a fit.0 std.0) (way_does b fit.1 std.1)
     way_does (RetreatOf ty a b) fit std = binary_does program code callers size count first scope level within own (retreat ty) (λ x y κ. κ (retreated ty x y)) (way size count a) (way size count b)
         (expr p next a) (expr p next b) (retreat_makes program code callers size count first scope level within own ty) (way_does a fit.0 std.0) (way_does b fit.1 std.1)
@@ -550,7 +559,8 @@ module _ (program : TreeProgram) (code : List TreeItem) (callers : List Activati
         (expr p next a) (expr p next b) (way_does c fit.0 std.0) (way_does a fit.1 std.1) (way_does b fit.2 std.2)
     way_does (AssignTo a e) fit std = as_place a (way size count (AssignTo a e)) (λ κ ty s. expr p next e (λ v. store_at ty s v κ)) std.0 (assign_blind p next e)
         (assign_way a e (place_as p next a) (expr p next e) (λ t l sz. seek_does a fit.0 std.0 t l sz) (way_does e fit.1 std.1))
-    way_does (ArithmeticAssignTo op a e) fit std = as_place a (way size count (ArithmeticAssignTo op a e)) (λ κ ty s. read_at ty s (λ x. expr p next e (λ y. or_trap (apply op x y) (λ v. store_at ty s v κ)))) std.0
+    way_does (ArithmeticAssignTo op a e) fit std =
+        as_place a (way size count (ArithmeticAssignTo op a e)) (λ κ ty s. read_at ty s (λ x. expr p next e (λ y. or_trap (apply op x y) (λ v. store_at ty s v κ)))) std.0
         (update_blind p next (λ ty x y. or_trap (apply op x y)) (λ ty x y κ μ st h. trap_same (apply op x y) κ μ st h) e)
         (update_way (λ ty. Bin op) (λ ty x y. or_trap (apply op x y)) a e (place_as p next a) (expr p next e)
         (λ ty. bin_makes program code callers size count first scope level within own op) (λ t l sz. seek_does a fit.0 std.0 t l sz) (way_does e fit.1 std.1))
@@ -562,7 +572,8 @@ module _ (program : TreeProgram) (code : List TreeItem) (callers : List Activati
         (update_blind p next (λ ty x y κ. κ (retreated ty x y)) (λ ty x y κ μ st h. h (retreated ty x y)) e)
         (update_way retreat (λ ty x y κ. κ (retreated ty x y)) a e (place_as p next a) (expr p next e)
         (λ ty. retreat_makes program code callers size count first scope level within own ty) (λ t l sz. seek_does a fit.0 std.0 t l sz) (way_does e fit.1 std.1))
-    way_does (CommaOf ty a b) fit std = comma_does program code callers size count first scope level within own (way size count a) (way size count b) (expr p next a) (expr p next b) (way_does a fit.0 std.0)
+    way_does (CommaOf ty a b) fit std =
+        comma_does program code callers size count first scope level within own (way size count a) (way size count b) (expr p next a) (expr p next b) (way_does a fit.0 std.0)
         (way_does b fit.1 std.1)
 
     pub all_do : (es : SomeExpressions) (to : List CType) → FitsAll scope es to → StandAll there takes literals es → (t l : ℕ) → first ≤ t

@@ -67,7 +67,8 @@ put_first t z zero None κ = refl
 put_first t z (suc c) None κ = refl
 put_first t z c (Some st) κ = refl
 
-module _ (program : TreeProgram) (code : List TreeItem) (callers : List Activation) (size count first : ℕ) (scope : ℕ → Type 0) (level : ℕ) (within : (x : ℕ) → scope x → x < size) (own : size ≤ first) where
+module _ (program : TreeProgram) (code : List TreeItem) (callers : List Activation) (size count first : ℕ) (scope : ℕ → Type 0) (level : ℕ) (within : (x : ℕ) → scope x → x < size)
+    (own : size ≤ first) where
   abbrev fine : State → Desk → Type 0
   fine st d = Agrees program code callers size count first scope level st d
 
@@ -76,7 +77,8 @@ module _ (program : TreeProgram) (code : List TreeItem) (callers : List Activati
 
   -- a value is stored at an offset
   pub stored_does : (t : CType) (o : ℕ) (w : Tree) (k : ℕ) (is : List Item) (κ : State → Runs) (st : State) (d : Desk) → size < first → o < 2 ^ 32 → SmallTree w → fine st d
-      → ((st' : State) (d' : Desk) → fine st' d' → Leads k (κ st') (from is d')) → Leads k (on (value program w d) (λ v. block_set t o v κ st)) (from (AssignMem (integer_of t) (in_block size o) w ∷ is) d)
+      → ((st' : State) (d' : Desk) → fine st' d' → Leads k (κ st') (from is d'))
+      → Leads k (on (value program w d) (λ v. block_set t o v κ st)) (from (AssignMem (integer_of t) (in_block size o) w ∷ is) d)
   stored_does t o w k is κ st d blocked lt small ag h =
       let block = ag.pointer blocked in
       let b : ℕ = block.0 in
@@ -103,7 +105,8 @@ module _ (program : TreeProgram) (code : List TreeItem) (callers : List Activati
       → Leads k (written (put_zeros t x (suc c) (Some st)) 0 (λ v. κ)) (from (turn t l last is) d)
 
   zeros_test : (t : CType) (l last b : ℕ) (is : List Item) (κ : State → Runs) (k : ℕ) → size < first → b < 2 ^ 32 → HasSize t → last < 2 ^ 32 → behind code l ≡ spelled_all (turn t l last is)
-      → ((st' : State) (d' : Desk) → fine st' d' → Leads k (κ st') (from is d')) → (c x : ℕ) → x + suc c * size_of t ≡ last → Again t l last b is κ k (x + size_of t) c → (st : State) (d : Desk) → fine st d
+      → ((st' : State) (d' : Desk) → fine st' d' → Leads k (κ st') (from is d')) → (c x : ℕ) → x + suc c * size_of t ≡ last → Again t l last b is κ k (x + size_of t) c → (st : State) (d : Desk)
+      → fine st d
       → st.call.block ≡ Some b → d.locals size ≡ Some b → d.locals first ≡ Some (add32 (add32 b x) (size_of t))
       → Leads k (written (put_zeros t (x + size_of t) c (Some st)) 0 (λ v. κ)) (from (Cbr relations.Ne l (Loc first) (in_block size last) ∷ is) d)
   zeros_test t l last b is κ k blocked bl sized lt top h zero x left again st d ag is_b at_b at_x =
@@ -134,7 +137,8 @@ module _ (program : TreeProgram) (code : List TreeItem) (callers : List Activati
       subst (λ o. Leads k (on o (λ z. goal)) run) end_value (subst (λ o. Leads k (on o (λ y. on (value program (in_block size last) d) (λ z. goal))) run) (ap there at_x) whole)
 
   zeros_next : (t : CType) (l last b : ℕ) (is : List Item) (κ : State → Runs) (k : ℕ) → size < first → b < 2 ^ 32 → HasSize t → last < 2 ^ 32 → behind code l ≡ spelled_all (turn t l last is)
-      → ((st' : State) (d' : Desk) → fine st' d' → Leads k (κ st') (from is d')) → (c x : ℕ) → x + suc c * size_of t ≡ last → Again t l last b is κ k (x + size_of t) c → (st : State) (d : Desk) → fine st d
+      → ((st' : State) (d' : Desk) → fine st' d' → Leads k (κ st') (from is d')) → (c x : ℕ) → x + suc c * size_of t ≡ last → Again t l last b is κ k (x + size_of t) c → (st : State) (d : Desk)
+      → fine st d
       → st.call.block ≡ Some b → d.locals size ≡ Some b → d.locals first ≡ Some (add32 b x) → Leads k (written (put_zeros t (x + size_of t) c (Some st)) 0 (λ v. κ))
       (from (AssignLoc first (Bin ariths.Add (Loc first) (Num (size_of t))) ∷ Cbr relations.Ne l (Loc first) (in_block size last) ∷ is) d)
   zeros_next t l last b is κ k blocked bl sized lt top h c x left again st d ag is_b at_b at_x =
@@ -153,7 +157,8 @@ module _ (program : TreeProgram) (code : List TreeItem) (callers : List Activati
 
   -- zeros are put one after another, and the address goes on
   zeros_first : (t : CType) (l last b : ℕ) (is : List Item) (κ : State → Runs) (k : ℕ) → size < first → b < 2 ^ 32 → HasSize t → last < 2 ^ 32 → behind code l ≡ spelled_all (turn t l last is)
-      → ((st' : State) (d' : Desk) → fine st' d' → Leads k (κ st') (from is d')) → (c x : ℕ) → x + suc c * size_of t ≡ last → Again t l last b is κ k (x + size_of t) c → (st : State) (d : Desk) → fine st d
+      → ((st' : State) (d' : Desk) → fine st' d' → Leads k (κ st') (from is d')) → (c x : ℕ) → x + suc c * size_of t ≡ last → Again t l last b is κ k (x + size_of t) c → (st : State) (d : Desk)
+      → fine st d
       → st.call.block ≡ Some b → d.locals size ≡ Some b → d.locals first ≡ Some (add32 b x) → Leads k (written (put_zeros t x (suc c) (Some st)) 0 (λ v. κ)) (from (turn t l last is) d)
   zeros_first t l last b is κ k blocked bl sized lt top h c x left again st d ag is_b at_b at_x =
       let s : ℕ = size_of t in
@@ -199,5 +204,6 @@ module _ (program : TreeProgram) (code : List TreeItem) (callers : List Activati
       let same : v ≡ add32 b o = cc in
       let d' : Desk = record d { locals = with_local d.locals first v } in
       label_step program code callers k l (turn t l last is) d' goal
-      (zeros_turn t l last b is κ k blocked bl sized lt res.1.0 h c o refl st d' ag' block.1 (set_other d.locals first v size (λ q. omega arith) ∙ block.2) (set_same d.locals first v ∙ ap Some same))) in
+      (zeros_turn t l last b is κ k blocked bl sized lt res.1.0 h c o refl st d' ag' block.1 (set_other d.locals first v size (λ q. omega arith) ∙ block.2) (set_same d.locals first v
+      ∙ ap Some same))) in
       subst (λ z. Leads k (on z (λ v. goal)) (from (AssignLoc first (in_block size o) ∷ Label l ∷ turn t l last is) d)) first_value whole

@@ -70,7 +70,8 @@ module _ (program : TreeProgram) (count : ℕ) (p : AProgram) (next : Next) (cou
 
   -- the function's statements and what stands behind them
   row_does : (tf : TreeFn) (cs : List Activation) (size first : ℕ) (out : Destination) (own : size ≤ first) (level : ℕ) → Calls program count p next level → (there : Variable → Type 0)
-      → ((o : ℕ) → there (variables.InBlock o) → (size < first) × (o < 262144)) → (body : SomeActions) → FitsActs size no_local false body → StandsActs there (Takes p.routines) (length p.objects) body
+      → ((o : ℕ) → there (variables.InBlock o) → (size < first) × (o < 262144)) → (body : SomeActions) → FitsActs size no_local false body
+      → StandsActs there (Takes p.routines) (length p.objects) body
       → (l k : ℕ) → k ≤ level → (κ : Behind) → ((f : ℕ → Flow) → Answers f → Leaves program tf.items cs size count first level out own out k (λ v. κ (f v)))
       → Resolves tf.items ((lower_row size count first out body 0 0 l).items ++ (end_of_row size first out body l).items)
       → (st : State) (d : Desk) → Agree (extent_of program) size first no_local (length cs) st d
@@ -89,11 +90,13 @@ module _ (program : TreeProgram) (count : ℕ) (p : AProgram) (next : Next) (cou
         continued = λ e st1 d1 ag1. absurd (cc);
         left = leaves Returned (λ v. refl);
       } in
-      rows_do program tf.items cs size count first level out own p next counts_all lowers calls objects_are addresses next_is there (Takes p.routines) (length p.objects) lies body no_local no_local no_local
+      rows_do program tf.items cs size count first level out own p next counts_all lowers calls objects_are addresses next_is there (Takes p.routines)
+      (length p.objects) lies body no_local no_local no_local
       (none_within size) (λ x h. h) (λ x h. h) false fit std 0 0 l k le q.items κ res lands st d ag
 
   -- a caller goes on
-  answered : (cs : List Activation) (k : ℕ) (κ : Behind) → Backed program k κ cs → (f : ℕ → Flow) → Answers f → (v : ℕ) (st : State) → v < 2 ^ 32 → IsArea (extent_of program) st.area → AreBytes st.input
+  answered : (cs : List Activation) (k : ℕ) (κ : Behind) → Backed program k κ cs → (f : ℕ → Flow) → Answers f → (v : ℕ) (st : State) → v < 2 ^ 32 → IsArea (extent_of program) st.area
+      → AreBytes st.input
       → Leads k (κ (f v) st) (runs program (returned v cs st.area st.input))
   answered cs k κ backed f same v st lt area input = subst (λ x. Leads k (κ (f v) st) (runs program (returned x cs st.area st.input))) (same v)
       (backed.goes (f v) st (subst (λ x. x < 2 ^ 32) (sym (same v)) lt) area input)
@@ -140,7 +143,8 @@ module _ (program : TreeProgram) (count : ℕ) (p : AProgram) (next : Next) (cou
       (begins g vs lts cs st active area input)
       (λ a e lies st1 d1 ag1.
       subst (λ r. Leads k r (at program tf.items cs (row.items ++ q.items) d1)) (sym (next_is (Body g.body) κ' st1))
-      (row_does tf cs size (suc size) (Releasing pointer size) (omega arith) level calls (IsThere (length p.objects) (length g.parameters) (suc n)) (λ o lt. (omega arith, omega arith)) g.body fit std (suc label)
+      (row_does tf cs size (suc size) (Releasing pointer size) (omega arith) level calls (IsThere (length p.objects) (length g.parameters) (suc n)) (λ o lt.
+      (omega arith, omega arith)) g.body fit std (suc label)
       k le κ'
       (λ f same t u is d2. (
         record {

@@ -551,7 +551,8 @@ once_items size count pointer body l (suc n) =
     let row = Statements.lower_row size count (suc size) out body 0 0 (suc l) in
     once_append l (suc l) _ (Flow.claimed size (suc size) pointer (suc n) l).items _
     (once_count l (suc l) [] (Flow.claimed size (suc size) pointer (suc n) l).items (once_nil (suc l)) (λ m. omega arith))
-    (once_append (suc l) row.labels _ row.items _ (once_row size count (suc size) out body 0 0 (suc l)) (once_delivered out (Parts.due (Num 0) (suc size) row.labels) row.labels (once_nil row.labels)))
+    (once_append (suc l) row.labels _ row.items _ (once_row size count (suc size) out body 0 0 (suc l)) (once_delivered out (Parts.due (Num 0) (suc size) row.labels) row.labels
+    (once_nil row.labels)))
 
 -- each function's code
 pub code_of : (pointer count : ℕ) (g : ARoutine) (l : ℕ) → CodeOf pointer count g (function_of g (body_of pointer count g l)).items

@@ -39,7 +39,8 @@ find_main : (pointer count : ℕ) (gs : List ARoutine) (l n : ℕ) (g : ARoutine
     → find is_main (lower_all pointer count gs l) ≡ slice_get (lower_all pointer count gs l) n
 find_main pointer count [] l n g e main only = absurd (cc)
 find_main pointer count (h ∷ gs) l zero g e main only = let same : h ≡ g = cc in
-    ap (λ b. cond b (Some (function_of h (body_of pointer count h l))) (find is_main (lower_all pointer count gs (body_of pointer count h l).labels))) (subst (λ (x : ARoutine). IsMain x.name) (sym same) main)
+    ap (λ b. cond b (Some (function_of h (body_of pointer count h l))) (find is_main (lower_all pointer count gs (body_of pointer count h l).labels))) (subst (λ (x : ARoutine). IsMain x.name)
+    (sym same) main)
 find_main pointer count (h ∷ gs) l (suc n) g e main only =
     let other : bytes_eq h.name (codes "main") ≡ false = not_main (bytes_eq h.name (codes "main")) refl in
     ap (λ b. cond b (Some (function_of h (body_of pointer count h l))) (find is_main (lower_all pointer count gs (body_of pointer count h l).labels))) other
@@ -49,15 +50,18 @@ find_main pointer count (h ∷ gs) l (suc n) g e main only =
     not_main true eb = absurd (let r = only 0 h refl eb in omega (arith, r))
     not_main false eb = eb
 
-main_leads : (p : AProgram) (input : List ℕ) → IsSound p → AreBytes input → (g : ARoutine) → slice_get p.routines p.main ≡ Some g → (tf : TreeFn) → CodeOf (pointer_number p.objects) (length p.routines) g tf.items
+main_leads : (p : AProgram) (input : List ℕ) → IsSound p → AreBytes input → (g : ARoutine) → slice_get p.routines p.main ≡ Some g → (tf : TreeFn)
+    → CodeOf (pointer_number p.objects) (length p.routines) g tf.items
     → (k : ℕ) → Leads k (main_of (Some g) p input) (runs (lowered p) (main_at (lowered p) (Some tf) input))
 main_leads p input sound bytes g at_main tf own k =
     let backed : Backed (lowered p) k finished [] = record { goes = λ w st lt area i. leads_ended k _ } in
-    let calls = calls_at (lowered p) (length p.routines) p (means p) (all_lowered (pointer_number p.objects) (length p.routines) p.routines 0) (λ f h e. all_code (pointer_number p.objects) (length p.routines) p.routines 0 f h e) refl
+    let calls = calls_at (lowered p) (length p.routines) p (means p) (all_lowered (pointer_number p.objects) (length p.routines) p.routines 0) (λ f h e. all_code (pointer_number p.objects)
+    (length p.routines) p.routines 0 f h e) refl
     sound.addresses (λ t κ st. means_is p t κ st) sound.fits sound.stands sound.blocks (suc k) in
     calls.runs_body k (omega arith) p.main g at_main tf own [] tt finished [] backed (at_first p input) refl (record { bytes = opening_bytes 65536 p.objects sound.contents; long = refl }) bytes
 
-main_follows : (p : AProgram) (input : List ℕ) → IsSound p → AreBytes input → (g : ARoutine) → slice_get p.routines p.main ≡ Some g → (tf : TreeFn) → CodeOf (pointer_number p.objects) (length p.routines) g tf.items
+main_follows : (p : AProgram) (input : List ℕ) → IsSound p → AreBytes input → (g : ARoutine) → slice_get p.routines p.main ≡ Some g → (tf : TreeFn)
+    → CodeOf (pointer_number p.objects) (length p.routines) g tf.items
     → main_of_trees (lowered p).functions ≡ Some tf → Follows (main_of (Some g) p input) (tree_run (lowered p) input)
 main_follows p input sound bytes g at_main tf own found =
     let to_tree : (k : ℕ) → Leads k (main_of (Some g) p input) (tree_run (lowered p) input) = λ k.

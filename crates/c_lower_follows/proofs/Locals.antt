@@ -79,7 +79,8 @@ module _ (program : TreeProgram) (code : List TreeItem) (callers : List Activati
   })
 
   -- a tree's value is assigned to a local that is declared
-  pub set_local : (n k : ℕ) (w : Tree) (scope after : ℕ → Type 0) (is : List Item) (κ : State → Runs) (st : State) (d : Desk) → SmallTree w → ((x : ℕ) → after x → (x ≡ n → ⊥) → scope x) → fair scope st d
+  pub set_local : (n k : ℕ) (w : Tree) (scope after : ℕ → Type 0) (is : List Item) (κ : State → Runs) (st : State) (d : Desk) → SmallTree w → ((x : ℕ) → after x → (x ≡ n → ⊥) → scope x)
+      → fair scope st d
       → ((st' : State) (d' : Desk) → fair after st' d' → Leads k (κ st') (from is d'))
       → Leads k (on (value program w d) (λ v. written (put_local n v st) v (λ v. κ))) (from (AssignLoc n w ∷ is) d)
   set_local n k w scope after is κ st d small sub ag h =

@@ -127,7 +127,8 @@ module _ (program : TreeProgram) (code : List TreeItem) (callers : List Activati
     pub fits : FitsPlace p.temps p.place
     pub small : SmallPlace p.place
     pub runs : (k : ℕ) → k ≤ level → (is : List Item) (κ : RestAt) → Resolves code (p.items ++ is) → (st : State) (d : Desk) → ok st d
-        → Onto program code callers size count first scope level k t p.temps p.items is st d (λ st' d'. place_on program p.place d' (λ s. κ p.type s st')) → Leads k (m κ st) (run_at (p.items ++ is) d)
+        → Onto program code callers size count first scope level k t p.temps p.items is st d (λ st' d'. place_on program p.place d' (λ s. κ p.type s st'))
+        → Leads k (m κ st) (run_at (p.items ++ is) d)
 
   -- a place and a value for it
   pub record DoesReady (r : Assignable) (t : ℕ) (m : (CType → Spot → Rest) → State → Runs) : Type 0 where
@@ -191,7 +192,8 @@ module _ (program : TreeProgram) (code : List TreeItem) (callers : List Activati
     small_read (InArg n) ty h = tt
     small_read (InMem a) ty h = h
 
-    pub read_does : (p : Located) (t : ℕ) (m : RestAt → State → Runs) → first ≤ t → DoesPlace p t m → Does program code callers size count first scope level (read_low p) t (λ κ. m (λ ty s. read_at ty s κ))
+    pub read_does : (p : Located) (t : ℕ) (m : RestAt → State → Runs) → first ≤ t → DoesPlace p t m
+        → Does program code callers size count first scope level (read_low p) t (λ κ. m (λ ty s. read_at ty s κ))
     read_does p t m sz does = record {
       grows = does.grows;
       below = below_read p.place p.type p.temps (omega (arith, does.grows)) does.fits;

@@ -119,7 +119,8 @@ module _ (program : TreeProgram) (code : List TreeItem) (callers : List Activati
     abbrev StdActs : SomeActions → Type 0
     StdActs row = StandsActs there takes literals row
 
-    expression : (scope : ℕ → Type 0) → ((x : ℕ) → scope x → x < size) → (e : AnExpression) → Fits scope e → Std e → DoesWay program code callers size count first scope level (way size count e) (expr p next e)
+    expression : (scope : ℕ → Type 0) → ((x : ℕ) → scope x → x < size) → (e : AnExpression) → Fits scope e → Std e
+        → DoesWay program code callers size count first scope level (way size count e) (expr p next e)
     expression scope within e fit std = way_does program code callers size count first scope level within own p next counts_all lowers calls objects_are addresses there takes literals lies e fit std
 
     effect_does : (scope : ℕ → Type 0) → ((x : ℕ) → scope x → x < size) → (e : Option AnExpression) → FitsMaybe scope e → StdMaybe e → (l k : ℕ) → k ≤ level → (is : List Item) (κ : State → Runs)
@@ -136,7 +137,8 @@ module _ (program : TreeProgram) (code : List TreeItem) (callers : List Activati
     begin_does true n e scope within lt mentioned fit std l k le is κ res st d ag h =
         let q = (way size count e).deliver (InLocal n) first l in
         let does = (expression (more scope n) (more_within size scope n lt within) e fit std).deliver (InLocal n) first l (omega arith) in
-        set_local program code callers size first own n k (Num 0) scope (more scope n) (q.items ++ is) (expr p next e (λ v. local_set p next n v κ)) st d (omega arith) (λ x sc ne. ⊎_elim (λ s. s) (λ eq. absurd (ne eq)) sc) ag
+        set_local program code callers size first own n k (Num 0) scope (more scope n) (q.items ++ is) (expr p next e (λ v. local_set p next n v κ)) st d (omega arith) (λ x sc ne. ⊎_elim (λ s. s)
+        (λ eq. absurd (ne eq)) sc) ag
         (λ st1 d1 ag1. does.runs k le is (λ v. local_set p next n v κ) res.1 st1 d1 ag1
         (λ v st2 d2 small ag2 kept. local_step program code callers size first own n v k (more scope n) (more scope n) is κ st2 d2 small (λ x sc ne. sc) ag2 (λ ag3. h _ _ ag3)))
     begin_does false n e scope within lt mentioned fit std l k le is κ res st d ag h =
@@ -144,7 +146,8 @@ module _ (program : TreeProgram) (code : List TreeItem) (callers : List Activati
         let does = (expression (without scope n) (λ x sc. within x sc.0) e (fits_without scope n e mentioned fit) std).deliver (InLocal n) first l (omega arith) in
         cleared_by program code callers size first own n k scope (q.items ++ is) (expr p next e (λ v. local_set p next n v κ)) st d (nat_lt n (length st.call.locals)) refl ag
         (λ ag1. does.runs k le is (λ v. local_set p next n v κ) res (with_locals st (slice_set st.call.locals n 0)) d ag1
-        (λ v st2 d2 small ag2 kept. local_step program code callers size first own n v k (without scope n) (more scope n) is κ st2 d2 small (λ x sc ne. ⊎_elim (λ s. (s, ne)) (λ eq. absurd (ne eq)) sc) ag2 (λ ag3. h _ _ ag3)))
+        (λ v st2 d2 small ag2 kept. local_step program code callers size first own n v k (without scope n) (more scope n) is κ st2 d2 small (λ x sc ne. ⊎_elim (λ s. (s, ne))
+        (λ eq. absurd (ne eq)) sc) ag2 (λ ag3. h _ _ ag3)))
 
     clear_does : (b : Bool) (n : ℕ) (live : ℕ → Type 0) (k : ℕ) (is : List Item) (κ : State → Runs) (st : State) (d : Desk) → fair live st d
         → (b ≡ true → (st' : State) (d' : Desk) → fair (more live n) st' d' → Leads k (κ st') (from is d'))
@@ -193,7 +196,8 @@ module _ (program : TreeProgram) (code : List TreeItem) (callers : List Activati
         let behind_it = (resolves_back code q.items (i ∷ (others.items ++ is)) res1).1 in
         joined_at k (q.items ++ (i ∷ [])) others.items is d _ (joined_at k q.items (i ∷ []) (others.items ++ is) d _
         (does.runs k le (i ∷ (others.items ++ is)) (λ v. block_set t o v (declared p next ds κ)) res1 st d ag
-        (λ st1 d1 ag1 s1. stored_does program code callers size count first live level live_within own t o q.tree k (others.items ++ is) (declared p next ds κ) st1 d1 inside.0 (omega (arith, inside.1)) does.small ag1
+        (λ st1 d1 ag1 s1. stored_does program code callers size count first live level live_within own t o q.tree k (others.items ++ is) (declared p next ds κ) st1 d1 inside.0 (omega
+        (arith, inside.1)) does.small ag1
         (λ st2 d2 ag2. declare_does ds rest scope live within fit.2 std.2 (past_store live scope rest t o e ds part) q.labels k le is κ behind_it st2 d2 ag2 h))))
     declare_does (ZerosOf t o n ∷ ds) rest scope live within fit std part l k le is κ res st d ag h =
         let q = zeros_in_block size first t o n l in
@@ -261,7 +265,8 @@ module _ (program : TreeProgram) (code : List TreeItem) (callers : List Activati
         assigned_does t m v live (λ x x_live. within x (part.inside x x_live)) (for_fits live scope rest t m v c e a part fit.1) std.1 l k le is κ res st d ag
         (λ st' d' ag'. h st' d' (agree_less (extent_of program) size first (length callers) scope (more live m) st' d' (for_set live scope rest t m v c e a part) ag'))
     first_part_by v (inr none) c e a rest scope live within fit std part l k le is κ res st d ag h =
-        effect_does scope within (Some v) fit std l k le is κ res st d (agree_less (extent_of program) size first (length callers) scope live st d (for_live live scope rest (Some v) c e a none part) ag) h
+        effect_does scope within (Some v) fit std l k le is κ res st d (agree_less (extent_of program) size first (length callers) scope live st d (for_live live scope rest
+        (Some v) c e a none part) ag) h
 
     first_part_does : (i c e : Option AnExpression) (a : AnAction) (rest : SomeActions) (scope live : ℕ → Type 0) → ((x : ℕ) → scope x → x < size) → FitsMaybe scope i → StdMaybe i
         → Partly live scope [] (MoreActions (ForOf i c e a) rest) → (l k : ℕ) → k ≤ level → (is : List Item) (κ : State → Runs) → Resolves code ((effect size count first out i l).items ++ is)
@@ -279,7 +284,8 @@ module _ (program : TreeProgram) (code : List TreeItem) (callers : List Activati
     return_does : (e : Option AnExpression) (scope outer : ℕ → Type 0) → ((x : ℕ) → scope x → x < size) → FitsMaybe scope e → StdMaybe e → (inside : Bool) (lb lc l : ℕ)
         → DoesStmt (returning size count first out e l) lb lc inside outer scope scope (returned_source p next e)
     return_does None scope outer within fit std inside lb lc l k le is κ res h st d ag =
-        (delivered_does program code callers size count first scope level within own out (due (Num 0) first l) first (λ κ. κ 0) (omega arith) (zero_does scope within l)).runs k le is (λ v. κ (Returned v))
+        (delivered_does program code callers size count first scope level within own out (due (Num 0) first l) first (λ κ. κ 0) (omega arith) (zero_does scope within l)).runs k le is (λ v. κ
+        (Returned v))
         res st d ag (arrive out scope k first (delivered out (due (Num 0) first l)).temps is d (λ v. κ (Returned v)) h.left)
     return_does (Some e) scope outer within fit std inside lb lc l k le is κ res h st d ag =
         ((expression scope within e fit std).deliver out first l (omega arith)).runs k le is (λ v. κ (Returned v)) res st d ag
@@ -313,10 +319,12 @@ module _ (program : TreeProgram) (code : List TreeItem) (callers : List Activati
           → Leads k (stmt p next a κ st) (at_items program code callers (behind code to) d)
       goes_there BreakOf lb lc to scope outer sub inside fit std e k is κ h st d ag =
           let same : lb ≡ to = cc in
-          subst (λ x. Leads k (κ Broke st) (at_items program code callers (behind code x) d)) same (h.broke fit st d (agree_less (extent_of program) size first (length callers) outer scope st d sub ag))
+          subst (λ x. Leads k (κ Broke st) (at_items program code callers (behind code x) d)) same (h.broke fit st d
+          (agree_less (extent_of program) size first (length callers) outer scope st d sub ag))
       goes_there ContinueOf lb lc to scope outer sub inside fit std e k is κ h st d ag =
           let same : lc ≡ to = cc in
-          subst (λ x. Leads k (κ Continued st) (at_items program code callers (behind code x) d)) same (h.continued fit st d (agree_less (extent_of program) size first (length callers) outer scope st d sub ag))
+          subst (λ x. Leads k (κ Continued st) (at_items program code callers (behind code x) d)) same (h.continued fit st d
+          (agree_less (extent_of program) size first (length callers) outer scope st d sub ag))
       goes_there (DeclareOf ds) lb lc to scope outer sub inside fit std e k is κ h st d ag = absurd (cc)
       goes_there (BlockOf row) lb lc to scope outer sub inside fit std e k is κ h st d ag = alone_there row lb lc to scope outer sub inside fit std e k is κ h st d ag
       goes_there (EvaluateOf x) lb lc to scope outer sub inside fit std e k is κ h st d ag = absurd (cc)
@@ -385,7 +393,8 @@ module _ (program : TreeProgram) (code : List TreeItem) (callers : List Activati
         (λ st1 d1 ag1 s1. leads_quiet k _ _ (joined_at k a.items T2 is d1 _ (does k le (T2 ++ is) κ res1
         (record {
           onward = λ st2 d2 ag2. jump_step program code callers k (suc l) (Label l ∷ ((b.items ++ T3) ++ is)) _ d2
-              (moves program code callers k (behind code (suc l)) (spelled_all is) d2 _ end_at (h.onward st2 d2 (agree_less (extent_of program) size first (length callers) scope after st2 d2 sub ag2)));
+              (moves program code callers k (behind code (suc l)) (spelled_all is) d2 _ end_at (h.onward st2 d2
+              (agree_less (extent_of program) size first (length callers) scope after st2 d2 sub ag2)));
           broke =
               h.broke;
           continued = h.continued;
@@ -450,7 +459,8 @@ module _ (program : TreeProgram) (code : List TreeItem) (callers : List Activati
     -- and a turn, whose tree is still to be counted
     loop_turn : (c : AnExpression) (a : AnAction) (to l : ℕ) (b : Emitted) (scope after : ℕ → Type 0) → ((x : ℕ) → scope x → x < size) → Fits scope c → Std c → ((x : ℕ) → scope x → after x)
         → DoesStmt b (suc (suc l)) (suc l) true scope scope after (stmt p next a) → (inside : Bool) (lb lc : ℕ) (outer : ℕ → Type 0) (is : List Item)
-        → Resolves code ((loop_done to l b (when size count first out c l b.labels)).items ++ is) → (k : ℕ) → k ≤ level → (κ : Behind) → Lands k lb lc inside outer scope is κ → (st : State) (d : Desk)
+        → Resolves code ((loop_done to l b (when size count first out c l b.labels)).items ++ is) → (k : ℕ) → k ≤ level → (κ : Behind) → Lands k lb lc inside outer scope is κ
+        → (st : State) (d : Desk)
         → fair scope st d → Leads k (turn_by p next (plain_loop c a) (stmt p next a) κ st) (counted (at_items program code callers (behind code l) d))
     loop_turn c a to l b scope after within fit std sub body inside lb lc outer is res zero le κ h st d ag = leads_none _ _
     loop_turn c a to l b scope after within fit std sub body inside lb lc outer is res (suc k) le κ h st d ag =
@@ -472,7 +482,8 @@ module _ (program : TreeProgram) (code : List TreeItem) (callers : List Activati
         leads_counted k _ _ (moves program code callers k (behind code l) (spelled_all (T1 ++ is)) d _ top_at
         (joined_at k b.items T2 is d _ (body k (omega arith) (T2 ++ is) (turned p next κ (next (Look (plain_loop c a)) κ)) res1
         (record {
-          onward = λ st2 d2 ag2. label_step program code callers k (suc l) ((q.items ++ T3) ++ is) d2 _ (test_it st2 d2 (agree_less (extent_of program) size first (length callers) scope after st2 d2 sub ag2));
+          onward = λ st2 d2 ag2. label_step program code callers k (suc l) ((q.items ++ T3) ++ is) d2 _ (test_it st2 d2
+              (agree_less (extent_of program) size first (length callers) scope after st2 d2 sub ag2));
           broke = λ e st2 d2 ag2. moves program code callers k (behind code (suc (suc l))) (spelled_all is) d2 _ end_at (low_h.onward st2 d2 ag2);
           continued = λ e st2 d2 ag2. moves program code callers k (behind code (suc l)) (spelled_all ((q.items ++ T3) ++ is)) d2 _ test_at (test_it st2 d2 ag2);
           left = low_h.left;
@@ -506,7 +517,8 @@ module _ (program : TreeProgram) (code : List TreeItem) (callers : List Activati
         let q = unless size count first out c (suc l) (suc (suc l)) in
         while_does c a l (lower size count first out a NoActions (suc l) l q.labels) scope after outer within fit std sub (body (suc l) l q.labels) inside lb lc
     while_by_does None c a l scope after outer within fit std sub body inside lb lc =
-        late_does c a l (lower size count first out a NoActions (suc (suc l)) (suc l) (suc (suc (suc l)))) scope after outer within fit std sub (body (suc (suc l)) (suc l) (suc (suc (suc l)))) inside lb lc
+        late_does c a l (lower size count first out a NoActions (suc (suc l)) (suc l) (suc (suc (suc l)))) scope after outer within fit std sub (body (suc (suc l)) (suc l)
+        (suc (suc (suc l)))) inside lb lc
 
     -- `for` with its test in front, from behind its first label
     for_look : (c : AnExpression) (e : Option AnExpression) (a : AnAction) (l : ℕ) (b : Emitted) (scope after : ℕ → Type 0) → ((x : ℕ) → scope x → x < size) → Fits scope c → Std c
@@ -515,7 +527,8 @@ module _ (program : TreeProgram) (code : List TreeItem) (callers : List Activati
         → Resolves code ((for_done l (unless size count first out c (suc (suc l)) (suc (suc (suc l)))) b (effect size count first out e b.labels)).items ++ is) → (k : ℕ) → k ≤ level → (κ : Behind)
         → Lands k lb lc inside outer scope is κ → (st : State) (d : Desk) → fair scope st d
         → Leads k (look_by p next (for_loop (Some c) e a) (stmt p next a) κ st)
-        (from (((unless size count first out c (suc (suc l)) (suc (suc (suc l)))).items ++ (b.items ++ (Label (suc l) ∷ ((effect size count first out e b.labels).items ++ (Jump l ∷ Label (suc (suc l)) ∷ []))))) ++ is) d)
+        (from (((unless size count first out c (suc (suc l)) (suc (suc (suc l)))).items ++ (b.items ++
+        (Label (suc l) ∷ ((effect size count first out e b.labels).items ++ (Jump l ∷ Label (suc (suc l)) ∷ []))))) ++ is) d)
     for_look c e a l b scope after within fit std fit' std' sub body inside lb lc outer is res zero le κ h st d ag = leads_none _ _
     for_look c e a l b scope after within fit std fit' std' sub body inside lb lc outer is res (suc k) le κ h st d ag =
         let lp : ALoop = for_loop (Some c) e a in
@@ -544,7 +557,8 @@ module _ (program : TreeProgram) (code : List TreeItem) (callers : List Activati
         (λ st1 d1 ag1 s1. leads_quiet (suc k) _ _ (moves program code callers (suc k) (behind code (suc (suc l))) (spelled_all is) d1 _ end_at (h.onward st1 d1 ag1)))
         (λ st1 d1 ag1 s1. leads_counted k _ _ (joined_at k b.items T2 is d1 _ (body k (omega arith) (T2 ++ is) (turned p next κ (dropped p next e (next (Look lp) κ))) res1
         (record {
-          onward = λ st2 d2 ag2. label_step program code callers k (suc l) ((s.items ++ T3) ++ is) d2 _ (step_it st2 d2 (agree_less (extent_of program) size first (length callers) scope after st2 d2 sub ag2));
+          onward = λ st2 d2 ag2. label_step program code callers k (suc l) ((s.items ++ T3) ++ is) d2 _ (step_it st2 d2
+              (agree_less (extent_of program) size first (length callers) scope after st2 d2 sub ag2));
           broke = λ e st2 d2 ag2. moves program code callers k (behind code (suc (suc l))) (spelled_all is) d2 _ end_at (low_h.onward st2 d2 ag2);
           continued = λ e st2 d2 ag2. moves program code callers k (behind code (suc l)) (spelled_all ((s.items ++ T3) ++ is)) d2 _ step_at (step_it st2 d2 ag2);
           left = low_h.left;
@@ -578,7 +592,8 @@ module _ (program : TreeProgram) (code : List TreeItem) (callers : List Activati
         leads_counted k _ _ (moves program code callers k (behind code l) (spelled_all (T1 ++ is)) d _ top_at
         (joined_at k b.items T2 is d _ (body k (omega arith) (T2 ++ is) (turned p next κ (dropped p next e (next (Look lp) κ))) res1
         (record {
-          onward = λ st2 d2 ag2. label_step program code callers k (suc l) ((s.items ++ T3) ++ is) d2 _ (step_it st2 d2 (agree_less (extent_of program) size first (length callers) scope after st2 d2 sub ag2));
+          onward = λ st2 d2 ag2. label_step program code callers k (suc l) ((s.items ++ T3) ++ is) d2 _ (step_it st2 d2
+              (agree_less (extent_of program) size first (length callers) scope after st2 d2 sub ag2));
           broke = λ e st2 d2 ag2. moves program code callers k (behind code (suc (suc l))) (spelled_all is) d2 _ end_at (low_h.onward st2 d2 ag2);
           continued = λ e st2 d2 ag2. moves program code callers k (behind code (suc l)) (spelled_all ((s.items ++ T3) ++ is)) d2 _ step_at (step_it st2 d2 ag2);
           left = low_h.left;
@@ -587,7 +602,8 @@ module _ (program : TreeProgram) (code : List TreeItem) (callers : List Activati
     -- `for` with its test behind the step: the test, by the turns behind it
     turns_look : (c : AnExpression) (e : Option AnExpression) (a : AnAction) (l : ℕ) (b : Emitted) (scope : ℕ → Type 0) → ((x : ℕ) → scope x → x < size) → Fits scope c → Std c
         → (inside : Bool) (lb lc : ℕ) (outer : ℕ → Type 0) (is : List Item)
-        → Resolves code ((turns_done l b (effect size count first out e b.labels) (when size count first out c l (effect size count first out e b.labels).labels)).items ++ is) → (k : ℕ) → k ≤ level → (κ : Behind)
+        → Resolves code ((turns_done l b (effect size count first out e b.labels) (when size count first out c l (effect size count first out e b.labels).labels)).items ++ is) → (k : ℕ) → k ≤ level
+        → (κ : Behind)
         → Lands k lb lc inside outer scope is κ
         → ((st : State) (d : Desk) → fair scope st d → Leads k (turn_by p next (for_loop (Some c) e a) (stmt p next a) κ st) (counted (at_items program code callers (behind code l) d)))
         → (st : State) (d : Desk) → fair scope st d → Leads k (look_by p next (for_loop (Some c) e a) (stmt p next a) κ st)
@@ -609,7 +625,8 @@ module _ (program : TreeProgram) (code : List TreeItem) (callers : List Activati
     turns_turn : (c : AnExpression) (e : Option AnExpression) (a : AnAction) (l : ℕ) (b : Emitted) (scope after : ℕ → Type 0) → ((x : ℕ) → scope x → x < size) → Fits scope c → Std c
         → FitsMaybe scope e → StdMaybe e → ((x : ℕ) → scope x → after x) → DoesStmt b (suc (suc l)) (suc l) true scope scope after (stmt p next a)
         → (inside : Bool) (lb lc : ℕ) (outer : ℕ → Type 0) (is : List Item)
-        → Resolves code ((turns_done l b (effect size count first out e b.labels) (when size count first out c l (effect size count first out e b.labels).labels)).items ++ is) → (k : ℕ) → k ≤ level → (κ : Behind)
+        → Resolves code ((turns_done l b (effect size count first out e b.labels) (when size count first out c l (effect size count first out e b.labels).labels)).items ++ is) → (k : ℕ) → k ≤ level
+        → (κ : Behind)
         → Lands k lb lc inside outer scope is κ → (st : State) (d : Desk) → fair scope st d
         → Leads k (turn_by p next (for_loop (Some c) e a) (stmt p next a) κ st) (counted (at_items program code callers (behind code l) d))
     turns_turn c e a l b scope after within fit std fit' std' sub body inside lb lc outer is res zero le κ h st d ag = leads_none _ _
@@ -639,7 +656,8 @@ module _ (program : TreeProgram) (code : List TreeItem) (callers : List Activati
         leads_counted k _ _ (moves program code callers k (behind code l) (spelled_all (T1 ++ is)) d _ top_at
         (joined_at k b.items T2 is d _ (body k (omega arith) (T2 ++ is) (turned p next κ (dropped p next e (next (Look lp) κ))) res1
         (record {
-          onward = λ st2 d2 ag2. label_step program code callers k (suc l) ((s.items ++ T3) ++ is) d2 _ (step_it st2 d2 (agree_less (extent_of program) size first (length callers) scope after st2 d2 sub ag2));
+          onward = λ st2 d2 ag2. label_step program code callers k (suc l) ((s.items ++ T3) ++ is) d2 _ (step_it st2 d2
+              (agree_less (extent_of program) size first (length callers) scope after st2 d2 sub ag2));
           broke = λ e st2 d2 ag2. moves program code callers k (behind code (suc (suc l))) (spelled_all is) d2 _ end_at (low_h.onward st2 d2 ag2);
           continued = λ e st2 d2 ag2. moves program code callers k (behind code (suc l)) (spelled_all ((s.items ++ T3) ++ is)) d2 _ step_at (step_it st2 d2 ag2);
           left = low_h.left;
@@ -650,7 +668,8 @@ module _ (program : TreeProgram) (code : List TreeItem) (callers : List Activati
         → FitsMaybe scope e → StdMaybe e
         → ((x : ℕ) → scope x → after x) → ((m : ℕ) → DoesStmt (lower size count first out a NoActions (suc (suc l)) (suc l) m) (suc (suc l)) (suc l) true scope scope after (stmt p next a))
         → (inside : Bool) (lb lc : ℕ)
-        → DoesStmt (for_tested size count first out o l c e (lower size count first out a NoActions (suc (suc l)) (suc l))) lb lc inside outer scope scope (look_by p next (for_loop (Some c) e a) (stmt p next a))
+        → DoesStmt (for_tested size count first out o l c e (lower size count first out a NoActions (suc (suc l)) (suc l))) lb lc inside outer scope scope
+        (look_by p next (for_loop (Some c) e a) (stmt p next a))
     tested_does (Some v) c e a l scope after outer within fit std fit' std' sub body inside lb lc k le is κ res h st d ag =
         let q = unless size count first out c (suc (suc l)) (suc (suc (suc l))) in
         let b = lower size count first out a NoActions (suc (suc l)) (suc l) q.labels in
