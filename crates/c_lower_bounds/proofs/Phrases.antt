@@ -1,5 +1,5 @@
 -- How many temporaries and forks each expression has, by its nodes.
-use Rattle.std.proofs.Common.{◌≡◌, ℕ, suc, ◌+◌, ◌*◌, ◌≤◌, List, refl, arith}
+use Rattle.std.proofs.Common.{ℕ, suc, ◌+◌, ◌*◌, ◌≤◌, List, refl, arith}
 use Rattle.std.specs.Prelude.{Bool, true, false, not, ◌==◌, if◌then◌else◌, Option, Some, None}
 use Rattle.c_types.specs.declared.types.CType.{CType}
 use Rattle.c_types.specs.declared.typed.Callee.{Callee}
@@ -107,17 +107,17 @@ module _ (size count : ℕ) where
   leaf_bounded w n f one few = valued_bounded (due_within w n f one few)
 
 -- where each name that stands has fewer forks than the bound for one node
-module _ (size count : ℕ) (there : Variable → Type 0) (takes : Callee → ℕ → Type 0) (literals : ℕ) (β : ℕ → ℕ) (b : Widens β)
+module _ (size count : ℕ) (there : Variable → Type 0) (takes : Callee → ℕ → Type 0) (literals : ℕ) (β : ℕ → ℕ) (wider : Widens β)
     (names : (v : Variable) → there v → suc (place_forks (where_of size v)) ≤ β 1) where
   has_one : (n : ℕ) → 1 ≤ n → 1 ≤ β n
-  has_one n le = let h = b.one in let g = b.grows 1 n le in omega (arith, h, g)
+  has_one n le = let h = wider.one in let g = wider.grows 1 n le in omega (arith, h, g)
 
   grown : (n : ℕ) → β n ≤ β (1 + n)
-  grown n = b.grows n (1 + n) (omega arith)
+  grown n = wider.grows n (1 + n) (omega arith)
 
   -- two parts below one operator
   pair_bounded : {e : Lowering} (m n : ℕ) → Bounded (1 + m + n) (1 + β m + β n) e → Bounded (1 + m + n) (β (1 + m + n)) e
-  pair_bounded m n h = bounded_more (β (1 + m + n)) (b.joins m n) h
+  pair_bounded m n h = bounded_more (β (1 + m + n)) (wider.joins m n) h
 
   mutual
     pub place_within : (p : APlace) → StandsAt there takes literals p → (t l : ℕ) → WithinFound t (place_nodes p) (β (place_nodes p)) (seek size count p t l)
@@ -137,26 +137,26 @@ module _ (size count : ℕ) (there : Variable → Type 0) (takes : Callee → �
     sum_spares _ h s t l = absurd h
 
     pub way_bounded : (e : AnExpression) → Stands there takes literals e → Bounded (nodes e) (β (nodes e)) (way size count e)
-    way_bounded (Constant n) s = leaf_bounded size count (Num n) 1 (β 1) (omega arith) b.one
-    way_bounded (LiteralAt n bytes) s = leaf_bounded size count (Gaddr n) 1 (β 1) (omega arith) b.one
+    way_bounded (Constant n) s = leaf_bounded size count (Num n) 1 (β 1) (omega arith) wider.one
+    way_bounded (LiteralAt n bytes) s = leaf_bounded size count (Gaddr n) 1 (β 1) (omega arith) wider.one
     way_bounded (ArrayAt ty v bytes) s = leaf_bounded size count (address_tree (where_of size v)) 1 (β 1) (omega arith) (names v s)
     way_bounded (ReadOf p) s = valued_bounded (λ t l. read_within (place_within p s t l))
     way_bounded (SizeOfExpression n e) s =
         leaf_bounded size count (Num n) (1 + nodes e) (β (1 + nodes e)) (omega arith) (has_one (1 + nodes e) (omega arith))
-    way_bounded (SizeOf n) s = leaf_bounded size count (Num n) 1 (β 1) (omega arith) b.one
+    way_bounded (SizeOf n) s = leaf_bounded size count (Num n) 1 (β 1) (omega arith) wider.one
     way_bounded (AddressOf ty p) s = valued_bounded (λ t l. address_within (β (1 + place_nodes p)) (grown (place_nodes p)) (place_within p s t l))
     way_bounded (CallOf ty f to es) s =
         let number : ℕ = callee_number count f in
         let h : ℕ = β (2 + all_nodes es) in
         let one : 1 ≤ h = has_one (2 + all_nodes es) (omega arith) in
-        let less : β (all_nodes es) ≤ h = b.grows (all_nodes es) (2 + all_nodes es) (omega arith) in
+        let less : β (all_nodes es) ≤ h = wider.grows (all_nodes es) (2 + all_nodes es) (omega arith) in
         record {
           low = λ t l. called_low_within number h one less (passing_within es s.1 to t l);
           branch = λ sense at t l. test_ends sense at (called_low_within number h one less (passing_within es s.1 to t l));
           drop = λ t l. called_drop_ends number h less (passing_within es s.1 to t l);
           deliver = λ at t l. called_deliver_ends at number h one less (passing_within es s.1 to t l);
         }
-    way_bounded (StepOf m by p) s = bounded_more (β (1 + place_nodes p)) (b.next (place_nodes p)) (effective_bounded
+    way_bounded (StepOf m by p) s = bounded_more (β (1 + place_nodes p)) (wider.next (place_nodes p)) (effective_bounded
         (λ t l. step_low_within size count m by (place_within p s t l))
         (λ t l. store_drop_ends (step_within size count by (place_within p s t l))))
     way_bounded (UnaryOf op e) s =
@@ -179,9 +179,9 @@ module _ (size count : ℕ) (there : Variable → Type 0) (takes : Callee → �
         pair_bounded (nodes x) (nodes y) (binary_bounded size count (apart ty) (apart_forks ty) (way_bounded x s.0) (way_bounded y s.1))
     way_bounded (ChoiceOf ty c x y) s =
         let n : ℕ = 1 + nodes c + nodes x + nodes y in
-        choose_bounded (β n) (has_one n (omega arith)) (bounded_more (β n) (b.grows (nodes c) n (omega arith)) (way_bounded c s.0))
-        (bounded_more (β n) (b.grows (nodes x) n (omega arith)) (way_bounded x s.1))
-        (bounded_more (β n) (b.grows (nodes y) n (omega arith)) (way_bounded y s.2))
+        choose_bounded (β n) (has_one n (omega arith)) (bounded_more (β n) (wider.grows (nodes c) n (omega arith)) (way_bounded c s.0))
+        (bounded_more (β n) (wider.grows (nodes x) n (omega arith)) (way_bounded x s.1))
+        (bounded_more (β n) (wider.grows (nodes y) n (omega arith)) (way_bounded y s.2))
     way_bounded (AssignTo p e) s = pair_bounded (place_nodes p) (nodes e) (effective_bounded
         (λ t l. assign_low_within size count (local_of size count (seek size count p t l)) (place_within p s.0 t l) (way_bounded e s.1))
         (λ t l. assign_drop_ends size count (local_of size count (seek size count p t l)) (place_within p s.0 t l) (way_bounded e s.1)))
@@ -201,5 +201,5 @@ module _ (size count : ℕ) (there : Variable → Type 0) (takes : Callee → �
         let q : Passing = pass size count es (others to) p.temps p.labels in
         let n : ℕ = nodes e + all_nodes es in
         let first = passed_within to ((way_bounded e s.0).low t l) in
-        pass_within (must_pass size count p.tree q) (β n) (b.grows (nodes e) n (omega arith)) (b.grows (all_nodes es) n (omega arith)) first
+        pass_within (must_pass size count p.tree q) (β n) (wider.grows (nodes e) n (omega arith)) (wider.grows (all_nodes es) n (omega arith)) first
         (passing_within es s.1 (others to) p.temps p.labels)
