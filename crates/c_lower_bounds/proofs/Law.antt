@@ -1,18 +1,15 @@
 -- Each function fits the frame that it needs.
-use Rattle.std.proofs.Common.{◌≡◌, ℕ, zero, suc, ◌+◌, ◌*◌, ◌≤◌, List, [], ◌∷◌, length, Some, refl, ap, arith, sym, subst}
+use Rattle.std.proofs.Common.{◌≡◌, ℕ, zero, suc, ◌+◌, ◌*◌, ◌<◌, ◌≤◌, List, [], ◌∷◌, length, Some, refl, ap, arith, sym, subst}
 use Rattle.std.specs.Prelude.{◌-◌, ◌/◌, max, slice_get}
 use Rattle.c_types.specs.declared.typed.Variable.{Variable}
 use Rattle.c_types.specs.declared.typed.Variable.TheVariants as variables
 use Rattle.tree_core.specs.declared.program.TreeFn.{TreeFn}
-use Rattle.c_program.specs.Statements.{SomeActions}
 use Rattle.c_program.specs.Need.{block_words, largest_of, need_of}
 use Rattle.c_program.specs.Programs.{ARoutine, AProgram}
-use Rattle.c_sound.specs.Stands.{IsThere, Takes, StandsActs}
-use Rattle.c_sound.specs.Sound.{BodyStands, IsSound}
-use Rattle.c_lower_scheme.specs.Trees.{Num}
-use Rattle.c_lower_scheme.specs.Parts.{Emitted, due, delivered}
+use Rattle.c_sound.specs.Stands.{IsThere, Takes}
+use Rattle.c_sound.specs.Sound.{BodyStands}
+use Rattle.c_lower_scheme.specs.Parts.{Emitted, Destination}
 use Rattle.c_lower_scheme.specs.Places.{where_of}
-use Rattle.c_lower_scheme.specs.Flow.{done_by, claimed}
 use Rattle.c_lower_scheme.specs.Statements.{lower_row}
 use Rattle.c_lower_scheme.specs.Programs.{first_temporary, way_in, way_out, body_of, function_of, lower_all}
 use Rattle.c_lower_scheme.proofs.Facts.{all_lowered}
@@ -22,44 +19,65 @@ use Rattle.c_lower_bounds.proofs.Places.{place_forks, where_forks}
 use Rattle.c_lower_bounds.proofs.Phrases.{Widens}
 use Rattle.c_lower_bounds.proofs.Statements.{Holds, two_hold, row_holds, zero_holds}
 
--- A function without a block has fewer forks in a tree than nodes, and one with a block at most three for two nodes.
-lean : Widens (λ n. n)
-lean = record { one = omega arith; grows = λ m n le. le; next = λ n. omega arith; joins = λ m n. omega arith }
-
+-- three forks for two nodes
 rich : ℕ → ℕ
 rich n = n + (n + 1) / 2
 
-rich_widens : Widens rich
-unfolding rich
-rich_widens = record { one = omega arith; grows = λ m n le. omega arith; next = λ n. omega arith; joins = λ m n. omega arith }
+-- A tree of a function without a block has fewer forks than nodes, and one of a function with a block at most three for two nodes.
+abbrev bound : ℕ → ℕ → ℕ
+bound zero n = n
+bound (suc block) n = rich n
 
-rich_names : (size : ℕ) (v : Variable) → suc (place_forks (where_of size v)) ≤ rich 1
+-- how many forks no item of a function has, whose full expressions have at most m nodes: three are those of taking a block
+abbrev most : ℕ → ℕ → ℕ
+most zero m = m
+most (suc block) m = 3 + rich m
+
+rich_grows : (m n : ℕ) → m ≤ n → rich m ≤ rich n
 unfolding rich
-rich_names size v = let h = where_forks size v in omega (arith, h)
+rich_grows m n le = omega arith
 
 rich_most : (n : ℕ) → 2 * rich n ≤ 3 * n + 1
 unfolding rich
 rich_most n = omega arith
 
--- nothing is there in a block of no bytes
-lean_names : (objects params size : ℕ) (v : Variable) → IsThere objects params 0 v → suc (place_forks (where_of size v)) ≤ 1
-lean_names objects params size (variables.Automatic n) h = omega arith
-lean_names objects params size (variables.Parameter n) h = omega arith
-lean_names objects params size (variables.Global n) h = omega arith
-lean_names objects params size (variables.Static n) h = omega arith
-lean_names objects params size (variables.InBlock o) h = absurd (omega arith)
+widens : (block : ℕ) → Widens (bound block)
+unfolding rich
+widens zero = record { one = omega arith; grows = λ m n le. le; next = λ n. omega arith; joins = λ m n. omega arith }
+widens (suc block) = record { one = omega arith; grows = rich_grows; next = λ n. omega arith; joins = λ m n. omega arith }
 
-claimed_holds : (size t pointer block l : ℕ) {m f : ℕ} → 3 ≤ f → Holds t m f (claimed size t pointer block l)
-claimed_holds size t pointer block l three = record {
+-- nothing is there in a block of no bytes
+names_fit : (block objects params size : ℕ) (v : Variable) → IsThere objects params block v → suc (place_forks (where_of size v)) ≤ bound block 1
+unfolding rich
+names_fit zero objects params size (variables.Automatic n) h = omega arith
+names_fit zero objects params size (variables.Parameter n) h = omega arith
+names_fit zero objects params size (variables.Global n) h = omega arith
+names_fit zero objects params size (variables.Static n) h = omega arith
+names_fit zero objects params size (variables.InBlock o) h = absurd (omega arith)
+names_fit (suc block) objects params size v h = let few = where_forks size v in omega (arith, few)
+
+some_fit : (block m : ℕ) → 1 ≤ m → 1 ≤ most block m
+some_fit zero m one = one
+some_fit (suc block) m one = omega arith
+
+wide_fit : (block m n : ℕ) → n ≤ m → bound block n ≤ most block m
+wide_fit zero m n le = le
+wide_fit (suc block) m n le = let h = rich_grows n m le in omega (arith, h)
+
+stores_fit : (block m o : ℕ) → o < block → (2 ≤ most block m) × ((n : ℕ) → n ≤ m → suc (bound block n) ≤ most block m)
+stores_fit zero m o h = absurd (omega arith)
+stores_fit (suc block) m o h = (omega arith, λ n le. (let g = rich_grows n m le in omega (arith, g)))
+
+way_in_holds : (block size pointer l m : ℕ) → Holds (first_temporary size block) m (most block m) (way_in size (first_temporary size block) pointer block l)
+way_in_holds zero size pointer l m = record { temps = omega arith; items = none }
+way_in_holds (suc block) size pointer l m = record {
   temps = omega arith;
   items = next (omega arith) (next (omega arith) (next (omega arith) (next (omega arith) (next (omega arith) none))));
 }
 
--- what a function does, by its number of automatic locals, its block and its statements
-abbrev whole : (size count pointer block : ℕ) (body : SomeActions) (l : ℕ) → Emitted
-whole size count pointer block body l = done_by (way_in size (first_temporary size block) pointer block l)
-    (λ m. done_by (lower_row size count (first_temporary size block) (way_out pointer size block) body 0 0 m)
-    (λ n. delivered (way_out pointer size block) (due (Num 0) (first_temporary size block) n)))
+need_fits : (block size m t : ℕ) → 1 ≤ m → 2 * t ≤ 2 * first_temporary size block + 3 * m → t + 1 + most block m ≤ size + (block_words block + 3 * m)
+need_fits zero size m t one h = omega arith
+need_fits (suc block) size m t one h = let few = rich_most m in omega (arith, few)
 
 -- items that fit a frame
 record FitsIn (need : ℕ) (p : Emitted) : Type 0 where
@@ -67,41 +85,26 @@ record FitsIn (need : ℕ) (p : Emitted) : Type 0 where
   pub items : Narrow forks p.items
   pub room : p.temps + 1 + forks ≤ need
 
-whole_fits : (block size count pointer l objects params : ℕ) (gs : List ARoutine) (body : SomeActions) → StandsActs (IsThere objects params block) (Takes gs) objects body
-    → FitsIn (size + (block_words block + 3 * max 1 (largest_of body))) (whole size count pointer block body l)
-whole_fits zero size count pointer l objects params gs body s =
-    let m : ℕ = max 1 (largest_of body) in
+body_fits : (p : AProgram) (pointer count l : ℕ) (g : ARoutine) → BodyStands p g
+    → FitsIn (length g.locals + (block_words g.block + 3 * max 1 (largest_of g.body))) (body_of pointer count g l)
+body_fits p pointer count l g s =
+    let size : ℕ = length g.locals in
+    let first : ℕ = first_temporary size g.block in
+    let out : Destination = way_out pointer size g.block in
+    let there : Variable → Type 0 = IsThere (length p.objects) (length g.parameters) g.block in
+    let m : ℕ = max 1 (largest_of g.body) in
     let one : 1 ≤ m = omega arith in
-    let less : largest_of body ≤ m = omega arith in
-    let out = way_out pointer size 0 in
-    let p : Emitted = lower_row size count size out body 0 0 l in
-    let there : Variable → Type 0 = IsThere objects params 0 in
-    let row : Holds size m m p = row_holds size count size out there (Takes gs) objects (λ n. n) lean (lean_names objects params size)
-        m m one one (λ n le. le) (λ o h. absurd (omega arith)) body s less 0 0 l in
-    let end = zero_holds size count size out there (Takes gs) objects (λ n. n) lean (lean_names objects params size)
-        m m one one (λ n le. le) (λ o h. absurd (omega arith)) p.labels in
-    let start : Holds size m m (way_in size size pointer 0 l) = record { temps = omega arith; items = none } in
-    let h = two_hold start (two_hold row end) in
-    record { forks = m; items = h.items; room = omega (arith, h.temps) }
-whole_fits (suc block) size count pointer l objects params gs body s =
-    let m : ℕ = max 1 (largest_of body) in
-    let one : 1 ≤ m = omega arith in
-    let less : largest_of body ≤ m = omega arith in
-    let first : ℕ = suc size in
-    let f : ℕ = 3 + rich m in
-    let most = rich_most m in
-    let out = way_out pointer size (suc block) in
-    let wide : (n : ℕ) → n ≤ m → rich n ≤ f = λ n le. (let g = rich_widens.grows n m le in omega (arith, g)) in
-    let wider : (n : ℕ) → n ≤ m → suc (rich n) ≤ f = λ n le. (let g = rich_widens.grows n m le in omega (arith, g)) in
-    let p : Emitted = lower_row size count first out body 0 0 (suc l) in
-    let there : Variable → Type 0 = IsThere objects params (suc block) in
-    let row : Holds first m f p = row_holds size count first out there (Takes gs) objects rich rich_widens (λ v h. rich_names size v)
-        m f one (omega arith) wide (λ o h. (omega arith, wider)) body s less 0 0 (suc l) in
-    let end = zero_holds size count first out there (Takes gs) objects rich rich_widens (λ v h. rich_names size v)
-        m f one (omega arith) wide (λ o h. (omega arith, wider)) p.labels in
-    let start : Holds first m f (way_in size first pointer (suc block) l) = claimed_holds size first pointer (suc block) l (omega arith) in
-    let h = two_hold start (two_hold row end) in
-    record { forks = f; items = h.items; room = omega (arith, h.temps, most) }
+    let less : largest_of g.body ≤ m = omega arith in
+    let start : Emitted = way_in size first pointer g.block l in
+    let row : Emitted = lower_row size count first out g.body 0 0 start.labels in
+    let h = row_holds size count first out there (Takes p.routines) (length p.objects) (bound g.block) (widens g.block)
+        (names_fit g.block (length p.objects) (length g.parameters) size) m (most g.block m) one (some_fit g.block m one) (wide_fit g.block m)
+        (stores_fit g.block m) g.body s less 0 0 start.labels in
+    let end = zero_holds size count first out there (Takes p.routines) (length p.objects) (bound g.block) (widens g.block)
+        (names_fit g.block (length p.objects) (length g.parameters) size) m (most g.block m) one (some_fit g.block m one) (wide_fit g.block m)
+        (stores_fit g.block m) row.labels in
+    let all = two_hold (way_in_holds g.block size pointer l m) (two_hold h end) in
+    record { forks = most g.block m; items = all.items; room = need_fits g.block size m _ one all.temps }
 
 fits_frame : (need : ℕ) (g : ARoutine) (p : Emitted) → FitsIn need p → FitsFrame need (function_of g p)
 fits_frame need g p h = record {
@@ -112,8 +115,7 @@ fits_frame need g p h = record {
 function_fits : (p : AProgram) (pointer count l : ℕ) (g : ARoutine) → BodyStands p g
     → FitsFrame (need_of g.locals g.block g.body) (function_of g (body_of pointer count g l))
 unfolding need_of
-function_fits p pointer count l g s = fits_frame _ g (body_of pointer count g l)
-    (whole_fits g.block (length g.locals) count pointer l (length p.objects) (length g.parameters) p.routines g.body s)
+function_fits p pointer count l g s = fits_frame _ g (body_of pointer count g l) (body_fits p pointer count l g s)
 
 -- the function at a number is the one that the program's function there is lowered to
 at_number : (pointer count : ℕ) (gs : List ARoutine) (l n : ℕ) (g : ARoutine) (f : TreeFn)

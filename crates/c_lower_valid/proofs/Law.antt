@@ -25,8 +25,8 @@ use Rattle.c_lower_valid.proofs.Named.{Scene, AllName}
 use Rattle.c_lower_valid.proofs.Rows.{scene, item_stands}
 use Rattle.c_lower_scheme.specs.Parts.{Emitted}
 use Rattle.c_lower_valid.proofs.Fine.{FineDone}
-use Rattle.c_lower_valid.proofs.StatementItems.{fine_whole}
-use Rattle.c_lower_valid.proofs.Loops.{marked_whole}
+use Rattle.c_lower_valid.proofs.StatementItems.{fine_body}
+use Rattle.c_lower_valid.proofs.Loops.{marked_body}
 use Rattle.c_lower_valid.proofs.Spelled.{targets_stand, labels_before}
 use Rattle.c_lower_valid.proofs.Naming.{each_lowered, lowered_at, none_behind, names_right}
 
@@ -89,22 +89,22 @@ module _ (p : AProgram) (sound : IsSound p) where
     abbrev there : Scene
     there = scene functions (length p.objects) own few_parameters
 
-    fine_body : FineDone there (length g.locals) body
-    fine_body = fine_whole there (length g.locals) (length p.routines) pointer (Takes p.routines) (calls_right (length p.objects) own few_parameters)
-        g.block g.body m (λ le. let two = sound.stacked f g at le in omega arith) (sound.fits f g at) (sound.stands f g at)
+    fine_own : FineDone there (length g.locals) body
+    fine_own = fine_body there (length p.routines) pointer (Takes p.routines) (calls_right (length p.objects) own few_parameters)
+        g m (λ le. let two = sound.stacked f g at le in omega arith) (sound.fits f g at) (sound.stands f g at)
 
     wanted_stand : WantedStand own
-    wanted_stand = locals_more (length g.locals) own.locals g.registers fine_body.grows (sound.registers f g at)
+    wanted_stand = locals_more (length g.locals) own.locals g.registers fine_own.grows (sound.registers f g at)
 
     roots_stand : ItemsStand functions (length p.objects) own
-    roots_stand = items_stand functions (length p.objects) own few_parameters body.items fine_body.items.names
+    roots_stand = items_stand functions (length p.objects) own few_parameters body.items fine_own.items.names
 
     pushes_stand : PushesStand own
-    pushes_stand = fine_body.items.order
+    pushes_stand = fine_own.items.order
 
     targets_there : TargetsStand own
     targets_there =
-        let marks = marked_whole (length g.locals) (length p.routines) pointer g.block g.body m (sound.fits f g at) in
+        let marks = marked_body pointer (length p.routines) g m (sound.fits f g at) in
         targets_stand body.items (λ n lt. omega (arith, marks.aimed n lt))
 
 -- labels are numbered over the whole program
@@ -114,7 +114,7 @@ labels_once : (pointer count : ℕ) (gs : List ARoutine) (l : ℕ)
 labels_once pointer count [] l fits n = (omega arith, λ lt. refl)
 labels_once pointer count (g ∷ gs) l fits n =
     let q = body_of pointer count g l in
-    let marks = marked_whole (length g.locals) count pointer g.block g.body l (fits 0 g refl) in
+    let marks = marked_body pointer count g l (fits 0 g refl) in
     let rest = labels_once pointer count gs q.labels (λ f x e. fits (suc f) x e) n in
     let most = rest.0 in
     let sum = labels_before g.name (length g.parameters) q.temps g.registers q.items (lower_all pointer count gs q.labels) n in

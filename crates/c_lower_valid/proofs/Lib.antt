@@ -6,7 +6,6 @@ pub mod Orders
 pub mod Fine
 pub mod Lowerings
 pub mod Phrases
-pub mod Whole
 pub mod StatementItems
 pub mod Marks
 pub mod Labels

@@ -1,11 +1,12 @@
 -- Labels among the items of statements: `break` and `continue` go out, unless a loop is around them.
-use Rattle.std.proofs.Common.{◌≡◌, ℕ, zero, suc, ◌+◌, ◌≤◌, ◌<◌, List, [], ◌∷◌, ◌++◌, Option, Some, None, refl, arith}
+use Rattle.std.proofs.Common.{◌≡◌, ℕ, zero, suc, ◌+◌, ◌≤◌, ◌<◌, List, [], ◌∷◌, ◌++◌, length, Option, Some, None, refl, arith}
 use Rattle.std.specs.Prelude.{Bool, true, false}
 use Rattle.c_types.specs.Constants.{constant_of}
 use Rattle.c_types.specs.declared.types.CType.{CType}
 use Rattle.c_types.specs.Typed.{AnExpression}
 use Rattle.c_program.specs.Statements.{ADeclaration, KeepOf, ClearOf, BeginOf, StoreOf, ZerosOf, AnAction, SomeActions, NoActions, MoreActions, DeclareOf, BlockOf, EvaluateOf, BreakOf, ContinueOf}
 use Rattle.c_program.specs.Statements.{ReturnOf, IfOf, IfElseOf, WhileOf, DoOf, ForOf}
+use Rattle.c_program.specs.Programs.{ARoutine}
 use Rattle.c_sound.specs.Fits.{no_local, behind_act, FitsAct, FitsActs}
 use Rattle.c_lower_scheme.specs.Trees.{Num, Item, Label, Jump}
 use Rattle.c_lower_scheme.specs.Parts
@@ -14,10 +15,10 @@ use Rattle.c_lower_scheme.specs.Mentions
 use Rattle.c_lower_scheme.specs.Zeros
 use Rattle.c_lower_scheme.specs.Flow
 use Rattle.c_lower_scheme.specs.Statements
+use Rattle.c_lower_scheme.specs.Programs
 use Rattle.c_lower_scheme.proofs.Labels.{at, stands, stands_append}
 use Rattle.c_lower_valid.proofs.Marks.{aims, aims_append, nowhere, Marked, marked_nil, marked_out, marked_append, marked_same, marked_plain}
 use Rattle.c_lower_valid.proofs.Marks.{marked_front, marked_count, IsMute, marked_inner, marked_fork, marked_delivered}
-use Rattle.c_lower_valid.proofs.Whole.{whole}
 use Rattle.c_lower_valid.proofs.Labels.{marked_way}
 
 -- the labels to which `break` and `continue` go, in a loop
@@ -264,17 +265,21 @@ module _ (size count first : ℕ) (away : Parts.Destination) where
         marked_append (leaving inside lb lc) l x.labels _ x.items _ (marked_act scope inside a row lb lc l f.0)
         (marked_row (behind_act scope a) inside row lb lc x.labels f.1)
 
--- a function's labels, where its parts have a block or not
-pub marked_whole : (size count pointer block : ℕ) (body : SomeActions) (l : ℕ) → FitsActs size no_local false body
-    → Marked nowhere l (whole size count pointer block body l).labels (whole size count pointer block body l).items
-marked_whole size count pointer zero body l f =
-    let x = Statements.lower_row size count size Parts.AsResult body 0 0 l in
-    marked_append nowhere l l x.labels [] _ (marked_nil nowhere l)
-    (marked_append nowhere l x.labels x.labels x.items _ (marked_row size count size Parts.AsResult no_local false body 0 0 l f)
-    (marked_delivered Parts.AsResult (Parts.due (Num 0) size x.labels) x.labels (marked_nil nowhere x.labels)))
-marked_whole size count pointer (suc block) body l f =
-    let away : Parts.Destination = Parts.Releasing pointer size in
-    let x = Statements.lower_row size count (suc size) away body 0 0 (suc l) in
-    marked_append nowhere l (suc l) x.labels (Flow.claimed size (suc size) pointer (suc block) l).items _ (marked_claimed size (suc size) pointer (suc block) l)
-    (marked_append nowhere (suc l) x.labels x.labels x.items _ (marked_row size count (suc size) away no_local false body 0 0 (suc l) f)
-    (marked_delivered away (Parts.due (Num 0) (suc size) x.labels) x.labels (marked_nil nowhere x.labels)))
+-- a function's labels, with a block or without
+marked_way_in : (size first pointer block l : ℕ)
+    → Marked nowhere l (Programs.way_in size first pointer block l).labels (Programs.way_in size first pointer block l).items
+marked_way_in size first pointer zero l = marked_nil nowhere l
+marked_way_in size first pointer (suc block) l = marked_claimed size first pointer (suc block) l
+
+pub marked_body : (pointer count : ℕ) (g : ARoutine) (l : ℕ) → FitsActs (length g.locals) no_local false g.body
+    → Marked nowhere l (Programs.body_of pointer count g l).labels (Programs.body_of pointer count g l).items
+marked_body pointer count g l f =
+    let size : ℕ = length g.locals in
+    let first : ℕ = Programs.first_temporary size g.block in
+    let away : Parts.Destination = Programs.way_out pointer size g.block in
+    let w = Programs.way_in size first pointer g.block l in
+    let x = Statements.lower_row size count first away g.body 0 0 w.labels in
+    let end = Parts.delivered away (Parts.due (Num 0) first x.labels) in
+    marked_append nowhere l w.labels end.labels w.items _ (marked_way_in size first pointer g.block l)
+    (marked_append nowhere w.labels x.labels end.labels x.items _ (marked_row size count first away no_local false g.body 0 0 w.labels f)
+    (marked_delivered away (Parts.due (Num 0) first x.labels) x.labels (marked_nil nowhere x.labels)))

@@ -1,5 +1,5 @@
 -- Each statement's items name what is there, with calls in order.
-use Rattle.std.proofs.Common.{◌≡◌, ⊎_elim, ℕ, zero, suc, ◌≤◌, ◌<◌, List, [], ◌∷◌, ◌++◌, Option, Some, None, arith}
+use Rattle.std.proofs.Common.{◌≡◌, ⊎_elim, ℕ, zero, suc, ◌≤◌, ◌<◌, List, [], ◌∷◌, ◌++◌, length, Option, Some, None, arith}
 use Rattle.std.specs.Prelude.{Bool, true, false, max}
 use Rattle.c_types.specs.Types.{size_of}
 use Rattle.c_types.specs.declared.types.CType.{CType}
@@ -11,21 +11,22 @@ use Rattle.c_types.specs.Constants.{constant_of}
 use Rattle.c_types.specs.Typed.{AnExpression}
 use Rattle.c_program.specs.Statements.{ADeclaration, KeepOf, ClearOf, BeginOf, StoreOf, ZerosOf, AnAction, SomeActions, NoActions, MoreActions, DeclareOf, BlockOf, EvaluateOf, BreakOf, ContinueOf}
 use Rattle.c_program.specs.Statements.{ReturnOf, IfOf, IfElseOf, WhileOf, DoOf, ForOf}
+use Rattle.c_program.specs.Programs.{ARoutine}
 use Rattle.c_sound.specs.Fits.{Fits, FitsMaybe, no_local, more, declaring, behind_act, FitsDeclared, FitsAct, FitsActs}
 use Rattle.c_sound.specs.Stands.{IsThere, StandsMaybe, StandsDeclared, StandsAct, StandsActs}
 use Rattle.c_lower_scheme.specs.Trees.{Num, Gaddr, Loc, Indir, Bin, Item, Label, AssignLoc, AssignMem, Cbr, Jump}
-use Rattle.c_lower_scheme.specs.Parts.{Lowered, Emitted, Destination, InLocal, AsResult, Releasing, nothing, due, delivered}
+use Rattle.c_lower_scheme.specs.Parts.{Lowered, Emitted, Destination, InLocal, nothing, due, delivered}
 use Rattle.c_lower_scheme.specs.Places.{integer_of, in_block}
 use Rattle.c_lower_scheme.specs.Calls.{callee_number}
 use Rattle.c_lower_scheme.specs.Expressions
 use Rattle.c_lower_scheme.specs.Mentions.{mentions}
 use Rattle.c_lower_scheme.specs.Zeros.{is_zeroed}
-use Rattle.c_lower_scheme.specs.Flow.{two_done, clearing, begin_of, stored_in_block, zeros_in_block, claimed, if_done, if_else_done, loop_done, while_done, turns_done, for_done, ever_done}
+use Rattle.c_lower_scheme.specs.Flow.{two_done, clearing, begin_of, stored_in_block, zeros_in_block, if_done, if_else_done, loop_done, while_done, turns_done, for_done, ever_done}
 use Rattle.c_lower_scheme.specs.Statements
+use Rattle.c_lower_scheme.specs.Programs.{first_temporary, way_in, way_out, body_of}
 use Rattle.c_lower_valid.proofs.Named.{Scene}
-use Rattle.c_lower_valid.proofs.Fine.{Fine, fine_nil, fine_append, fine_up, fine_more, fine_one, fine_behind, fine_three, FineLow, FineDone, Ok, ok_block, Reaches, fine_delivered}
+use Rattle.c_lower_valid.proofs.Fine.{Fine, fine_nil, fine_append, fine_up, fine_more, fine_one, fine_behind, fine_three, FineLow, FineDone, ok_block, Reaches, fine_delivered}
 use Rattle.c_lower_valid.proofs.Phrases.{ok_there, fine_way}
-use Rattle.c_lower_valid.proofs.Whole.{whole}
 
 -- behind declarations and statements the scope has the function's own locals alone
 within_declared : (size : ℕ) (scope : ℕ → Type 0) (ds : List ADeclaration) → ((n : ℕ) → scope n → n < size) → FitsDeclared size scope ds
@@ -320,45 +321,54 @@ module _ (scene : Scene) (size count first block : ℕ) (out : Destination) (tak
         (fine_acts (behind_act scope a) (within_act size scope inside a within f.0) inside row lb lc p.labels f.1 s.1)
 
 -- a function, with a block or not: the stack's pointer and the stack behind it are objects where it has one
-module _ (scene : Scene) (size count pointer : ℕ) (takes : Callee → ℕ → Type 0)
-    (calls : (f : Callee) (n : ℕ) → takes f n → scene.callable (callee_number count f) n) where
-  fine_claimed : (block l : ℕ) → suc pointer < scene.objects → FineDone scene (suc size) (claimed size (suc size) pointer block l)
-  fine_claimed block l lt =
+fits_first : (size block : ℕ) → size ≤ first_temporary size block
+fits_first size zero = omega arith
+fits_first size (suc block) = omega arith
+
+room_first : (size block : ℕ) → 1 ≤ block → size < first_temporary size block
+room_first size zero le = absurd (omega arith)
+room_first size (suc block) le = omega arith
+
+module _ (scene : Scene) (size pointer : ℕ) where
+  reaches_out : (block : ℕ) → (1 ≤ block → suc pointer < scene.objects) → Reaches scene (first_temporary size block) (way_out pointer size block)
+  reaches_out zero stacked = tt
+  reaches_out (suc block) stacked = let lt : suc pointer < scene.objects = stacked (omega arith) in (omega arith, omega arith)
+
+  fine_way_in : (block l : ℕ) → (1 ≤ block → suc pointer < scene.objects)
+      → FineDone scene (first_temporary size block) (way_in size (first_temporary size block) pointer block l)
+  fine_way_in zero l stacked = record { grows = omega arith; items = fine_nil scene size }
+  fine_way_in (suc block) l stacked =
       let u : ℕ = suc size in
-      let here : size < u = omega arith in
+      let lt : suc pointer < scene.objects = stacked (omega arith) in
       let own : pointer < scene.objects = omega arith in
+      let here : size < u = omega arith in
       record {
         grows = omega arith;
         items = fine_more scene u (AssignLoc size (Indir ints.Int (Gaddr pointer))) _ tt (here, own)
-            (fine_more scene u (Cbr _ l (Bin ariths.Subtract (Bin ariths.Add (Gaddr (suc pointer)) (Num 262144)) (Loc size)) (Num block)) _ tt (((lt, tt), here), tt)
+            (fine_more scene u (Cbr _ l (Bin ariths.Subtract (Bin ariths.Add (Gaddr (suc pointer)) (Num 262144)) (Loc size)) (Num (suc block))) _ tt
+            (((lt, tt), here), tt)
             (fine_more scene u (AssignLoc size (Bin ariths.Divide (Num 0) (Num 0))) _ tt (here, (tt, tt))
             (fine_more scene u (Label l) _ tt tt
-            (fine_one scene u (AssignMem ints.Int (Gaddr pointer) (Bin ariths.Add (Loc size) (Num block))) tt (own, (here, tt))))));
+            (fine_one scene u (AssignMem ints.Int (Gaddr pointer) (Bin ariths.Add (Loc size) (Num (suc block)))) tt (own, (here, tt))))));
       }
 
-  pub fine_whole : (block : ℕ) (body : SomeActions) (l : ℕ) → (1 ≤ block → suc pointer < scene.objects) → FitsActs size no_local false body
-      → StandsActs (IsThere scene.objects scene.params block) takes scene.objects body → FineDone scene size (whole size count pointer block body l)
-  fine_whole zero body l stacked f s =
-      let room = λ (le : 1 ≤ 0). let r : size < size = omega arith in r in
-      let p = Statements.lower_row size count size AsResult body 0 0 l in
-      let h = fine_acts scene size count size 0 AsResult takes calls (omega arith) room tt no_local (λ n k. absurd k) false body 0 0 l f s in
-      let g = fine_zero scene size count size 0 AsResult takes calls (omega arith) room tt p.labels in
-      let q = fine_two scene size count size 0 AsResult takes calls (omega arith) room tt p (delivered AsResult (due (Num 0) size p.labels)) h g in
-      fine_two scene size count size 0 AsResult takes calls (omega arith) room tt (nothing size l) (two_done p (delivered AsResult (due (Num 0) size p.labels)))
-      (record { grows = omega arith; items = fine_nil scene size }) q
-  fine_whole (suc block) body l stacked f s =
-      let first : ℕ = suc size in
-      let out : Destination = Releasing pointer size in
-      let lt : suc pointer < scene.objects = stacked (omega arith) in
-      let fits : size ≤ first = omega arith in
-      let room = λ (le : 1 ≤ suc block). let r : size < first = omega arith in r in
-      let reaches : Reaches scene first out = (omega arith, omega arith) in
-      let p = Statements.lower_row size count first out body 0 0 (suc l) in
-      let h = fine_acts scene size count first (suc block) out takes calls fits room reaches no_local (λ n k. absurd k) false body 0 0 (suc l) f s in
-      let g = fine_zero scene size count first (suc block) out takes calls fits room reaches p.labels in
-      let r = delivered out (due (Num 0) first p.labels) in
-      let q = fine_two scene size count first (suc block) out takes calls fits room reaches p r h g in
-      let all = fine_two scene size count first (suc block) out takes calls fits room reaches (claimed size first pointer (suc block) l) (two_done p r)
-      (fine_claimed (suc block) l lt) q in
-      let le = all.grows in
-      record { grows = omega arith; items = all.items }
+pub fine_body : (scene : Scene) (count pointer : ℕ) (takes : Callee → ℕ → Type 0) → ((f : Callee) (n : ℕ) → takes f n → scene.callable (callee_number count f) n)
+    → (g : ARoutine) (l : ℕ) → (1 ≤ g.block → suc pointer < scene.objects) → FitsActs (length g.locals) no_local false g.body
+    → StandsActs (IsThere scene.objects scene.params g.block) takes scene.objects g.body → FineDone scene (length g.locals) (body_of pointer count g l)
+fine_body scene count pointer takes calls g l stacked f s =
+    let size : ℕ = length g.locals in
+    let first : ℕ = first_temporary size g.block in
+    let out : Destination = way_out pointer size g.block in
+    let fits : size ≤ first = fits_first size g.block in
+    let room = room_first size g.block in
+    let reaches = reaches_out scene size pointer g.block stacked in
+    let w = way_in size first pointer g.block l in
+    let p = Statements.lower_row size count first out g.body 0 0 w.labels in
+    let end = delivered out (due (Num 0) first p.labels) in
+    let h = fine_acts scene size count first g.block out takes calls fits room reaches no_local (λ n k. absurd k) false g.body 0 0 w.labels f s in
+    let q = fine_two scene size count first g.block out takes calls fits room reaches p end h
+        (fine_zero scene size count first g.block out takes calls fits room reaches p.labels) in
+    let all = fine_two scene size count first g.block out takes calls fits room reaches w (two_done p end)
+        (fine_way_in scene size pointer g.block l stacked) q in
+    let le = all.grows in
+    record { grows = omega arith; items = all.items }
