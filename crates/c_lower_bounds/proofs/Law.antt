@@ -98,11 +98,11 @@ body_fits p pointer count l g s =
     let start : Emitted = way_in size first pointer g.block l in
     let row : Emitted = lower_row size count first out g.body 0 0 start.labels in
     let h = row_holds size count first out there (Takes p.routines) (length p.objects) (bound g.block) (widens g.block)
-        (names_fit g.block (length p.objects) (length g.parameters) size) m (most g.block m) one (some_fit g.block m one) (wide_fit g.block m)
-        (stores_fit g.block m) g.body s less 0 0 start.labels in
+    (names_fit g.block (length p.objects) (length g.parameters) size) m (most g.block m) one (some_fit g.block m one) (wide_fit g.block m)
+    (stores_fit g.block m) g.body s less 0 0 start.labels in
     let end = zero_holds size count first out there (Takes p.routines) (length p.objects) (bound g.block) (widens g.block)
-        (names_fit g.block (length p.objects) (length g.parameters) size) m (most g.block m) one (some_fit g.block m one) (wide_fit g.block m)
-        (stores_fit g.block m) row.labels in
+    (names_fit g.block (length p.objects) (length g.parameters) size) m (most g.block m) one (some_fit g.block m one) (wide_fit g.block m)
+    (stores_fit g.block m) row.labels in
     let all = two_hold (way_in_holds g.block size pointer l m) (two_hold h end) in
     record { forks = most g.block m; items = all.items; room = need_fits g.block size m _ one all.temps }
 

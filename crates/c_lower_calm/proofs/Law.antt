@@ -25,7 +25,7 @@ function_calm pointer count l g n w e =
     let start : Emitted = way_in size first pointer g.block l in
     let row : Emitted = lower_row size count first out g.body 0 0 start.labels in
     let own : AreCalm (body_of pointer count g l).items =
-        behind (way_in_calm size first pointer g.block l) (behind (row_calm size count first out g.body 0 0 start.labels) (zero_calm size count first out row.labels)) in
+    behind (way_in_calm size first pointer g.block l) (behind (row_calm size count first out g.body 0 0 start.labels) (zero_calm size count first out row.labels)) in
     roots_calm own n w e
 
 all_calm : (pointer count : ℕ) (gs : List ARoutine) (l f : ℕ) (tf : TreeFn) → slice_get (lower_all pointer count gs l) f ≡ Some tf → FunctionIsCalm tf

@@ -103,7 +103,8 @@ module _ (size count : ℕ) where
     alone_away (MoreActions a (MoreActions b row)) lb lc to items acts e behind h = absurd (cc)
 
   if_stands : (o : Option ℕ) (c : AnExpression) (a : AnAction) (lb lc l : ℕ) (acts : List AnAction) → going a lb lc ≡ o →
-      ((k : ℕ) → Onto (lower size count size AsResult a NoActions lb lc k).items (simple a) acts) → Onto (if_by size count size AsResult o c (lower size count size AsResult a NoActions lb lc) l).items (simple a) acts
+      ((k : ℕ) → Onto (lower size count size AsResult a NoActions lb lc k).items (simple a) acts)
+      → Onto (if_by size count size AsResult o c (lower size count size AsResult a NoActions lb lc) l).items (simple a) acts
   if_stands (Some to) c a lb lc l acts e body = away_stands a lb lc to (when size count size AsResult c to l).items acts e
   if_stands None c a lb lc l acts e body =
       let p = unless size count size AsResult c l (suc l) in
@@ -111,7 +112,8 @@ module _ (size count : ℕ) where
 
   -- a `while` by its body's items
   while_stands : (o : Option ℕ) (c : AnExpression) (a : AnAction) (l : ℕ) (acts : List AnAction) →
-      ((lb lc k : ℕ) → Onto (lower size count size AsResult a NoActions lb lc k).items (simple a) acts) → Onto (while_by size count size AsResult o c (lower size count size AsResult a NoActions) l).items (simple a) acts
+      ((lb lc k : ℕ) → Onto (lower size count size AsResult a NoActions lb lc k).items (simple a) acts)
+      → Onto (while_by size count size AsResult o c (lower size count size AsResult a NoActions) l).items (simple a) acts
   while_stands (Some v) c a l acts body =
       let p = unless size count size AsResult c (suc l) (suc (suc l)) in
       second (Label l ∷ []) _ (simple a) acts
@@ -142,11 +144,14 @@ module _ (size count : ℕ) where
   mutual
     act_stands : (a : AnAction) (rest : SomeActions) (lb lc l : ℕ) (acts : List AnAction) → Onto (lower size count size AsResult a rest lb lc l).items (simple a) acts
     act_stands (DeclareOf ds) rest lb lc l acts =
-        own_items (DeclareOf ds) acts (lower size count size AsResult (DeclareOf ds) rest lb lc l).items (never_one (DeclareOf ds) tt (lower size count size AsResult (DeclareOf ds) rest lb lc l).items)
+        own_items (DeclareOf ds) acts (lower size count size AsResult (DeclareOf ds) rest lb lc l).items
+        (never_one (DeclareOf ds) tt (lower size count size AsResult (DeclareOf ds) rest lb lc l).items)
     act_stands (BlockOf row) rest lb lc l acts = row_stands row lb lc l acts
     act_stands (EvaluateOf e) rest lb lc l acts = own_items (EvaluateOf e) acts (lower size count size AsResult (EvaluateOf e) rest lb lc l).items (evaluate_one e rest lb lc l)
-    act_stands BreakOf rest lb lc l acts = own_items BreakOf acts (lower size count size AsResult BreakOf rest lb lc l).items (never_one BreakOf tt (lower size count size AsResult BreakOf rest lb lc l).items)
-    act_stands ContinueOf rest lb lc l acts = own_items ContinueOf acts (lower size count size AsResult ContinueOf rest lb lc l).items (never_one ContinueOf tt (lower size count size AsResult ContinueOf rest lb lc l).items)
+    act_stands BreakOf rest lb lc l acts =
+        own_items BreakOf acts (lower size count size AsResult BreakOf rest lb lc l).items (never_one BreakOf tt (lower size count size AsResult BreakOf rest lb lc l).items)
+    act_stands ContinueOf rest lb lc l acts =
+        own_items ContinueOf acts (lower size count size AsResult ContinueOf rest lb lc l).items (never_one ContinueOf tt (lower size count size AsResult ContinueOf rest lb lc l).items)
     act_stands (ReturnOf e) rest lb lc l acts = own_items (ReturnOf e) acts (lower size count size AsResult (ReturnOf e) rest lb lc l).items (return_one e rest lb lc l)
     act_stands (IfOf c a) rest lb lc l acts = if_stands (going a lb lc) c a lb lc l acts refl (λ k. act_stands a NoActions lb lc k acts)
     act_stands (IfElseOf c a b) rest lb lc l acts =
@@ -177,8 +182,8 @@ function_stands pointer count l g none =
     let p = lower_row size count size AsResult g.body 0 0 l in
     let is : List Item = p.items ++ (Ret (Num 0) ∷ []) in
     let h = subst (λ (z : List AnAction). HaveItems size z (spelled_all is)) (append-nil (simple_of g.body))
-        (subst (HaveItems size (simple_of g.body ++ [])) (append-nil (spelled_all is))
-        (first size count p.items (Ret (Num 0) ∷ []) (simple_of g.body) [] (row_stands size count g.body 0 0 l []) [] (Ended []))) in
+    (subst (HaveItems size (simple_of g.body ++ [])) (append-nil (spelled_all is))
+    (first size count p.items (Ret (Num 0) ∷ []) (simple_of g.body) [] (row_stands size count g.body 0 0 l []) [] (Ended []))) in
     rw none h
 
 all_stand : (pointer count : ℕ) (gs : List ARoutine) (l n : ℕ) (g : ARoutine) (f : TreeFn)

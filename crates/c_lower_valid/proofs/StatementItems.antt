@@ -270,7 +270,8 @@ module _ (scene : Scene) (size count first block : ℕ) (out : Destination) (tak
       let wider = λ (k : ℕ). ⊎_elim (λ (h : scope k). within k h) (λ (e : k ≡ n). let lt = f.0 in let r : k < size = omega arith in r) in
       let q = (Expressions.way size count e).deliver (InLocal n) first l in
       fine_two (begin_of (mentions n e) n q) (Statements.declare size count first out ds rest q.labels)
-      (fine_begin (mentions n e) n q f.0 ((fine_way scene size count first block takes calls fits room (more scope n) wider e f.1 s.0).deliver (InLocal n) first l (omega arith) (let lt = f.0 in omega arith)))
+      (fine_begin (mentions n e) n q f.0 ((fine_way scene size count first block takes calls fits room (more scope n) wider e f.1 s.0).deliver
+      (InLocal n) first l (omega arith) (let lt = f.0 in omega arith)))
       (fine_declare (more scope n) wider ds rest q.labels f.2 s.1)
   fine_declare scope within (StoreOf t o e ∷ ds) rest l f s =
       let p = (Expressions.way size count e).low first l in
@@ -367,8 +368,8 @@ fine_body scene count pointer takes calls g l stacked f s =
     let end = delivered out (due (Num 0) first p.labels) in
     let h = fine_acts scene size count first g.block out takes calls fits room reaches no_local (λ n k. absurd k) false g.body 0 0 w.labels f s in
     let q = fine_two scene size count first g.block out takes calls fits room reaches p end h
-        (fine_zero scene size count first g.block out takes calls fits room reaches p.labels) in
+    (fine_zero scene size count first g.block out takes calls fits room reaches p.labels) in
     let all = fine_two scene size count first g.block out takes calls fits room reaches w (two_done p end)
-        (fine_way_in scene size pointer g.block l stacked) q in
+    (fine_way_in scene size pointer g.block l stacked) q in
     let le = all.grows in
     record { grows = omega arith; items = all.items }
