@@ -1,6 +1,7 @@
 -- Each function fits the frame that it needs.
 use Rattle.std.proofs.Common.{◌≡◌, ℕ, zero, suc, ◌+◌, ◌*◌, ◌<◌, ◌≤◌, List, [], ◌∷◌, length, Some, refl, ap, arith, sym, subst}
 use Rattle.std.specs.Prelude.{◌-◌, ◌/◌, max, slice_get}
+use Rattle.std.proofs.lemmas.Bool.{ne_eqb}
 use Rattle.c_types.specs.declared.typed.Variable.{Variable}
 use Rattle.c_types.specs.declared.typed.Variable.TheVariants as variables
 use Rattle.tree_core.specs.declared.program.TreeFn.{TreeFn}
@@ -75,9 +76,12 @@ way_in_holds (suc block) size pointer l m = record {
   items = next (omega arith) (next (omega arith) (next (omega arith) (next (omega arith) (next (omega arith) none))));
 }
 
+words_fit : (block : ℕ) → block_words (suc block) ≡ 8
+words_fit block = rw (ne_eqb (suc block) 0 (λ e. absurd (omega arith))) refl
+
 need_fits : (block size m t : ℕ) → 1 ≤ m → 2 * t ≤ 2 * first_temporary size block + 3 * m → t + 1 + most block m ≤ size + (block_words block + 3 * m)
 need_fits zero size m t one h = omega arith
-need_fits (suc block) size m t one h = let few = rich_most m in omega (arith, few)
+need_fits (suc block) size m t one h = let few = rich_most m in let words = words_fit block in omega (arith, few, words)
 
 -- items that fit a frame
 record FitsIn (need : ℕ) (p : Emitted) : Type 0 where

@@ -14,7 +14,7 @@ use Rattle.c_program.specs.Need.{nodes, maybe_nodes, returned_nodes, declared_no
 use Rattle.c_sound.specs.Stands.{Stands, StandsMaybe, StandsDeclared, StandsAct, StandsActs}
 use Rattle.c_lower_scheme.specs.Trees.{Num, Item, Jump}
 use Rattle.c_lower_scheme.specs.Parts.{Lowered, Emitted, Destination, InLocal, nothing, due, delivered}
-use Rattle.c_lower_scheme.specs.Places.{in_block, where_of}
+use Rattle.c_lower_scheme.specs.Places.{where_of}
 use Rattle.c_lower_scheme.specs.Expressions.{way}
 use Rattle.c_lower_scheme.specs.Mentions.{mentions}
 use Rattle.c_lower_scheme.specs.Zeros.{is_zeroed}
