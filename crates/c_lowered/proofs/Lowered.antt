@@ -20,7 +20,7 @@ has_parts p s =
     let stay = functions_stay p in
     record {
       count = stay.count;
-      functions = λ n g f e d. record { same = stay.functions n g f e d; fits = each_function_fits p n g f e d };
+      functions = λ n g f e d. record { same = stay.functions n g f e d; fits = each_function_fits p s n g f e d };
       objects = stay.objects;
       few = few_args p ∣ s ∣₁;
       labels = labels_stay p s;
