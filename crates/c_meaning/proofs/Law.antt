@@ -136,7 +136,7 @@ module _ (R : ℕ → Runs → Runs → Type 0) (kept : Kept R) where
       (λ area. trap_kept k (beginning area (suc n) p) _ _ (λ b. store_kept k int (Memory pointer) (add32 b (suc n)) _ _ (λ v st. h (with_block b st))))))
 
   released_kept : (k : ℕ) (objects : List Object) (block : ℕ) (κ μ : Behind) → OnBehind R k κ μ → OnBehind R k (released objects block κ) (released objects block μ)
-  released_kept k objects zero κ μ h = h
+  released_kept k objects zero κ μ h w = h w
   released_kept k objects (suc n) κ μ h w = λ st. wild_kept k st.call.block _ _
       (λ b. wild_kept k (address objects (pointer_number objects)) _ _ (λ pointer. store_kept k int (Memory pointer) b _ _ (λ v. h w))) st
 

@@ -7,6 +7,7 @@ use Rattle.std.specs.Option.{option_map, option_copied}
 use Rattle.std.specs.Global.{Vec}
 use Rattle.std.specs.Borrow.{Bor}
 use Rattle.gg_base.specs.Runs.{Runs, stop, counted}
+use Rattle.tree_core.specs.declared.program.Object.{Object}
 use Rattle.c_types.specs.declared.typed.Expression.{Expression}
 use Rattle.c_types.specs.declared.types.CType.{CType}
 use Rattle.c_types.specs.declared.typed.Callee.{Callee}
@@ -40,12 +41,12 @@ use Rattle.c_meaning.specs.Values.{Rest, RestAll, Behind, Look, Body, chosen}
 use Rattle.c_meaning.specs.Meaning.{dropped, look_at, turn_at, arguments, expr, stmts}
 use Rattle.c_meaning.specs.Programs.{means}
 use Rattle.c_meaning.specs.Blocks.{claimed, released}
-use Rattle.c_meaning.specs.Calls.{passed, call, called, back, begun, performed}
+use Rattle.c_meaning.specs.Calls.{passed, call, called, answer, back, begun, performed}
 use Rattle.c_meaning.proofs.Law.{means_is}
 use Rattle.gg_base.specs.Turns.{end_of}
 use Rattle.c_meaning.specs.Pending.{program_of, tasks_of, with_value, with_flow, Signal, Valued, Leaves, Then, waits, to_come}
 use Rattle.c_meaning.specs.Pending.{stack, bottom, before, going}
-use Rattle.c_meaning.specs.Parts.{loop_of, maybe_bor, state}
+use Rattle.c_meaning.specs.Parts.{loop_of, maybe_bor, activation, state}
 use Rattle.c_meaning.specs.Work.{arguments_work}
 use Rattle.c_meaning.specs.FrameWork.{value_work, flow_work, frame_work, frames_work}
 use Rattle.c_meaning.specs.Runner.{Progress, Makes, Does, Steps, Goes, Waiting, Counts, Resumes, Reaches}
@@ -231,6 +232,19 @@ passes {new} {event} m f done more x v t ts all es is kept pushed w =
     ∙ ap (λ y. arguments p (means p) es ts (λ vs. call p (means p) f (done ++ y ∷ vs) κ) st) (sym kept)
     ∙ ap (λ (μ : RestAll). arguments p (means p) es ts μ st) (λ i vs. call p (means p) f (sym (append_assoc done (x ∷ []) vs) i) κ)
     ∙ ap (λ l. arguments p (means p) es ts (λ vs. call p (means p) f (l ++ vs) κ) st) (sym pushed)
+    ) (omega arith)
+
+-- a call is left, and its caller goes on
+pub call_ends : {new : Machine} {event : Event} (m : Machine) (given left : Store) (caller : Activation) (active block v : ℕ) (w : Flow) (objects : List Object) → objects ≡ m.program.now.objects
+    → ((κ : Behind) (w : Flow) → released objects block κ w (state m.store) ≡ κ w (state given)) → state left ≡ record (state given) { call = activation caller; active = active } → v ≡ answer w
+    → Goes (record m { store = left }) (controls.Value v) event new → Makes m (λ κ. before (program_of m) (ForCall caller active block) κ (Leaves w)) 2 event new
+call_ends {new} {event} m given left caller active block v w objects same gives goes answers h =
+    let κ : Behind = λ w st. waits m (Valued (answer w)) (record st { call = activation caller; active = active }) in
+    over h (
+    sym (ap (λ (os : List Object). released os block κ w (state m.store)) same)
+    ∙ gives κ w
+    ∙ ap (λ x. waits m (Valued x) (record (state given) { call = activation caller; active = active })) (sym answers)
+    ∙ ap (λ st. waits m (Valued v) st) (sym goes)
     ) (omega arith)
 
 -- a call of a function begins: its block is taken, or it has none

@@ -1,5 +1,6 @@
 -- A block is taken, step by step, or there is no room for it.
-use Rattle.std.proofs.Common.{◌≡◌, ℕ, zero, suc, List, Option, Some, None, refl}
+use Rattle.std.proofs.Common.{◌≡◌, ℕ, zero, suc, List, Option, Some, None, refl, sym, ap, ◌∙◌}
+use Rattle.std.specs.Prelude.{Bool, is_some, unwrap_or}
 use Rattle.gg_base.specs.declared.run.End.TheVariants.{Wild, Trapped}
 use Rattle.gg_base.specs.Runs.{Runs, stop}
 use Rattle.gg_base.specs.Arithmetic.{add32}
@@ -9,7 +10,8 @@ use Rattle.c_types.specs.Constants.{converted}
 use Rattle.c_meaning.specs.declared.flow.Flow.{Flow}
 use Rattle.c_meaning.specs.declared.store.Spot.TheVariants.{Memory}
 use Rattle.c_meaning.specs.State.{State, address, held, put}
-use Rattle.c_meaning.specs.Values.{Behind}
+use Rattle.c_meaning.specs.Values.{Behind, or_wild, written, store_at}
+use Rattle.c_meaning.specs.Parts.{changed_if}
 use Rattle.c_meaning.specs.Blocks.{int, pointer_number, area_number, beginning, with_block, claimed, released}
 
 module _ (objects : List Object) where
@@ -60,10 +62,24 @@ module _ (objects : List Object) where
       → put int (Memory pointer) b st ≡ Some st' → (κ : Behind) (w : Flow) → released objects n κ w st ≡ κ w st'
   unfolding converted kept
   gives zero b pointer st st' some begins at puts κ w = absurd (some refl)
-  gives (suc n) b pointer st st' some begins at puts κ w = rw (begins, at, puts) refl
+  gives (suc n) b pointer st st' some begins at puts κ w =
+      ap (λ o. or_wild o (λ b. or_wild (address objects (pointer_number objects)) (λ pointer. store_at int (Memory pointer) b (λ v. κ w))) st) begins
+      ∙ ap (λ o. or_wild o (λ pointer. store_at int (Memory pointer) b (λ v. κ w)) st) at ∙ ap (λ o. written o b (λ v. κ w)) puts
 
   pub gives_none : (n b pointer : ℕ) (st : State) → (n ≡ 0 → ⊥) → st.call.block ≡ Some b → address objects (pointer_number objects) ≡ Some pointer
       → put int (Memory pointer) b st ≡ None → (κ : Behind) (w : Flow) → released objects n κ w st ≡ stop Wild
   unfolding converted kept
   gives_none zero b pointer st some begins at none κ w = absurd (some refl)
-  gives_none (suc n) b pointer st some begins at none κ w = rw (begins, at, none) refl
+  gives_none (suc n) b pointer st some begins at none κ w =
+      ap (λ o. or_wild o (λ b. or_wild (address objects (pointer_number objects)) (λ pointer. store_at int (Memory pointer) b (λ v. κ w))) st) begins
+      ∙ ap (λ o. or_wild o (λ pointer. store_at int (Memory pointer) b (λ v. κ w)) st) at ∙ ap (λ o. written o b (λ v. κ w)) none
+
+  given_to : (n b pointer : ℕ) (st st' : State) (done : Bool) (o : Option State) → (n ≡ 0 → ⊥) → st.call.block ≡ Some b → address objects (pointer_number objects) ≡ Some pointer
+      → put int (Memory pointer) b st ≡ o → done ≡ is_some o → st' ≡ unwrap_or o st → (κ : Behind) (w : Flow) → released objects n κ w st ≡ changed_if done st' (κ w)
+  given_to n b pointer st st' done None some begins at puts test new κ w = gives_none n b pointer st some begins at puts κ w ∙ sym (ap (λ d. changed_if d st' (κ w)) test)
+  given_to n b pointer st st' done (Some s) some begins at puts test new κ w =
+      gives n b pointer st s some begins at puts κ w ∙ sym (ap (κ w) new) ∙ sym (ap (λ d. changed_if d st' (κ w)) test)
+
+  pub given_back : (n b pointer : ℕ) (st st' : State) (done : Bool) → (n ≡ 0 → ⊥) → st.call.block ≡ Some b → address objects (pointer_number objects) ≡ Some pointer
+      → done ≡ is_some (put int (Memory pointer) b st) → st' ≡ unwrap_or (put int (Memory pointer) b st) st → (κ : Behind) (w : Flow) → released objects n κ w st ≡ changed_if done st' (κ w)
+  given_back n b pointer st st' done some begins at test new κ w = given_to n b pointer st st' done (put int (Memory pointer) b st) some begins at refl test new κ w
