@@ -152,7 +152,7 @@ fn store_text(
     done: &mut Vec<Declaration>,
 ) -> Result<(), AllocError>
     requires near { MatchOption text (Unit {0}) (λ bytes. offset + length bytes.now < 2 ^ 32) }
-    ensures { OnOk result (map declaration done.new.items ≡ map declaration done.old.items ++ text_stored of offset (option_now text)) }
+    ensures { OnOk result (map declaration done.new.items ≡ map declaration done.old.items ++ text_stored of offset (option_now text.entry)) }
 {
     let Some(text) = text else {
         return Ok(());
