@@ -28,7 +28,8 @@ use Rattle.c_lower_follows.proofs.Placing.{place_on, SmallPlace, PurePlace, Fits
 use Rattle.c_lower_follows.proofs.Storing.{Held, good, go, DoesIt, IsReady, IsPlace, then_at, assign_root, address_by, use_number, hold, waits}
 use Rattle.c_lower_follows.proofs.Doing.{Makes, since_both, save_temp, Maps}
 
-module _ (program : TreeProgram) (code : List TreeItem) (callers : List Activation) (size count first : ℕ) (scope : ℕ → Type 0) (level : ℕ) (within : (x : ℕ) → scope x → x < size) (own : size ≤ first) where
+module _ (program : TreeProgram) (code : List TreeItem) (callers : List Activation) (size count first : ℕ) (scope : ℕ → Type 0) (level : ℕ) (within : (x : ℕ) → scope x → x < size)
+    (own : size ≤ first) where
   abbrev pub agreed : State → Desk → Type 0
   agreed st d = good program code callers size count first scope level within own st d
 
@@ -222,7 +223,8 @@ module _ (program : TreeProgram) (code : List TreeItem) (callers : List Activati
         small = does.small;
         below_value = made_below f (g ty) c u (read_from ty s) q.tree made (below_more u (next_if c u) q.tree (next_grows c u) does'.below)
             (λ e. below_read program code callers size count first scope level within own s ty (next_if c u) (omega (arith, does.grows, up)) (more p (next_if c u) up does.fits));
-        small_value = made.small (saved c u (read_from ty s)) q.tree (small_saved c u (read_from ty s) (small_read program code callers size count first scope level within own s ty does.small)) does'.small;
+        small_value =
+            made.small (saved c u (read_from ty s)) q.tree (small_saved c u (read_from ty s) (small_read program code callers size count first scope level within own s ty does.small)) does'.small;
         runs = λ k le is κ res st d ag h.
             let b : List Item = saving c u (read_from ty s) ++ q.items in
             onward k is0 b is d _ (does.runs k le (b ++ is) (λ ty s. read_at ty s (λ x. n ty (λ y. g ty x y (κ ty s)))) (resolves_split code is0 b is res) st d ag
@@ -276,7 +278,8 @@ module _ (program : TreeProgram) (code : List TreeItem) (callers : List Activati
   stays_same : (is : List Item) (a : Tree) (p v u : ℕ) (ty : CType) (st : State) (d : Desk) (st' : State) (d' : Desk) → stays size count is a ≡ true → Below p a
       → Held size p v u (saving (not (is_nil is)) u (read_from ty (InMem a)) ++ is) st d st' d' → p ≤ u → value program a d' ≡ value program a d
   stays_same [] a p v u ty st d st' d' e below s le = ap (value program a) (s.same refl).1
-  stays_same (i ∷ is) a p v u ty st d st' d' e below s le = value_stable program size p a d d' (and_parts (is_leaf a) (stable size a) e).1 below (λ j szj lt. s.keeps j szj (inl lt) (λ e. omega arith))
+  stays_same (i ∷ is) a p v u ty st d st' d' e below s le =
+      value_stable program size p a d d' (and_parts (is_leaf a) (stable size a) e).1 below (λ j szj lt. s.keeps j szj (inl lt) (λ e. omega arith))
 
   update_mem : (b : Bool) (a : Tree) (is0 : List Item) (ty : CType) (p l t : ℕ) (f : Tree → Tree → Tree) (g : CType → ℕ → ℕ → Rest → State → Runs) (q : Lowered) (m : RestAt → State → Runs)
       (n : CType → Rest → State → Runs) → not (stays size count q.items a) ≡ b → first ≤ t → MakesIt f (g ty)

@@ -39,7 +39,8 @@ pub record Held (size t0 v u : ℕ) (items : List Item) (st : State) (d : Desk) 
   pub keeps : (j : ℕ) → size ≤ j → (j < t0) ⊎ (v ≤ j) → (j ≡ u → ⊥) → d'.locals j ≡ d.locals j
   pub same : items ≡ [] → (st' ≡ st) × (d' ≡ d)
 
-module _ (program : TreeProgram) (code : List TreeItem) (callers : List Activation) (size count first : ℕ) (scope : ℕ → Type 0) (level : ℕ) (within : (x : ℕ) → scope x → x < size) (own : size ≤ first) where
+module _ (program : TreeProgram) (code : List TreeItem) (callers : List Activation) (size count first : ℕ) (scope : ℕ → Type 0) (level : ℕ) (within : (x : ℕ) → scope x → x < size)
+    (own : size ≤ first) where
   abbrev pub good : State → Desk → Type 0
   good st d = ok program code callers size count first scope level st d
 

@@ -11,7 +11,7 @@ use Rattle.c_meaning.specs.declared.store.Spot.TheVariants.{Memory, InBlock}
 use Rattle.c_meaning.specs.State.{State, address, put, put_zeros}
 use Rattle.c_meaning.specs.Values.{Behind, or_wild, or_trap, written, read_at, store_at}
 
-abbrev int : CType
+abbrev pub int : CType
 int = types.Integer ints.Int
 
 -- the numbers of the stack's pointer and of its area
