@@ -22,7 +22,7 @@ use Rattle.c_lower_bounds.proofs.Law.{each_function_fits}
 use Rattle.c_sound_texts.proofs.Law.{typed_is_sound}
 
 pub sound : (s : Program) → ∥ IsSound (program s.held) ∥₁
-sound s = ∥∥₁_map s.is_typed (λ t. typed_is_sound (program s.held) t.unit t.tokens t.typed)
+sound s = ∥∥₁_map s.is_typed (λ t. typed_is_sound (program s.held) t.unit t.ends t.tokens t.typed)
 
 -- what holds of the answer that the definition gives holds of the answer
 answered : {A E : Type 0} (r : Result A E) (x : A) (P : A → Type 0) → IfOk r (λ q. q ≡ x) → P x → IfOk r P

@@ -8,9 +8,9 @@ use Rattle.c_types.specs.declared.typed.UnaryOperator.{UnaryOperator}
 use Rattle.c_types.specs.declared.typed.UnaryOperator.TheVariants as unaries
 use Rattle.c_types.specs.declared.typed.ArithmeticOperator.TheVariants as ariths
 use Rattle.c_types.specs.Constants.{scale}
-use Rattle.c_types.specs.Typed.{APlace, VariableAt, PointedBy, ElementBy, AnExpression, Constant, LiteralAt, ArrayAt, ReadOf, SizeOfExpression, SizeOf, AddressOf, CallOf, StepOf}
-use Rattle.c_types.specs.Typed.{UnaryOf, CastTo, ConvertTo, ArithmeticOf, CompareOf, BothOf, EitherOf, AdvanceOf, AdvanceByOf, RetreatOf, DistanceOf, ChoiceOf, AssignTo}
-use Rattle.c_types.specs.Typed.{ArithmeticAssignTo, AdvanceAssignTo, RetreatAssignTo, CommaOf, place_type}
+use Rattle.c_types.specs.Typed.{APlace, VariableAt, PointedBy, ElementBy, AnExpression, Constant, LiteralAt, ArrayAt, ReadOf, SizeOfExpression, SizeOf}
+use Rattle.c_types.specs.Typed.{UnaryOf, CastTo, ConvertTo, ArithmeticOf, AdvanceOf, AdvanceByOf, RetreatOf, DistanceOf}
+use Rattle.c_types.specs.Typed.{place_type}
 use Rattle.tree_core.specs.declared.program.TreeItem.{TreeItem}
 use Rattle.tree_core.specs.declared.program.TreeItem.TheVariants as tree_item
 use Rattle.c_lower_scheme.specs.Trees.{Tree, Num, Neg, Com, Bin, Item, divides, reads, breaks, AssignLoc}

@@ -92,7 +92,7 @@ names_right p sound =
     let main = sound.main in
     record {
       one_main = name_once pointer count (codes "main") p.routines 0 p.main main.0 main.1 main.2 sound.only_main;
-      main_args = each_lowered (λ f. main_takes_nothing f ≡ true) count p.routines 0 (λ f g m e.
+      main_args = each_lowered (λ f. main_takes_nothing f ≡ true) pointer count p.routines 0 (λ f g m e.
           takes_nothing (bytes_eq g.name (codes "main")) (length g.parameters) (λ t.
           let at : f ≡ p.main = sound.only_main f g e t in
           let here : slice_get p.routines p.main ≡ Some g = subst (λ k. slice_get p.routines k ≡ Some g) at e in

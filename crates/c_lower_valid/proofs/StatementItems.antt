@@ -1,5 +1,5 @@
 -- Each statement's items name what is there, with calls in order.
-use Rattle.std.proofs.Common.{◌≡◌, ⊎_elim, ℕ, zero, suc, ◌≤◌, ◌<◌, List, [], ◌∷◌, ◌++◌, length, Option, Some, None, arith}
+use Rattle.std.proofs.Common.{◌≡◌, ⊎_elim, ℕ, zero, suc, ◌+◌, ◌*◌, ◌≤◌, ◌<◌, List, [], ◌∷◌, ◌++◌, length, Option, Some, None, arith}
 use Rattle.std.specs.Prelude.{Bool, true, false, max}
 use Rattle.c_types.specs.Types.{size_of}
 use Rattle.c_types.specs.declared.types.CType.{CType}
