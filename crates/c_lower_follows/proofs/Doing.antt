@@ -20,7 +20,7 @@ use Rattle.c_meaning.specs.Values.{Rest, chosen}
 use Rattle.c_types.specs.declared.types.Integer.TheVariants as ints
 use Rattle.c_lower_scheme.specs.Trees.{Tree, Num, Gaddr, Loc, Item, AssignLoc, AssignMem, Cbr, Ret, divides, reads, breaks, stable}
 use Rattle.c_lower_scheme.specs.Spelling.{spelled_all}
-use Rattle.c_lower_scheme.specs.Parts.{Lowered, Pair, Emitted, Lowering, due, over, over_two, Destination, InLocal, AsResult, Releasing, delivered, released}
+use Rattle.c_lower_scheme.specs.Parts.{Lowered, Pair, Emitted, Lowering, due, over, over_two, Destination, InLocal, AsResult, Releasing, delivered}
 use Rattle.c_lower_scheme.specs.Saving.{saving, saved, next_if}
 use Rattle.c_lower_scheme.specs.Conditions.{valued, effective, mapped, test}
 use Rattle.c_lower_scheme.specs.Values.{must, join_so, join, binary, joined}
