@@ -1,6 +1,7 @@
 -- Externals and declarators that are read one after another: what is left decides.
 use Rattle.std.proofs.Common.{◌≡◌, ℕ, ◌+◌, ◌<◌, ◌≤◌, List, [], ◌∷◌, length, drop, get_or, map, refl, ap, sym, ◌∙◌, Result, Ok, Option, Some, None, true, false, Bool, cond, arith}
-use Rattle.std.specs.List.{position_from}
+use Rattle.std.specs.List.{position_from, list_any}
+use Rattle.std.specs.Prelude.{nat_lt, ◌||◌}
 use Rattle.std.proofs.lemmas.List.{drop_more, drop_all}
 use Rattle.c_phrases.specs.declared.operator.Spec.{Spec}
 use Rattle.c_phrases.specs.declared.tree.Declarator.{Declarator}
@@ -89,6 +90,14 @@ main_from (r ∷ rs) n = by (begins_run r) (main_from rs (n + 1))
 
 pub main_is : (rs : List Routine) → position_from begins_run 0 rs ≡ main_of (map routine rs)
 main_is rs = main_from rs 0 ∙ from_none (main_of (map routine rs))
+
+-- some function has memory locals
+abbrev pub has_block : Routine → Bool
+has_block r = nat_lt 0 r.block
+
+pub any_is : (rs : List Routine) → list_any has_block rs ≡ any_block (map routine rs)
+any_is [] = refl
+any_is (r ∷ rs) = ap (λ (b : Bool). nat_lt 0 r.block || b) (any_is rs)
 
 -- a whole text: the functions that are known, and the externals, as the code holds them
 module _ (items l m : List External) (ends : List ℕ) (end : ℕ) (f : Known) (begun : Text) (is_l : l ≡ items) (is_m : m ≡ items)
