@@ -1,5 +1,5 @@
 -- A number is stored in a data area: it stays one of bytes, and as long.
-use Rattle.std.proofs.Common.{◌≡◌, ℕ, zero, suc, ◌+◌, ◌≤◌, ◌<◌, ◌^◌, ◌%◌, List, [], ◌∷◌, ◌++◌, length, Some, None, refl, ap, arith, subst, length-append}
+use Rattle.std.proofs.Common.{◌≡◌, ℕ, zero, suc, ◌+◌, ◌≤◌, ◌<◌, ◌^◌, ◌%◌, List, [], ◌∷◌, ◌++◌, length, Some, None, refl, arith, subst, length-append}
 use Rattle.std.specs.Prelude.{Bool, true, false, cond, nat_le, slice_set, take, drop, ◌-◌}
 use Rattle.std.specs.Int.{w16, w32, to_le_bytes}
 use Rattle.std.proofs.lemmas.Bool.{and_parts, leb-true}

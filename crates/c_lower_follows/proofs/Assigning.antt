@@ -151,7 +151,7 @@ module _ (program : TreeProgram) (code : List TreeItem) (callers : List Activati
 
   -- a place is read, and then the other side comes to a value
   change : (c : Bool) (s : Where) (ty : CType) (f : Tree → Tree → Tree) (g : ℕ → ℕ → Rest → State → Runs) (t0 u : ℕ) (q : Lowered) (n : Rest → State → Runs) (k : ℕ) → k ≤ level
-      → (is : List Item) (κ : CType → Spot → Rest) (st : State) (d : Desk) → (c ≡ false → q.items ≡ []) → size ≤ t0 → q.temps ≤ u → PurePlace s → SmallPlace s
+      → (is : List Item) (κ : CType → Spot → Rest) (st : State) (d : Desk) → (c ≡ false → q.items ≡ []) → first ≤ t0 → q.temps ≤ u → PurePlace s → SmallPlace s
       → FitsPlace program code callers size count first scope level u s → MakesIt f g → DoesLow q t0 n → Resolves code ((saving c u (read_from ty s) ++ q.items) ++ is) → agreed st d
       → ((st' : State) (d' : Desk) → Held size t0 q.temps u (saving c u (read_from ty s) ++ q.items) st d st' d' → StaysAt s d d')
       → ((st' : State) (d' : Desk) → agreed st' d' → Held size t0 q.temps u (saving c u (read_from ty s) ++ q.items) st d st' d'
@@ -331,7 +331,7 @@ module _ (program : TreeProgram) (code : List TreeItem) (callers : List Activati
       let d1 : Desk = record d { locals = with_local d.locals o x } in
       let at_x : value program (Loc o) d1 ≡ Number x = ap there (set_same d.locals o x) in
       let run = assign_root program code callers size count first scope level within own (InLoc n) ty (f (Loc o)) k is (κ x) st d1 tt (made.small (Loc o) tt) ag1
-      (λ st2 d2 ag2 kept. h x st2 d2 ag2 (λ j szj ne. kept j szj ∙ set_other d.locals o x j ne) (kept o sz ∙ set_same d.locals o x)) in
+      (λ st2 d2 ag2 kept. h x st2 d2 ag2 (λ j szj ne. kept j szj ∙ set_other d.locals o x j ne) (kept o (omega arith) ∙ set_same d.locals o x)) in
       let one = subst (λ r. Leads k r (gone (i ∷ is) d1)) (made.maps (Loc o) d1 (λ v. store_at ty (Local n) v (λ v. κ x) st)) run in
       subst (λ o. Leads k (on o (λ y. store_at ty (Local n) (g y) (λ v. κ x) st)) (gone (i ∷ is) d1)) at_x one))
   post_at (InArg n) ty f g o k is κ st d sz made pure small fit ag h =
@@ -342,7 +342,7 @@ module _ (program : TreeProgram) (code : List TreeItem) (callers : List Activati
       let d1 : Desk = record d { locals = with_local d.locals o x } in
       let at_x : value program (Loc o) d1 ≡ Number x = ap there (set_same d.locals o x) in
       let run = assign_root program code callers size count first scope level within own (InArg n) ty (f (Loc o)) k is (κ x) st d1 tt (made.small (Loc o) tt) ag1
-      (λ st2 d2 ag2 kept. h x st2 d2 ag2 (λ j szj ne. kept j szj ∙ set_other d.locals o x j ne) (kept o sz ∙ set_same d.locals o x)) in
+      (λ st2 d2 ag2 kept. h x st2 d2 ag2 (λ j szj ne. kept j szj ∙ set_other d.locals o x j ne) (kept o (omega arith) ∙ set_same d.locals o x)) in
       let one = subst (λ r. Leads k r (gone (i ∷ is) d1)) (made.maps (Loc o) d1 (λ v. store_at ty (Parameter n) v (λ v. κ x) st)) run in
       subst (λ o. Leads k (on o (λ y. store_at ty (Parameter n) (g y) (λ v. κ x) st)) (gone (i ∷ is) d1)) at_x one))
   post_at (InMem a) ty f g o k is κ st d sz made pure small fit ag h =
@@ -360,7 +360,7 @@ module _ (program : TreeProgram) (code : List TreeItem) (callers : List Activati
       let at_x : value program (Loc o) d1 ≡ Number x = ap there (set_same d.locals o x) in
       let at_p : value program a d1 ≡ Number p = value_alike program o a d d1 fit (alike_set o o x d (omega arith)) ∙ ep in
       let run = assign_root program code callers size count first scope level within own (InMem a) ty (f (Loc o)) k is (κ x) st d1 small (made.small (Loc o) tt) ag1
-      (λ st2 d2 ag2 kept. h x st2 d2 ag2 (λ j szj ne. kept j szj ∙ set_other d.locals o x j ne) (kept o sz ∙ set_same d.locals o x)) in
+      (λ st2 d2 ag2 kept. h x st2 d2 ag2 (λ j szj ne. kept j szj ∙ set_other d.locals o x j ne) (kept o (omega arith) ∙ set_same d.locals o x)) in
       let one = subst (λ o'. Leads k (on o' (λ z. on (value program (f (Loc o)) d1) (λ v. store_at ty (Memory z) v (λ v. κ x) st))) (gone (i ∷ is) d1)) at_p run in
       let two = subst (λ r. Leads k r (gone (i ∷ is) d1)) (made.maps (Loc o) d1 (λ v. store_at ty (Memory p) v (λ v. κ x) st)) one in
       subst (λ o. Leads k (on o (λ y. store_at ty (Memory p) (g y) (λ v. κ x) st)) (gone (i ∷ is) d1)) at_x two))))

@@ -20,7 +20,7 @@ use Rattle.c_meaning.specs.Values.{Rest, chosen}
 use Rattle.c_types.specs.declared.types.Integer.TheVariants as ints
 use Rattle.c_lower_scheme.specs.Trees.{Tree, Num, Gaddr, Loc, Item, AssignLoc, AssignMem, Cbr, Ret, divides, reads, breaks, stable}
 use Rattle.c_lower_scheme.specs.Spelling.{spelled_all}
-use Rattle.c_lower_scheme.specs.Parts.{Lowered, Pair, Emitted, Lowering, due, over, over_two, Destination, InLocal, AsResult, Releasing, delivered, released}
+use Rattle.c_lower_scheme.specs.Parts.{Lowered, Pair, Emitted, Lowering, due, over, over_two, Destination, InLocal, AsResult, Releasing, delivered}
 use Rattle.c_lower_scheme.specs.Saving.{saving, saved, next_if}
 use Rattle.c_lower_scheme.specs.Conditions.{valued, effective, mapped, test}
 use Rattle.c_lower_scheme.specs.Values.{must, join_so, join, binary, joined}
@@ -348,8 +348,8 @@ module _ (program : TreeProgram) (code : List TreeItem) (callers : List Activati
         let kept : stored sizes.Long d.area x y ≡ Some area = ap (λ b. cond b (Some area) None) inside in
         let after : Desk = record d { area = area } in
         let ranged : Ranged (desk_sight after) = record { local = ag.ranged.local; argument = ag.ranged.argument; area = stored_bytes sizes.Long d.area x y area ag.ranged.area kept } in
-        let ends = ret_step program code callers k w is (λ v. stop ends.Trapped) after small ranged (λ v e. absurd (let z : ZeroDivisor ≡ Number v = sym (traps area) ∙ e in cc)) in
-        let done = subst (λ o. Leads k (on o (λ v. stop ends.Trapped)) (here (Ret w ∷ is) after)) (traps area) ends in
+        let traps_on = ret_step program code callers k w is (λ v. stop ends.Trapped) after small ranged (λ v e. absurd (let z : ZeroDivisor ≡ Number v = sym (traps area) ∙ e in cc)) in
+        let done = subst (λ o. Leads k (on o (λ v. stop ends.Trapped)) (here (Ret w ∷ is) after)) (traps area) traps_on in
         subst (λ o. Leads k (stop ends.Trapped) (written_at program code callers (Ret w ∷ is) d o)) (sym kept) done) in
         subst (λ o. Leads k (on o (λ y. stop ends.Trapped)) run) known
         (subst (λ o. Leads k (on o (λ x. on (value program (Loc n) d) (λ y. stop ends.Trapped))) run) opens.stands whole)
@@ -461,9 +461,9 @@ module _ (program : TreeProgram) (code : List TreeItem) (callers : List Activati
     binary_does f g a b m n made does does' =
         valued_does (λ t l. over_two f (joined size count a b t l)) (λ κ. m (λ x. n (λ y. g x y κ)))
         (λ t l sz.
-        let first = does.low t l sz in
+        let one = does.low t l sz in
         over_two_does f g (joined size count a b t l) t (λ κ. m (λ x. n (κ x))) made
-        (two_does (a.low t l) (b.low (a.low t l).temps (a.low t l).labels) t m n sz first (does'.low (a.low t l).temps (a.low t l).labels (omega (arith, first.grows)))))
+        (two_does (a.low t l) (b.low (a.low t l).temps (a.low t l).labels) t m n sz one (does'.low (a.low t l).temps (a.low t l).labels (omega (arith, one.grows)))))
 
     -- a pure operator over a value
     pub record Maps (f : Tree → Tree) (g : ℕ → ℕ) : Type 0 where

@@ -1,5 +1,5 @@
 -- A block is taken where a function begins, and given back where it is left.
-use Rattle.std.proofs.Common.{◌≡◌, ℕ, zero, suc, ◌+◌, ◌<◌, ◌^◌, List, ◌∷◌, ◌++◌, length, Option, Some, None, refl, ap, arith, sym, ◌∙◌, subst}
+use Rattle.std.proofs.Common.{◌≡◌, ℕ, suc, ◌+◌, ◌<◌, ◌^◌, List, ◌∷◌, ◌++◌, length, Option, Some, None, refl, ap, arith, sym, ◌∙◌, subst}
 use Rattle.std.specs.Prelude.{Bool, true, false, ◌&&◌, cond, slice_get, nat_le, ◌-◌, if◌then◌else◌}
 use Rattle.std.specs.Option.{option_map}
 use Rattle.std.proofs.lemmas.Bool.{leb-true, lt-ltb, le-ltb}
@@ -176,7 +176,9 @@ module _ (program : TreeProgram) (code : List TreeItem) (callers : List Activati
       → Leads k (or_wild o (λ area. or_trap (beginning area n q) (λ b. taking a n b κ)) st)
       (from (Cbr relations.Geu l (Bin ariths.Subtract (Bin ariths.Add (Gaddr (suc pointer)) (Num 262144)) (Loc size))
       (Num n) ∷ AssignLoc size (Bin ariths.Divide (Num 0) (Num 0)) ∷ Label l ∷ AssignMem ints.Int (Gaddr pointer) (Bin ariths.Add (Loc size) (Num n)) ∷ is) d)
-  second None e a n l q k is κ st d small at_a ag at_q there_is h = lost program code callers k _ d
+  second None e a n l q k is κ st d small at_a ag at_q there_is h =
+      lost program code callers k (spelled_all (Cbr relations.Geu l (Bin ariths.Subtract (Bin ariths.Add (Gaddr (suc pointer)) (Num 262144)) (Loc size)) (Num n)
+      ∷ AssignLoc size (Bin ariths.Divide (Num 0) (Num 0)) ∷ Label l ∷ AssignMem ints.Int (Gaddr pointer) (Bin ariths.Add (Loc size) (Num n)) ∷ is)) d
   second (Some ar) e a n l q k is κ st d small at_a ag at_q there_is h = tested a n l q ar k is κ st d small at_a (object_value (suc pointer) d ∙ ap there e) ag at_q there_is h
 
   -- an address of the stack's pointer that lies in each area that is as long
@@ -188,7 +190,7 @@ module _ (program : TreeProgram) (code : List TreeItem) (callers : List Activati
       → ((a : ℕ) → o ≡ Some a → Lies a → (st' : State) (d' : Desk) → inside st' d' → Leads k (κ st') (from is d'))
       → Leads k (or_wild o (λ x. read_at int (Memory x) (λ q. or_wild (address p.objects (area_number p.objects)) (λ area. or_trap (beginning area (suc n) q) (λ b. taking x (suc n) b κ)))) st)
       (from ((claiming size (suc size) pointer (suc n) l).items ++ is) d)
-  first_by None e n l k is κ st d small res ag h = lost program code callers k _ d
+  first_by None e n l k is κ st d small res ag h = lost program code callers k (spelled_all ((claiming size (suc size) pointer (suc n) l).items ++ is)) d
   first_by (Some a) e n l k is κ st d small res ag h =
       let w : Tree = Indir ints.Int (Gaddr pointer) in
       let js : List Item = Cbr relations.Geu l (Bin ariths.Subtract (Bin ariths.Add (Gaddr (suc pointer)) (Num 262144)) (Loc size)) (Num (suc n))

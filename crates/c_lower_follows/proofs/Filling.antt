@@ -1,6 +1,6 @@
 -- Values and zeros are stored in the block.
 use Rattle.std.proofs.Common.{◌≡◌, ℕ, zero, suc, ◌+◌, ◌*◌, ◌≤◌, ◌<◌, ◌^◌, List, ◌∷◌, ◌++◌, Option, Some, None, refl, ap, arith, sym, ◌∙◌, subst}
-use Rattle.std.specs.Prelude.{true, false, not, ◌==◌}
+use Rattle.std.specs.Prelude.{◌==◌}
 use Rattle.std.proofs.lemmas.Bool.{not-false, not-true, eqb-true, eqb-false}
 use Rattle.gg_base.specs.declared.relation.Rel.TheVariants as relations
 use Rattle.gg_base.specs.Arithmetic.{add32}
@@ -8,7 +8,6 @@ use Rattle.gg_base.specs.Runs.{Runs}
 use Rattle.tree_core.specs.Area.{stored}
 use Rattle.tree_core.specs.declared.program.TreeItem.{TreeItem}
 use Rattle.tree_core.specs.declared.program.TreeProgram.{TreeProgram}
-use Rattle.tree_meaning.specs.declared.value.Value.{Value}
 use Rattle.tree_meaning.specs.declared.value.Value.TheVariants.{Number}
 use Rattle.tree_meaning.specs.State.{Activation, with_local, behind}
 use Rattle.tree_meaning.specs.Values.{bind, there}

@@ -14,7 +14,7 @@ use Rattle.c_program.specs.Statements.{SomeActions}
 use Rattle.c_program.specs.Programs.{ARoutine, AProgram}
 use Rattle.c_meaning.specs.declared.flow.Flow.{Flow}
 use Rattle.c_meaning.specs.declared.flow.Flow.TheVariants.{Onward, Returned}
-use Rattle.c_meaning.specs.State.{State, address}
+use Rattle.c_meaning.specs.State.{State}
 use Rattle.c_meaning.specs.Values.{Behind, Task, Body, Next}
 use Rattle.c_meaning.specs.Meaning.{stmts, task}
 use Rattle.c_meaning.specs.Blocks.{pointer_number, claimed, released}

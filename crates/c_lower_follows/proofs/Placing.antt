@@ -1,5 +1,5 @@
 -- What the items of places and assignments do.
-use Rattle.std.proofs.Common.{◌≡◌, ℕ, zero, ◌+◌, ◌≤◌, ◌<◌, ◌^◌, ◌%◌, List, [], ◌++◌, length, Option, Some, None, refl, ap, arith, sym, ◌∙◌, subst, ⊎_elim}
+use Rattle.std.proofs.Common.{◌≡◌, ℕ, ◌+◌, ◌≤◌, ◌<◌, ◌^◌, ◌%◌, List, [], ◌++◌, length, Option, Some, None, refl, ap, arith, sym, ◌∙◌, subst, ⊎_elim}
 use Rattle.std.specs.Prelude.{Bool, true, false, cond, slice_get, slice_set, nat_lt, take, drop, ◌-◌}
 use Rattle.std.specs.Int.{w16, to_le_bytes}
 use Rattle.std.specs.Option.{option_map}

@@ -1,13 +1,12 @@
 -- What each statement is lowered to does what the statement means.
 use Rattle.std.proofs.Common.{◌≡◌, ℕ, zero, suc, ◌+◌, ◌*◌, ◌≤◌, ◌<◌, ◌^◌, List, [], ◌∷◌, ◌++◌, length, Option, Some, None, refl, ap, arith, sym, subst, ◌⊎◌, inl, inr, ⊎_elim, append_assoc}
-use Rattle.std.specs.Prelude.{Bool, true, false, cond, slice_get, slice_set, nat_lt, ◌-◌}
+use Rattle.std.specs.Prelude.{Bool, true, false, slice_get, slice_set, nat_lt, ◌-◌}
 use Rattle.gg_base.specs.Runs.{Runs, counted}
 use Rattle.tree_core.specs.declared.program.Object.{Object}
 use Rattle.tree_core.specs.declared.program.TreeItem.{TreeItem}
 use Rattle.tree_core.specs.declared.program.TreeFn.{TreeFn}
 use Rattle.tree_core.specs.declared.program.TreeProgram.{TreeProgram}
-use Rattle.tree_meaning.specs.State.{Activation, with_local, behind, returned}
-use Rattle.tree_meaning.specs.Meaning.{runs}
+use Rattle.tree_meaning.specs.State.{Activation, with_local, behind}
 use Rattle.c_types.specs.declared.types.CType.{CType}
 use Rattle.c_types.specs.declared.typed.Callee.{Callee}
 use Rattle.c_types.specs.declared.typed.Variable.{Variable}
@@ -25,7 +24,7 @@ use Rattle.c_meaning.specs.Blocks.{pointer_number, block_set}
 use Rattle.c_meaning.specs.Values.{Rest, Behind, ALoop, plain_loop, for_loop, Task, Look, Next, chosen, written, store_at}
 use Rattle.c_meaning.specs.Meaning.{expr, dropped, turned, turn_by, look_by, local_set, declared, followed, stmt}
 use Rattle.c_meaning.specs.Meaning.{stmts, task, returned as returned_source}
-use Rattle.c_lower_scheme.specs.Trees.{Tree, Num, Item, Label, AssignLoc, AssignMem, Jump}
+use Rattle.c_lower_scheme.specs.Trees.{Num, Item, Label, AssignLoc, AssignMem, Jump}
 use Rattle.c_lower_scheme.specs.Spelling.{spelled_all}
 use Rattle.c_lower_scheme.specs.Parts.{InLoc, Emitted, Destination, InLocal, AsResult, Releasing, due, delivered}
 use Rattle.c_lower_scheme.specs.Places.{fitted, found, in_block, integer_of, local_in}
@@ -39,7 +38,7 @@ use Rattle.c_sound.specs.Fits.{Fits, FitsMaybe, more, declaring, behind_act, Fit
 use Rattle.c_sound.specs.Stands.{Stands, StandsMaybe, StandsDeclared, StandsAct, StandsActs}
 use Rattle.c_lower_scheme.proofs.Places.{local_is}
 use Rattle.c_lower_follows.proofs.Leads.{Leads, leads_quiet, leads_counted, leads_none, leads_below}
-use Rattle.c_lower_follows.proofs.Steps.{on, Desk, Resolves, resolves_back, at, at_items, state, moves, jump_step, jump_counts, label_step, label_counts}
+use Rattle.c_lower_follows.proofs.Steps.{Desk, Resolves, resolves_back, at, at_items, moves, jump_step, jump_counts, label_step, label_counts}
 use Rattle.c_lower_follows.proofs.Steps.{resolves_split}
 use Rattle.c_lower_follows.proofs.Agreeing.{extent_of, Agree}
 use Rattle.c_lower_follows.proofs.Locals.{local_step, cleared_by, set_local}

@@ -129,7 +129,8 @@ impl<'a> Machine<'a> {
 
     // A call with a block of so many bytes is left so, and its caller goes on.
     fn end_call(&mut self, caller: Activation, active: u32, block: u32, flow: Flow) -> Event
-        ensures { Makes self.old (λ κ. before (program_of self.old) (frames.ForCall caller active block) κ (Leaves flow)) 2 result self.new }
+        ensures { Makes self.old (λ κ. before (program_of self.old)
+            (frames.ForCall caller active block) κ (Leaves flow)) 2 result self.new }
     {
         let program = self.program;
         if self.store.release(program.objects.as_slice(), block) {

@@ -6,7 +6,7 @@ use Rattle.c_tokens.specs.declared.marks.Mark.TheVariants as marks
 use Rattle.c_phrases.specs.declared.operator.Spec.{Spec}
 use Rattle.c_phrases.specs.Classes.{Placed, sign}
 use Rattle.c_phrases.specs.Spelling.{onto_spec, onto_name}
-use Rattle.c_phrases.specs.Units.{SomeItems, params, AFunction, ADeclared}
+use Rattle.c_phrases.specs.Units.{SomeItems, AFunction, ADeclared}
 use Rattle.c_phrases.specs.Units.{function, globals, AnExternal}
 use Rattle.c_phrases.specs.UnitSpelling.{onto_params}
 use Rattle.c_phrases.specs.UnitSpelling.{onto_body, onto_declared, onto_externals}

@@ -243,8 +243,9 @@ declared_none : (ds : List ADeclaration) → AreStores ds → declared_size ds �
 declared_none [] all = refl
 declared_none (d ∷ ds) all =
     let h = all.0 in
-    let rest = declared_none ds all.1 in
-    rw (h.is) rest
+    let rest : declared_size ds ≡ 0 = declared_none ds all.1 in
+    let none : 0 + declared_size ds ≡ 0 = omega arith in
+    rw (h.is) none
 
 pub stores_are_none : (ds : List ADeclaration) (body : SomeActions) → AreStores ds → row_size (with_stores ds body) ≡ row_size body
 stores_are_none [] body all = refl

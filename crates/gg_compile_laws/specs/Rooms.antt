@@ -19,4 +19,5 @@ HasRooms q = (f n : ℕ) (g : TreeFn) (w : List Leaf) → slice_get q.functions 
 -- Where no function of a sound C program needs more than 1,024 words of its frame, its trees have room.
 abbrev pub LoweredProgramsHaveRooms : Type 0
 LoweredProgramsHaveRooms =
-    (p : AProgram) → IsSound p → ((n : ℕ) (g : ARoutine) → slice_get p.routines n ≡ Some g → need_of g.locals g.block g.body ≤ 1024) → HasRooms (lowered p)
+    (p : AProgram) → IsSound p
+    → ((n : ℕ) (g : ARoutine) → slice_get p.routines n ≡ Some g → need_of g.locals g.block g.body ≤ 1024) → HasRooms (lowered p)

@@ -5,7 +5,6 @@ use Rattle.c_tokens.specs.declared.token.Token.TheVariants as token
 use Rattle.c_tokens.specs.declared.marks.Mark.TheVariants as marks
 use Rattle.c_tokens.specs.declared.words.Key.TheVariants as keys
 use Rattle.c_phrases.specs.declared.operator.Spec.{Spec}
-use Rattle.c_phrases.specs.declared.operator.Storage.TheVariants as storages
 use Rattle.c_phrases.specs.declared.tree.Named.{Named}
 use Rattle.c_phrases.specs.Classes.{Placed, word, sign}
 use Rattle.c_phrases.specs.Phrases.{AnExp}

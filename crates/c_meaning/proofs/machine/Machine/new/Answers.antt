@@ -30,6 +30,7 @@ returns-in-Err c =
     let there = found c.args.program.now.routines.items c.deref.result.now c.args.program.now.main main c.deref.ensures.value lookup.3.0 lookup.1 in
     let zeros = rw c.as_slice-in-Some.ensures at c.in_ok-locals-in-Some.ensures in
     let area = rw c.as_slice.ensures at c.in_ok-area.ensures in
-    let claims = subst (λ (os : List Object). (κ : State → Runs) → claimed os main.block κ (state c.begin-store.result) ≡ stop (end_of c.in-Err.finish)) c.as_slice-in-Some-2.ensures c.in-Err.ensures in
+    let claims = subst (λ (os : List Object). (κ : State → Runs) → claimed os main.block κ (state c.begin-store.result) ≡ stop (end_of c.in-Err.finish))
+    c.as_slice-in-Some-2.ensures c.in-Err.ensures in
     rw c.of-in-Err.ensures (refused c.args.program c.args.input main c.begin-store.result c.in_ok-locals-in-Some.locals.items c.in_ok-area.area.items c.in-Err.finish
     (there, c.begin-store.ensures, zeros, area) claims)
