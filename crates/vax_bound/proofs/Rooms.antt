@@ -29,10 +29,10 @@ rooms_with len all fs f place e at = ap (rooms len) e ∙ rooms_push len fs f �
 
 -- ---- what is counted
 
-counted_inside : (k p q : ℕ) → counted_by k k p q ≡ cond (nat_lt p q) 0 1
+pub counted_inside : (k p q : ℕ) → counted_by k k p q ≡ cond (nat_lt p q) 0 1
 counted_inside k p q = ap (λ (b : Bool). cond b 1 (cond b 0 (cond (nat_lt p q) 0 1))) (le-ltb k k (omega arith))
 
-counted_call : (k l p q : ℕ) → k < l → counted_by k l p q ≡ 1
+pub counted_call : (k l p q : ℕ) → k < l → counted_by k l p q ≡ 1
 counted_call k l p q lt = ap (λ (b : Bool). cond b 1 (cond (nat_lt l k) 0 (cond (nat_lt p q) 0 1))) (lt-ltb k l lt)
 
 -- ---- the numbers of one step: of items, the places, what the frames leave, what is counted
