@@ -412,7 +412,8 @@ module _ (program : TreeProgram) (code : List TreeItem) (callers : List Activati
         record { keeps = kept; same = λ e. absurd (not_nil q.items (AssignLoc t q.tree) (Jump (suc l) ∷ Label l ∷ (r.items ++ T3)) (back_nil p.items T1 e)) } in
         bind_up k p.items T1 is d _ (asks.runs k le (T1 ++ is) (n κ) (o κ) res0 st d ag
         (λ st1 d1 ag1 s1. goes_on program code callers k l (T1 ++ is) d1 _
-        (ahead_joined l q.items T2 is (ahead_behind l q.items (T2 ++ is) (ahead_behind l (AssignLoc t q.tree ∷ Jump (suc l) ∷ []) (Label l ∷ ((r.items ++ T3) ++ is)) (ahead_here l ((r.items ++ T3) ++ is)))))
+        (ahead_joined l q.items T2 is (ahead_behind l q.items (T2 ++ is) (ahead_behind l (AssignLoc t q.tree ∷ Jump (suc l) ∷ []) (Label l ∷ ((r.items ++ T3) ++ is))
+        (ahead_here l ((r.items ++ T3) ++ is)))))
         (moves program code callers k (behind code l) (spelled_all ((r.items ++ T3) ++ is)) d1 _ else_at
         (bind_up k r.items T3 is d1 _ (does'.runs k le (T3 ++ is) κ res3 st1 d1 ag1
         (λ st2 d2 ag2 s2. save_temp program code callers size count scope level within k t r.tree (Label (suc l) ∷ is) (λ v. κ v st2) st2 d2 sz does'.small ag2
@@ -428,7 +429,8 @@ module _ (program : TreeProgram) (code : List TreeItem) (callers : List Activati
         (λ v lt e ag3.
         let d3 : Desk = record d2 { locals = with_local d2.locals t v } in
         jump_step program code callers k (suc l) (Label l ∷ ((r.items ++ T3) ++ is)) _ d3
-        (ahead_later (suc l) (Label l) ((r.items ++ T3) ++ is) (ahead_joined (suc l) r.items T3 is (ahead_behind (suc l) r.items (T3 ++ is) (ahead_later (suc l) (AssignLoc t r.tree) (Label (suc l) ∷ is) (ahead_here (suc l) is)))))
+        (ahead_later (suc l) (Label l) ((r.items ++ T3) ++ is) (ahead_joined (suc l) r.items T3 is (ahead_behind (suc l) r.items (T3 ++ is)
+        (ahead_later (suc l) (AssignLoc t r.tree) (Label (suc l) ∷ is) (ahead_here (suc l) is)))))
         (moves program code callers k (behind code (suc l)) (spelled_all is) d3 _ end_at
         (use_number program code callers size count scope level within k (d3.locals t) v is κ st2 d3 (set_same d2.locals t v)
         (h st2 d3 ag3 (since d3 st2 (λ j szj o. set_other d2.locals t v j (λ e. ⊎_elim (λ lt. omega arith) (λ ge. omega (arith, asks.grows, does.grows, does'.grows)) o)

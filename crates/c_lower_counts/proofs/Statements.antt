@@ -448,7 +448,8 @@ module _ (program : TreeProgram) (code : List TreeItem) (callers : List Activati
         leads_counted k _ _ back (moves program code callers k (behind code l) (spelled_all ((q.items ++ T1) ++ is)) d _ top_at
         (subst (λ r. Leads k r (from ((q.items ++ T1) ++ is) d)) (constant_goes p next c (suc u) known (λ v st. chosen v (met st) (κ Onward st)) st)
         (joined_at k q.items T1 is d _ (asks.runs k (omega arith) (T1 ++ is) met (κ Onward) res0 st d ag
-        (λ st1 d1 ag1 s1. goes_on program code callers k (suc l) (T1 ++ is) d1 _ (ahead_joined (suc l) b.items T2 is (ahead_behind (suc l) b.items (T2 ++ is) (ahead_later (suc l) (Jump l) (Label (suc l) ∷ is) (ahead_here (suc l) is))))
+        (λ st1 d1 ag1 s1. goes_on program code callers k (suc l) (T1 ++ is) d1 _ (ahead_joined (suc l) b.items T2 is (ahead_behind (suc l) b.items (T2 ++ is)
+        (ahead_later (suc l) (Jump l) (Label (suc l) ∷ is) (ahead_here (suc l) is))))
         (moves program code callers k (behind code (suc l)) (spelled_all is) d1 _ end_at (low_h.onward st1 d1 ag1)))
         (λ st1 d1 ag1 s1. leads_quiet k _ _ (while_body c a l b scope after sub body inside lb lc outer is res1 k (omega arith) κ low_h again st1 d1 ag1))))))
 
@@ -472,7 +473,8 @@ module _ (program : TreeProgram) (code : List TreeItem) (callers : List Activati
         (constant_goes p next c 0 known (λ v st. chosen v (stop Wild) (κ Onward st)) st
         ∙ sym (constant_goes p next c 0 known (λ v st. chosen v (turn_by p next lp (stmt p next a) κ st) (κ Onward st)) st))
         (joined_at (suc k) q.items T1 is d _ (asks.runs (suc k) le (T1 ++ is) (λ st. stop Wild) (κ Onward) res0 st d ag
-        (λ st1 d1 ag1 s1. goes_on program code callers (suc k) (suc l) (T1 ++ is) d1 _ (ahead_joined (suc l) b.items T2 is (ahead_behind (suc l) b.items (T2 ++ is) (ahead_later (suc l) (Jump l) (Label (suc l) ∷ is) (ahead_here (suc l) is))))
+        (λ st1 d1 ag1 s1. goes_on program code callers (suc k) (suc l) (T1 ++ is) d1 _ (ahead_joined (suc l) b.items T2 is (ahead_behind (suc l) b.items (T2 ++ is)
+        (ahead_later (suc l) (Jump l) (Label (suc l) ∷ is) (ahead_here (suc l) is))))
         (moves program code callers (suc k) (behind code (suc l)) (spelled_all is) d1 _ end_at (h.onward st1 d1 ag1)))
         (λ st1 d1 ag1 s1. leads_wild (suc k) _)))
     while_look c a l b scope after within fit (suc u) known sub body inside lb lc outer is res (suc k) le κ h st d ag =
@@ -490,7 +492,8 @@ module _ (program : TreeProgram) (code : List TreeItem) (callers : List Activati
         (sym (next_is (Look lp) κ st ∙ constant_goes p next c (suc u) known (λ v st. chosen v (turn_by p next lp (stmt p next a) κ st) (κ Onward st)) st))
         (while_turn c a l b scope after within fit u known sub body inside lb lc outer is res k (omega arith) κ low_h back st d ag) in
         joined_at (suc k) q.items T1 is d _ (asks.runs (suc k) le (T1 ++ is) (turn_by p next lp (stmt p next a) κ) (κ Onward) res0 st d ag
-        (λ st1 d1 ag1 s1. goes_on program code callers (suc k) (suc l) (T1 ++ is) d1 _ (ahead_joined (suc l) b.items T2 is (ahead_behind (suc l) b.items (T2 ++ is) (ahead_later (suc l) (Jump l) (Label (suc l) ∷ is) (ahead_here (suc l) is))))
+        (λ st1 d1 ag1 s1. goes_on program code callers (suc k) (suc l) (T1 ++ is) d1 _ (ahead_joined (suc l) b.items T2 is (ahead_behind (suc l) b.items (T2 ++ is)
+        (ahead_later (suc l) (Jump l) (Label (suc l) ∷ is) (ahead_here (suc l) is))))
         (moves program code callers (suc k) (behind code (suc l)) (spelled_all is) d1 _ end_at (h.onward st1 d1 ag1)))
         (λ st1 d1 ag1 s1. leads_counted k _ _ false (while_body c a l b scope after sub body inside lb lc outer is res1 k (omega arith) κ low_h again st1 d1 ag1)))
 
@@ -545,7 +548,8 @@ module _ (program : TreeProgram) (code : List TreeItem) (callers : List Activati
         (joined_at k b.items T2 is d _ (body k (omega arith) (T2 ++ is) (turned p next κ (next (Look (plain_loop c a)) κ)) res1
         (record {
           onward = λ st2 d2 ag2. label_step program code callers k (suc l) ((q.items ++ T3) ++ is) d2 _ (test_it st2 d2 (agree_less size (length callers) scope after st2 d2 sub ag2));
-          broke = λ e st2 d2 ag2. goes_on program code callers k (suc (suc l)) (T2 ++ is) d2 _ (ahead_later (suc (suc l)) (Label (suc l)) ((q.items ++ T3) ++ is) (ahead_joined (suc (suc l)) q.items T3 is (ahead_behind (suc (suc l)) q.items (T3 ++ is) (ahead_here (suc (suc l)) is))))
+          broke = λ e st2 d2 ag2. goes_on program code callers k (suc (suc l)) (T2 ++ is) d2 _ (ahead_later (suc (suc l)) (Label (suc l)) ((q.items ++ T3) ++ is)
+              (ahead_joined (suc (suc l)) q.items T3 is (ahead_behind (suc (suc l)) q.items (T3 ++ is) (ahead_here (suc (suc l)) is))))
               (moves program code callers k (behind code (suc (suc l))) (spelled_all is) d2 _ end_at (low_h.onward st2 d2 ag2));
           continued = λ e st2 d2 ag2. goes_on program code callers k (suc l) (T2 ++ is) d2 _ (ahead_here (suc l) ((q.items ++ T3) ++ is))
               (moves program code callers k (behind code (suc l)) (spelled_all ((q.items ++ T3) ++ is)) d2 _ test_at (test_it st2 d2 ag2));
@@ -576,7 +580,8 @@ module _ (program : TreeProgram) (code : List TreeItem) (callers : List Activati
         (λ back st1 d1 ag1. loop_turn c a (suc l) l b scope after within fit sub body inside lb lc outer is res k le κ h back st1 d1 ag1) st d ag))
 
     -- a `while` in either form
-    while_by_does : (o : Option ℕ) (c : AnExpression) (a : AnAction) (l : ℕ) → constant_of c ≡ o → (scope after outer : ℕ → Type 0) → ((x : ℕ) → scope x → x < size) → Fits scope c → ((x : ℕ) → scope x → after x)
+    while_by_does : (o : Option ℕ) (c : AnExpression) (a : AnAction) (l : ℕ) → constant_of c ≡ o
+        → (scope after outer : ℕ → Type 0) → ((x : ℕ) → scope x → x < size) → Fits scope c → ((x : ℕ) → scope x → after x)
         → ((lb lc m : ℕ) → DoesStmt (lower size count a NoActions lb lc m) lb lc true scope scope after (stmt p next a)) → (inside : Bool) (lb lc : ℕ)
         → DoesStmt (while_by size count o c (lower size count a NoActions) l) lb lc inside outer scope scope (stmt p next (WhileOf c a))
     while_by_does (Some v) c a l known scope after outer within fit sub body inside lb lc =
@@ -608,7 +613,8 @@ module _ (program : TreeProgram) (code : List TreeItem) (callers : List Activati
         (record {
           onward = λ st2 d2 ag2. label_step program code callers k (suc l) ((s.items ++ T3) ++ is) d2 _ (step_it st2 d2 (agree_less size (length callers) scope after st2 d2 sub ag2));
           broke = λ e st2 d2 ag2. goes_on program code callers k (suc (suc l)) (T2 ++ is) d2 _
-              (ahead_later (suc (suc l)) (Label (suc l)) ((s.items ++ T3) ++ is) (ahead_joined (suc (suc l)) s.items T3 is (ahead_behind (suc (suc l)) s.items (T3 ++ is) (ahead_later (suc (suc l)) (Jump l) (Label (suc (suc l)) ∷ is) (ahead_here (suc (suc l)) is)))))
+              (ahead_later (suc (suc l)) (Label (suc l)) ((s.items ++ T3) ++ is) (ahead_joined (suc (suc l)) s.items T3 is (ahead_behind (suc (suc l)) s.items (T3 ++ is)
+              (ahead_later (suc (suc l)) (Jump l) (Label (suc (suc l)) ∷ is) (ahead_here (suc (suc l)) is)))))
               (moves program code callers k (behind code (suc (suc l))) (spelled_all is) d2 _ end_at (h.onward st2 d2 ag2));
           continued = λ e st2 d2 ag2. goes_on program code callers k (suc l) (T2 ++ is) d2 _ (ahead_here (suc l) ((s.items ++ T3) ++ is))
               (moves program code callers k (behind code (suc l)) (spelled_all ((s.items ++ T3) ++ is)) d2 _ step_at (step_it st2 d2 ag2));
@@ -646,7 +652,8 @@ module _ (program : TreeProgram) (code : List TreeItem) (callers : List Activati
         (subst (λ r. Leads k r (from ((q.items ++ T1) ++ is) d)) (constant_goes p next c (suc u) known (λ v st. chosen v (met st) (κ Onward st)) st)
         (joined_at k q.items T1 is d _ (asks.runs k (omega arith) (T1 ++ is) met (κ Onward) res0 st d ag
         (λ st1 d1 ag1 s1. goes_on program code callers k (suc (suc l)) (T1 ++ is) d1 _
-        (ahead_joined (suc (suc l)) b.items T2 is (ahead_behind (suc (suc l)) b.items (T2 ++ is) (ahead_later (suc (suc l)) (Label (suc l)) ((s.items ++ T3) ++ is) (ahead_joined (suc (suc l)) s.items T3 is (ahead_behind (suc (suc l)) s.items (T3 ++ is) (ahead_later (suc (suc l)) (Jump l) (Label (suc (suc l)) ∷ is) (ahead_here (suc (suc l)) is)))))))
+        (ahead_joined (suc (suc l)) b.items T2 is (ahead_behind (suc (suc l)) b.items (T2 ++ is) (ahead_later (suc (suc l)) (Label (suc l)) ((s.items ++ T3) ++ is)
+        (ahead_joined (suc (suc l)) s.items T3 is (ahead_behind (suc (suc l)) s.items (T3 ++ is) (ahead_later (suc (suc l)) (Jump l) (Label (suc (suc l)) ∷ is) (ahead_here (suc (suc l)) is)))))))
         (moves program code callers k (behind code (suc (suc l))) (spelled_all is) d1 _ end_at (low_h.onward st1 d1 ag1)))
         (λ st1 d1 ag1 s1. leads_quiet k _ _ (for_body c e a l b scope after within fit' sub body inside lb lc outer is res1 k (omega arith) κ low_h again st1 d1 ag1))))))
 
@@ -676,7 +683,8 @@ module _ (program : TreeProgram) (code : List TreeItem) (callers : List Activati
         ∙ sym (constant_goes p next c 0 known (λ v st. chosen v (turn_by p next lp (stmt p next a) κ st) (κ Onward st)) st))
         (joined_at (suc k) q.items T1 is d _ (asks.runs (suc k) le (T1 ++ is) (λ st. stop Wild) (κ Onward) res0 st d ag
         (λ st1 d1 ag1 s1. goes_on program code callers (suc k) (suc (suc l)) (T1 ++ is) d1 _
-        (ahead_joined (suc (suc l)) b.items T2 is (ahead_behind (suc (suc l)) b.items (T2 ++ is) (ahead_later (suc (suc l)) (Label (suc l)) ((s.items ++ T3) ++ is) (ahead_joined (suc (suc l)) s.items T3 is (ahead_behind (suc (suc l)) s.items (T3 ++ is) (ahead_later (suc (suc l)) (Jump l) (Label (suc (suc l)) ∷ is) (ahead_here (suc (suc l)) is)))))))
+        (ahead_joined (suc (suc l)) b.items T2 is (ahead_behind (suc (suc l)) b.items (T2 ++ is) (ahead_later (suc (suc l)) (Label (suc l)) ((s.items ++ T3) ++ is)
+        (ahead_joined (suc (suc l)) s.items T3 is (ahead_behind (suc (suc l)) s.items (T3 ++ is) (ahead_later (suc (suc l)) (Jump l) (Label (suc (suc l)) ∷ is) (ahead_here (suc (suc l)) is)))))))
         (moves program code callers (suc k) (behind code (suc (suc l))) (spelled_all is) d1 _ end_at (h.onward st1 d1 ag1)))
         (λ st1 d1 ag1 s1. leads_wild (suc k) _)))
     for_look c e a l b scope after within fit fit' (suc u) known sub body inside lb lc outer is res (suc k) le κ h st d ag =
@@ -698,7 +706,8 @@ module _ (program : TreeProgram) (code : List TreeItem) (callers : List Activati
         (for_turn c e a l b scope after within fit fit' u known sub body inside lb lc outer is res k (omega arith) κ low_h back st d ag) in
         joined_at (suc k) q.items T1 is d _ (asks.runs (suc k) le (T1 ++ is) (turn_by p next lp (stmt p next a) κ) (κ Onward) res0 st d ag
         (λ st1 d1 ag1 s1. goes_on program code callers (suc k) (suc (suc l)) (T1 ++ is) d1 _
-        (ahead_joined (suc (suc l)) b.items T2 is (ahead_behind (suc (suc l)) b.items (T2 ++ is) (ahead_later (suc (suc l)) (Label (suc l)) ((s.items ++ T3) ++ is) (ahead_joined (suc (suc l)) s.items T3 is (ahead_behind (suc (suc l)) s.items (T3 ++ is) (ahead_later (suc (suc l)) (Jump l) (Label (suc (suc l)) ∷ is) (ahead_here (suc (suc l)) is)))))))
+        (ahead_joined (suc (suc l)) b.items T2 is (ahead_behind (suc (suc l)) b.items (T2 ++ is) (ahead_later (suc (suc l)) (Label (suc l)) ((s.items ++ T3) ++ is)
+        (ahead_joined (suc (suc l)) s.items T3 is (ahead_behind (suc (suc l)) s.items (T3 ++ is) (ahead_later (suc (suc l)) (Jump l) (Label (suc (suc l)) ∷ is) (ahead_here (suc (suc l)) is)))))))
         (moves program code callers (suc k) (behind code (suc (suc l))) (spelled_all is) d1 _ end_at (h.onward st1 d1 ag1)))
         (λ st1 d1 ag1 s1. leads_counted k _ _ false (for_body c e a l b scope after within fit' sub body inside lb lc outer is res1 k (omega arith) κ low_h again st1 d1 ag1)))
 
@@ -732,7 +741,8 @@ module _ (program : TreeProgram) (code : List TreeItem) (callers : List Activati
         (record {
           onward = λ st2 d2 ag2. label_step program code callers k (suc l) ((s.items ++ T3) ++ is) d2 _ (step_it st2 d2 (agree_less size (length callers) scope after st2 d2 sub ag2));
           broke = λ e st2 d2 ag2. goes_on program code callers k (suc (suc l)) (T2 ++ is) d2 _
-              (ahead_later (suc (suc l)) (Label (suc l)) ((s.items ++ T3) ++ is) (ahead_joined (suc (suc l)) s.items T3 is (ahead_behind (suc (suc l)) s.items (T3 ++ is) (ahead_later (suc (suc l)) (Jump l) (Label (suc (suc l)) ∷ is) (ahead_here (suc (suc l)) is)))))
+              (ahead_later (suc (suc l)) (Label (suc l)) ((s.items ++ T3) ++ is) (ahead_joined (suc (suc l)) s.items T3 is (ahead_behind (suc (suc l)) s.items (T3 ++ is)
+              (ahead_later (suc (suc l)) (Jump l) (Label (suc (suc l)) ∷ is) (ahead_here (suc (suc l)) is)))))
               (moves program code callers k (behind code (suc (suc l))) (spelled_all is) d2 _ end_at (low_h.onward st2 d2 ag2));
           continued = λ e st2 d2 ag2. goes_on program code callers k (suc l) (T2 ++ is) d2 _ (ahead_here (suc l) ((s.items ++ T3) ++ is))
               (moves program code callers k (behind code (suc l)) (spelled_all ((s.items ++ T3) ++ is)) d2 _ step_at (step_it st2 d2 ag2));
@@ -795,7 +805,9 @@ module _ (program : TreeProgram) (code : List TreeItem) (callers : List Activati
         (record {
           onward = λ st2 d2 ag2. label_step program code callers k (suc l) ((s.items ++ T3) ++ is) d2 _ (step_it st2 d2 (agree_less size (length callers) scope after st2 d2 sub ag2));
           broke = λ e st2 d2 ag2. goes_on program code callers k (suc (suc l)) (T2 ++ is) d2 _
-              (ahead_later (suc (suc l)) (Label (suc l)) ((s.items ++ T3) ++ is) (ahead_joined (suc (suc l)) s.items T3 is (ahead_behind (suc (suc l)) s.items (T3 ++ is) (ahead_later (suc (suc l)) (Label (suc (suc (suc l)))) ((q.items ++ T4) ++ is) (ahead_joined (suc (suc l)) q.items T4 is (ahead_behind (suc (suc l)) q.items (T4 ++ is) (ahead_here (suc (suc l)) is)))))))
+              (ahead_later (suc (suc l)) (Label (suc l)) ((s.items ++ T3) ++ is) (ahead_joined (suc (suc l)) s.items T3 is (ahead_behind (suc (suc l)) s.items (T3 ++ is)
+              (ahead_later (suc (suc l)) (Label (suc (suc (suc l)))) ((q.items ++ T4) ++ is) (ahead_joined (suc (suc l)) q.items T4 is (ahead_behind (suc (suc l)) q.items (T4 ++ is)
+              (ahead_here (suc (suc l)) is)))))))
               (moves program code callers k (behind code (suc (suc l))) (spelled_all is) d2 _ end_at (low_h.onward st2 d2 ag2));
           continued = λ e st2 d2 ag2. goes_on program code callers k (suc l) (T2 ++ is) d2 _ (ahead_here (suc l) ((s.items ++ T3) ++ is))
               (moves program code callers k (behind code (suc l)) (spelled_all ((s.items ++ T3) ++ is)) d2 _ step_at (step_it st2 d2 ag2));
@@ -803,7 +815,8 @@ module _ (program : TreeProgram) (code : List TreeItem) (callers : List Activati
         }) st d ag)))
 
     -- a `for` with a test, in either form
-    tested_does : (o : Option ℕ) (c : AnExpression) (e : Option AnExpression) (a : AnAction) (l : ℕ) → constant_of c ≡ o → (scope after outer : ℕ → Type 0) → ((x : ℕ) → scope x → x < size) → Fits scope c
+    tested_does : (o : Option ℕ) (c : AnExpression) (e : Option AnExpression) (a : AnAction) (l : ℕ) → constant_of c ≡ o
+        → (scope after outer : ℕ → Type 0) → ((x : ℕ) → scope x → x < size) → Fits scope c
         → FitsMaybe scope e
         → ((x : ℕ) → scope x → after x) → ((m : ℕ) → DoesStmt (lower size count a NoActions (suc (suc l)) (suc l) m) (suc (suc l)) (suc l) true scope scope after (stmt p next a))
         → (inside : Bool) (lb lc : ℕ)
@@ -823,7 +836,9 @@ module _ (program : TreeProgram) (code : List TreeItem) (callers : List Activati
         let res3 = resolves_split code s.items T3 is (resolves_back code b.items (T2 ++ is) (resolves_split code b.items T2 is res.1.1)).1 in
         let test_at : behind code (suc (suc (suc l))) ≡ spelled_all ((q.items ++ T4) ++ is) = (resolves_back code s.items (T3 ++ is) res3).0 in
         jump_step program code callers k (suc (suc (suc l))) (Label l ∷ ((b.items ++ T2) ++ is)) _ d
-        (ahead_later (suc (suc (suc l))) (Label l) ((b.items ++ T2) ++ is) (ahead_joined (suc (suc (suc l))) b.items T2 is (ahead_behind (suc (suc (suc l))) b.items (T2 ++ is) (ahead_later (suc (suc (suc l))) (Label (suc l)) ((s.items ++ T3) ++ is) (ahead_joined (suc (suc (suc l))) s.items T3 is (ahead_behind (suc (suc (suc l))) s.items (T3 ++ is) (ahead_here (suc (suc (suc l))) ((q.items ++ T4) ++ is))))))))
+        (ahead_later (suc (suc (suc l))) (Label l) ((b.items ++ T2) ++ is) (ahead_joined (suc (suc (suc l))) b.items T2 is (ahead_behind (suc (suc (suc l))) b.items (T2 ++ is)
+        (ahead_later (suc (suc (suc l))) (Label (suc l)) ((s.items ++ T3) ++ is) (ahead_joined (suc (suc (suc l))) s.items T3 is (ahead_behind (suc (suc (suc l))) s.items (T3 ++ is)
+        (ahead_here (suc (suc (suc l))) ((q.items ++ T4) ++ is))))))))
         (moves program code callers k (behind code (suc (suc (suc l)))) (spelled_all ((q.items ++ T4) ++ is)) d _ test_at
         (turns_look c e a l b scope within fit inside lb lc outer is res k le κ h
         (λ back st1 d1 ag1. turns_turn c e a l b scope after within fit fit' sub (body (suc (suc (suc (suc l))))) inside lb lc outer is res k le κ h back st1 d1 ag1) st d ag))

@@ -65,15 +65,15 @@ module _ (program : TreeProgram) (code : List CodeItem) (g : TreeFn) (words l : 
   ahead_in is body nothing place there e = absurd (true≢false (sym e))
   ahead_in is body (root w is' instrs rest s h) place there e =
       nearer code place (length (code_items instrs)) l (ahead_in is' rest h (place + length (code_items instrs)) (past code place (code_items instrs) rest there) e)
-  ahead_in is body (label k is' rest h) place there e = by (k == l) refl e
+  ahead_in is body (label k is' rest h) place there e = by (k == l) refl e (λ f. ahead_in is' rest h (place + 1) there.1 f)
     where
-      by : (b : Bool) → (k == l) ≡ b → (b || is_ahead is' l) ≡ true → Ahead code place l
-      by true eq f = record {
+      by : (b : Bool) → (k == l) ≡ b → (b || is_ahead is' l) ≡ true → (is_ahead is' l ≡ true → Ahead code (place + 1) l) → Ahead code place l
+      by true eq f more = record {
         at = place;
         further = omega arith;
         stands = subst (λ (n : ℕ). slice_get code place ≡ Some (item_kind.Label (label_name n))) (eqb-true k l eq) there.0;
       }
-      by false eq f = nearer code place 1 l (ahead_in is' rest h (place + 1) there.1 f)
+      by false eq f more = nearer code place 1 l (more f)
 
   front : (place : ℕ) (xs ys : List CodeItem) → HasItems code place (xs ++ ys) → HasItems code place xs
   front place [] ys h = tt
@@ -161,7 +161,3 @@ walk_past m n w count much name e h =
       };
       counts = λ i. let a = h.counts i in let b = counted_label n name e i in omega (arith, a, b);
     }
-
--- the same where a run begins at a label
-pub counted_past : (m : State) (name : List ℕ) → slice_get m.items m.place ≡ Some (item_kind.Label name) → (i : ℕ) → counted_steps i m ≤ counted_steps i (record m { place = m.place + 1 })
-counted_past m name e i = counted_label m name e i

@@ -188,13 +188,13 @@ module _ (program : TreeProgram) (code : List CodeItem) (emitted : (n : ℕ) (g 
         (here.active.emitted.labels l (root.selected.target l target)))
 
     -- it counts nothing where its label stands ahead, and no more than one where it does not
-    jump_counts : (l : ℕ) (b : Bool) → is_ahead is l ≡ b → (from to : State) → {number : ℕ} → from.place ≡ m.place + number → number < length root.instrs
+    jump_counts : (l : ℕ) (b : Bool) → is_ahead is l ≡ b → (from to : State) (number : ℕ) → from.place ≡ m.place + number → number < length root.instrs
         → length to.frames ≡ length from.frames → to.place ≡ label_place code (label_name l) → counted_between from to ≤ as_number (not b)
-    jump_counts l true e from to at before same there =
+    jump_counts l true e from to number at before same there =
         let ahead : m.place + length root.instrs ≤ label_place code (label_name l) = ahead_place program code here.g here.e.words l (m.place + length root.instrs) is root.rest once e in
         let none : counted_between from to ≡ 0 = counted_on from to same (omega (arith, at, before, there, ahead)) in
         omega (arith, none)
-    jump_counts l false e from to at before same there = at_most_one (length from.frames) (length to.frames) from.place to.place
+    jump_counts l false e from to number at before same there = at_most_one (length from.frames) (length to.frames) from.place to.place
 
     jumps : (l : ℕ) (n : State) → exec root.instrs m ≡ record { written = []; ending = GoesAway (label_name l) n } → Stays program.objects here.e here.es t m n → role_of w ≡ Plain
         → target_of w ≡ Some l → Arrives m [] (as_number (not (is_ahead is l))) (with_items t (behind t.running.code l))
@@ -206,7 +206,7 @@ module _ (program : TreeProgram) (code : List CodeItem) (emitted : (n : ℕ) (g 
         let k = at_of m n place in
         let walk : Walks m [] (got.number + 1) (counted_between got.state k) k =
         walked m k [] (length root.instrs) _ got None (ap (λ (p : ℕ). Ok (None, at_of m n p)) (same_place (label_name l))) in
-        let much = jump_counts l (is_ahead is l) refl got.state k got.place got.before (ap length (stays.frames ∙ sym got.frames)) refl in
+        let much = jump_counts l (is_ahead is l) refl got.state k got.number got.place got.before (ap length (stays.frames ∙ sym got.frames)) refl in
         let stand : slice_get k.items k.place ≡ Some (item_kind.Label (label_name l)) = ap (λ (x : List CodeItem). slice_get x place) here.items ∙ at.stands in
         let rest = behind here.g.items l in
         let code_is : t.running.code ≡ here.g.items = here.active.items in
@@ -348,7 +348,8 @@ module _ (program : TreeProgram) (code : List CodeItem) (emitted : (n : ℕ) (g 
     came_to (Goes s) f d = goes (role_of w) order d.0 s d.1 d.2 f
     came_to (Serves b s) f d = serves b d.0 s f.0 f.1 d.1 d.2 d.3 f.2 f.3
     came_to (GoesTo l s) f d =
-        subst (λ (x : Trees). Arrives m [] (as_number (not (is_ahead is l))) (with_label x l)) (sym f.0) (jumps l d.0 d.1 (subst (λ (x : Trees). Stays program.objects here.e here.es x m d.0) f.0 d.2) f.1 f.2)
+        subst (λ (x : Trees). Arrives m [] (as_number (not (is_ahead is l))) (with_label x l)) (sym f.0)
+        (jumps l d.0 d.1 (subst (λ (x : Trees). Stays program.objects here.e here.es x m d.0) f.0 d.2) f.1 f.2)
     came_to (Enters h args s) f d =
         let count = f.1 in
         let size : length args ≡ count = ap length f.3 ∙ length-take-le count t.running.pushed (omega (arith, count_is f.0 count f.2)) in

@@ -121,5 +121,6 @@ module _ (program : TreeProgram) (c : Code) (h : IsCompiled program c) (once : d
 
   pub compiled_within : (n : ℕ) → Within (tree_tally program input n).number (tree_tally program input n).end (tree_tally program input n).output (start c input)
   compiled_within n =
-      subst (λ (g : Option TreeFn). Within (tally program n (main_at program g input)).number (tally program n (main_at program g input)).end (tally program n (main_at program g input)).output (start c input))
+      subst (λ (g : Option TreeFn). Within (tally program n (main_at program g input)).number (tally program n (main_at program g input)).end
+      (tally program n (main_at program g input)).output (start c input))
       (sym h.main_is) (tells_main n)

@@ -140,7 +140,8 @@ module _ (program : TreeProgram) (code : List CodeItem) (emitted : (n : ℕ) (g 
       goes_on w much s a = within_walked m a.state w a.count much a.walks (tally program n (arrived s)) (ih s a.state a.stands n lt)
 
       goes_quietly : (s : Trees) → Arrives program code emitted once m [] 0 s → Asked (tally program n (arrived s)) m
-      goes_quietly s a = within_more m (0 + (tally program n (arrived s)).number) (tally program n (arrived s)).number (omega arith) (tally program n (arrived s)).end (tally program n (arrived s)).output
+      goes_quietly s a =
+          within_more m (0 + (tally program n (arrived s)).number) (tally program n (arrived s)).number (omega arith) (tally program n (arrived s)).end (tally program n (arrived s)).output
           (goes_on [] 0 s a)
 
       goes_counted : (b : Bool) (s : Trees) → Arrives program code emitted once m [] (as_number b) s → Asked (with_count b (tally program n (arrived s))) m
