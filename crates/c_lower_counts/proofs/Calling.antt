@@ -31,7 +31,7 @@ use Rattle.tree_core.specs.declared.program.TreeFn.{TreeFn}
 use Rattle.tree_meaning.specs.State.{returned, begun as begun_tree}
 use Rattle.tree_meaning.specs.Steps.{called_as, served, got as got_step}
 use Rattle.tree_meaning.specs.Meaning.{To, ended as ended_tree}
-use Rattle.tree_counts.specs.Counted.{tallied as carried, tally as run_tree, tallies as runs}
+use Rattle.tree_counts.specs.Counted.{tallied, tally, tallies}
 use Rattle.c_lower_follows.proofs.Calling.{CodeOf}
 use Rattle.c_program.specs.Programs.{ARoutine, AProgram}
 use Rattle.c_meaning.specs.declared.flow.Flow.{Flow}
@@ -270,13 +270,13 @@ module _ (program : TreeProgram) (code : List TreeItem) (callers : List Activati
 
 -- where callers go on
 pub record Backed (program : TreeProgram) (k : ℕ) (κ : Behind) (cs : List Activation) : Type 0 where
-  pub goes : (w : Flow) (st : State) → answer w < 2 ^ 32 → AreBytes st.area → AreBytes st.input → Leads k (κ w st) (runs program (returned (answer w) cs st.area st.input))
+  pub goes : (w : Flow) (st : State) → answer w < 2 ^ 32 → AreBytes st.area → AreBytes st.input → Leads k (κ w st) (tallies program (returned (answer w) cs st.area st.input))
 
 -- bodies are followed, whatever waits for them
 pub record Calls (program : TreeProgram) (count : ℕ) (p : AProgram) (next : Next) (level : ℕ) : Type 0 where
   pub runs_body : (k : ℕ) → suc k ≤ level → (f : ℕ) (g : ARoutine) → slice_get p.routines f ≡ Some g → (tf : TreeFn) → CodeOf count g tf.items → (vs : List ℕ) → AllSmall vs
       → (κ : Behind) (cs : List Activation) → Backed program k κ cs → (st : State) → st.active ≡ length cs → AreBytes st.area → AreBytes st.input
-      → Leads k (next (Body g.body) κ (begun_source g vs st)) (runs program (arrived (record { running = begun_tree tf vs; callers = cs; area = st.area; input = st.input })))
+      → Leads k (next (Body g.body) κ (begun_source g vs st)) (tallies program (arrived (record { running = begun_tree tf vs; callers = cs; area = st.area; input = st.input })))
 
 module _ (program : TreeProgram) (code : List TreeItem) (callers : List Activation) (size count : ℕ) (scope : ℕ → Type 0) (level : ℕ) (within : (x : ℕ) → scope x → x < size) (p : AProgram)
     (next : Next) (counts_all : length program.functions ≡ count)
@@ -290,11 +290,11 @@ module _ (program : TreeProgram) (code : List TreeItem) (callers : List Activati
 
   called_is : (to : To) (is : List TreeItem) (d : Desk) (f n : ℕ) (vs : List ℕ) → length vs ≡ n
       → called_tree program to (state program code callers is (record d { pushed = vs ++ d.pushed })) f n
-      ≡ carried to (called_as (state program code callers is d) (slice_get program.functions f) (f - length program.functions) vs)
+      ≡ tallied to (called_as (state program code callers is d) (slice_get program.functions f) (f - length program.functions) vs)
   called_is to is d f n vs len =
-      ap (λ (l : List ℕ). carried to (called_as (state program code callers is (record d { pushed = l })) (slice_get program.functions f) (f - length program.functions)
+      ap (λ (l : List ℕ). tallied to (called_as (state program code callers is (record d { pushed = l })) (slice_get program.functions f) (f - length program.functions)
       (take n (vs ++ d.pushed)))) (drop_at vs d.pushed n len)
-      ∙ ap (λ (l : List ℕ). carried to (called_as (state program code callers is d) (slice_get program.functions f) (f - length program.functions) l)) (take_at vs d.pushed n len)
+      ∙ ap (λ (l : List ℕ). tallied to (called_as (state program code callers is d) (slice_get program.functions f) (f - length program.functions) l)) (take_at vs d.pushed n len)
 
   -- what a caller is told: its own state, with a result, and the shared state as the call left it
   abbrev told : Desk → ℕ → State → Desk
@@ -318,7 +318,7 @@ module _ (program : TreeProgram) (code : List TreeItem) (callers : List Activati
       → ((v : ℕ) (st' : State) → v < 2 ^ 32 → fine (record st' { call = st.call; active = st.active }) (told d v st')
       → Leads k (κ v (record st' { call = st.call; active = st.active })) (going is (told d v st')))
       → Leads k (if b then next (Body g.body) (back κ st) (begun_source g vs st) else stop ends.Deep)
-      (λ m. cond b (run_tree program m (arrived (record {
+      (λ m. cond b (tally program m (arrived (record {
         running = begun_tree tf vs;
         callers = (state program code callers (spelled_all is) d).running ∷ callers;
         area = d.area;
@@ -330,10 +330,10 @@ module _ (program : TreeProgram) (code : List TreeItem) (callers : List Activati
       let bytes : AreBytes st.area = subst AreBytes ag.area ag.ranged.area in
       let ins : AreBytes st.input = subst AreBytes ag.input ag.bytes in
       let done = calls.runs_body k le f g at_f tf own vs small (back κ st) cs backed st ag.active bytes ins in
-      subst (λ a. Leads k (next (Body g.body) (back κ st) (begun_source g vs st)) (runs program (arrived (record { running = begun_tree tf vs; callers = cs; area = a; input = d.input }))))
+      subst (λ a. Leads k (next (Body g.body) (back κ st) (begun_source g vs st)) (tallies program (arrived (record { running = begun_tree tf vs; callers = cs; area = a; input = d.input }))))
       (sym ag.area)
       (subst (λ i. Leads k (next (Body g.body) (back κ st) (begun_source g vs st))
-      (runs program (arrived (record { running = begun_tree tf vs; callers = cs; area = st.area; input = i })))) (sym ag.input) done)
+      (tallies program (arrived (record { running = begun_tree tf vs; callers = cs; area = st.area; input = i })))) (sym ag.input) done)
   enter_at false k f le g at_f tf own vs small κ st d is ag h = leads_deep k (λ m. ended_tree ends.Deep)
 
   -- a call is counted on both sides, where it is not too deep
@@ -349,13 +349,13 @@ module _ (program : TreeProgram) (code : List TreeItem) (callers : List Activati
   called_by f n zero le g at_f vs len small κ st d is ag h = leads_none _ _
   called_by f n (suc k) le g at_f vs len small κ st d is ag h =
       let own = lowers f g at_f in
-      let inside : Runs = λ m. run_tree program m
+      let inside : Runs = λ m. tally program m
       (arrived (record { running = begun_tree own.0 vs; callers = (state program code callers (spelled_all is) d).running ∷ callers; area = d.area; input = d.input })) in
       let q : Runs = λ m. cond (nat_lt st.active 1024) (one_first (inside m)) (ended_tree ends.Deep) in
       let deep : 1 + length callers ≡ st.active = omega (arith, ag.active) in
       call_counts program code callers (suc k) f n is (counted (entered next g vs κ st)) q (record d { pushed = vs ++ d.pushed })
-      (λ m. called_is (run_tree program m) (spelled_all is) d f n vs len
-      ∙ ap (λ o. carried (run_tree program m) (called_as (state program code callers (spelled_all is) d) o (f - length program.functions) vs)) own.1
+      (λ m. called_is (tally program m) (spelled_all is) d f n vs len
+      ∙ ap (λ o. tallied (tally program m) (called_as (state program code callers (spelled_all is) d) o (f - length program.functions) vs)) own.1
       ∙ entered_is program m (state program code callers (spelled_all is) d) own.0 vs
       ∙ ap (λ a. cond (nat_lt a 1024) (one_first (inside m)) (ended_tree ends.Deep)) deep)
       (counted_by (nat_lt st.active 1024) k (next (Body g.body) (back κ st) (begun_source g vs st)) inside (enter_at (nat_lt st.active 1024) k f le g at_f own.0 own.2 vs small κ st d is ag
@@ -380,15 +380,15 @@ module _ (program : TreeProgram) (code : List TreeItem) (callers : List Activati
       let q : Runs = emit b (going is (record d { result = b })) in
       let zero_of : count - length program.functions ≡ 0 = omega (arith, counts_all) in
       call_counts program code callers k count n is (emit b (κ b st)) q (record d { pushed = c ∷ (cs ++ d.pushed) })
-      (λ m. called_is (run_tree program m) (spelled_all is) d count n (c ∷ cs) len
-      ∙ ap (λ o. carried (run_tree program m) (called_as (state program code callers (spelled_all is) d) o (count - length program.functions) (c ∷ cs))) (none_at count (omega arith))
-      ∙ ap (λ z. carried (run_tree program m) (served (state program code callers (spelled_all is) d) z (c ∷ cs))) zero_of)
+      (λ m. called_is (tally program m) (spelled_all is) d count n (c ∷ cs) len
+      ∙ ap (λ o. tallied (tally program m) (called_as (state program code callers (spelled_all is) d) o (count - length program.functions) (c ∷ cs))) (none_at count (omega arith))
+      ∙ ap (λ z. tallied (tally program m) (served (state program code callers (spelled_all is) d) z (c ∷ cs))) zero_of)
       (leads_quiet k _ q (leads_emit k b _ _ (h b (omega arith))))
 
   get_by : (n k : ℕ) (vs : List ℕ) → length vs ≡ n → (κ : Rest) (st : State) (d : Desk) (is : List Item) (i : List ℕ) → d.input ≡ i → fine st d
       → ((v : ℕ) (st' : State) → v < 2 ^ 32 → fine (record st' { call = st.call; active = st.active }) (told d v st')
       → Leads k (κ v (record st' { call = st.call; active = st.active })) (going is (told d v st')))
-      → Leads k (got i κ st) (λ m. carried (run_tree program m) (got_step (state program code callers (spelled_all is) d) i))
+      → Leads k (got i κ st) (λ m. tallied (tally program m) (got_step (state program code callers (spelled_all is) d) i))
   get_by n k vs len κ st d is [] e ag h =
       let area : AreBytes st.area = subst AreBytes ag.area ag.ranged.area in
       let input : AreBytes st.input = subst AreBytes ag.input ag.bytes in
@@ -408,12 +408,12 @@ module _ (program : TreeProgram) (code : List TreeItem) (callers : List Activati
       → Leads k (κ v (record st' { call = st.call; active = st.active })) (going is (told d v st')))
       → Leads k (got st.input κ st) (going (Call (suc count) n ∷ is) (record d { pushed = vs ++ d.pushed }))
   get_step n k vs len κ st d is ag h =
-      let q : Runs = λ m. carried (run_tree program m) (got_step (state program code callers (spelled_all is) d) d.input) in
+      let q : Runs = λ m. tallied (tally program m) (got_step (state program code callers (spelled_all is) d) d.input) in
       let one_of : suc count - length program.functions ≡ 1 = omega (arith, counts_all) in
       call_counts program code callers k (suc count) n is (got st.input κ st) q (record d { pushed = vs ++ d.pushed })
-      (λ m. called_is (run_tree program m) (spelled_all is) d (suc count) n vs len
-      ∙ ap (λ o. carried (run_tree program m) (called_as (state program code callers (spelled_all is) d) o (suc count - length program.functions) vs)) (none_at (suc count) (omega arith))
-      ∙ ap (λ z. carried (run_tree program m) (served (state program code callers (spelled_all is) d) z vs)) one_of)
+      (λ m. called_is (tally program m) (spelled_all is) d (suc count) n vs len
+      ∙ ap (λ o. tallied (tally program m) (called_as (state program code callers (spelled_all is) d) o (suc count - length program.functions) vs)) (none_at (suc count) (omega arith))
+      ∙ ap (λ z. tallied (tally program m) (served (state program code callers (spelled_all is) d) z vs)) one_of)
       (leads_quiet k _ q (subst (λ i. Leads k (got i κ st) q) ag.input (get_by n k vs len κ st d is d.input refl ag h)))
 
   call_step : (f : Callee) (n k : ℕ) → k ≤ level → (vs : List ℕ) → length vs ≡ n → AllSmall vs → (κ : Rest) (st : State) (d : Desk) (is : List Item) → fine st d
