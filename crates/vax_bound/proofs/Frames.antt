@@ -1,6 +1,6 @@
 -- What calls and returns make of the live frames.
 use Rattle.std.proofs.Common.{◌≡◌, ℕ, zero, suc, ◌+◌, ◌-◌, ◌%◌, Bool, true, false, cond, List, [], ◌∷◌, ◌++◌, length, Option, Some, None, Result, Ok, Err, refl, sym, ap}
-use Rattle.std.proofs.Common.{subst, ◌∙◌, take, ◌⊎◌, inl, inr, ⊎_elim}
+use Rattle.std.proofs.Common.{subst, ◌∙◌, take, ◌⊎◌, inl, inr, ⊎_elim, arith}
 use Rattle.std.specs.Prelude.{slice_get, nat_lt, nat_le, ◌==◌, slice_set}
 use Rattle.std.specs.Int.RustNames.{count_ones}
 use Rattle.std.proofs.lemmas.List.{length_push}
