@@ -1,7 +1,6 @@
 -- A run takes no more instructions than the bound for what is counted in it.
-use Rattle.std.proofs.Common.{◌≡◌, ℕ, zero, suc, ◌+◌, ◌-◌, ◌*◌, ◌≤◌, List, [], ◌∷◌, length, Option, Some, None, Result, Ok, Err, refl, sym, ap, subst, ◌∙◌, arith}
-use Rattle.gg_base.specs.declared.run.End.TheVariants.{Spent}
-use Rattle.gg_base.specs.Runs.{Outcome, one_first, OneEnd}
+use Rattle.std.proofs.Common.{◌≡◌, ℕ, zero, suc, ◌+◌, ◌*◌, ◌≤◌, List, length, Option, None, Result, Ok, Err, refl, ap, subst, ◌∙◌, arith}
+use Rattle.gg_base.specs.Runs.{one_first, OneEnd}
 use Rattle.vax_core.specs.declared.code.Code.{Code}
 use Rattle.vax_core.specs.declared.code.CodeItem.{CodeItem}
 use Rattle.vax_core.specs.First.{main_name}

@@ -11,7 +11,7 @@ use Rattle.vax_machine.specs.declared.turn.Stop.{Stop}
 use Rattle.vax_machine.specs.State.{State}
 use Rattle.vax_machine.specs.Labels.{next_item, label_place}
 use Rattle.vax_machine.specs.Calls.{Acts, called, silent}
-use Rattle.vax_machine.specs.Step.{act, at_item, instruction, next_of, next_where, Next, Goes as GoesOn, Writes, Stops as StopsAt}
+use Rattle.vax_machine.specs.Step.{act, at_item, instruction, next_of, next_where, Goes as GoesOn, Writes, Stops as StopsAt}
 use Rattle.vax_machine_lists.specs.Instructions.{Ending, Comes, Goes, Calls, Returns, Stops, Course, performed}
 use Rattle.vax_machine_lists.specs.Kept.{KeptAt}
 use Rattle.vax_machine_lists.proofs.Placed.{Where, there, where_of, ending_there, performed_there}
