@@ -12,6 +12,16 @@ PARTS = (
     "int k{n}(int*p,int*q,int i){{p[i]=q[i+1]/(i+1)+p[-i];*p++=*q--;return p<q?p-q:k{n}(p,q,i-1)+k{n}(q,p,p[i]);}}\n",
 )
 TAIL = "int main(){return 0;}\n"
+# A text that writes `Hi` and ends with 0 at its seventh instruction, and a source that writes the tenth Fibonacci number.
+HI = (
+    "\t.data\n\t.text\n\t.globl\t_main\n_main:\n\t.word\t0\n\tpushl\t$72\n\tcalls\t$1,_putchar\n\tpushl\t$105\n"
+    "\tcalls\t$1,_putchar\n\tpushl\t$0\n\tmovl\t(sp)+,r0\n\tret\n"
+)
+FIBONACCI = (
+    "int fib(int n){if(n<2)return n;return fib(n-1)+fib(n-2);}"
+    "void put(int n){if(n<0){putchar('-');n=-n;}if(n>9)put(n/10);putchar('0'+n%10);}"
+    "int main(){put(fib(10));putchar('\\n');return 0;}"
+)
 
 
 def functions(count=None, length=1_048_576, parts=PARTS, tail=TAIL, number=lambda turn: turn):
@@ -37,9 +47,9 @@ def written(words):
     return subprocess.run(words, stdout=subprocess.PIPE, check=True).stdout
 
 
-def answer(words, given=b""):
+def answer(words, given=b"", **more):
     """A program's status, what it wrote and what it told."""
-    done = subprocess.run(words, input=given, stdout=subprocess.PIPE, stderr=subprocess.PIPE)
+    done = subprocess.run(words, input=given, stdout=subprocess.PIPE, stderr=subprocess.PIPE, **more)
     return done.returncode, done.stdout, done.stderr
 
 
@@ -55,10 +65,10 @@ class Done:
     """What a program left: its status, what it wrote and told, its processor seconds, and the most MiB that it held. It leaves files in
     the folder where it is run."""
 
-    def __init__(self, words, given=b""):
+    def __init__(self, words, given=b"", **more):
         put("given", given)
         with open("given", "rb") as given, open("written", "wb") as written, open("report", "wb") as report:
-            child = subprocess.Popen(words, stdin=given, stdout=written, stderr=report)
+            child = subprocess.Popen(words, stdin=given, stdout=written, stderr=report, **more)
             _, status, used = os.wait4(child.pid, 0)
         self.status = child.returncode = os.waitstatus_to_exitcode(status)
         self.written, self.report = open("written", "rb").read(), open("report", "rb").read()

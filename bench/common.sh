@@ -54,3 +54,9 @@ plain_of() {
         build_plain
     fi
 }
+
+# Builds the file $1.c of bench/ as a library that can be preloaded into a program, and writes its path.
+preloaded() {
+    ${CC:-cc} -O2 -shared -fPIC -o "$work/$1.so" "$here/bench/$1.c"
+    echo "$work/$1.so"
+}

@@ -37,61 +37,19 @@ import re
 import shutil
 import sys
 
-from common import Done, functions, put, written
+from common import Done, functions, put
+from generated import DONE, ENDS, REFUSED, Program, difference, joined, least_steps, left_out, steps_of
 
 program, plain, work, examples = sys.argv[1:5]
 programs, first_seed, alone = (int(word) for word in sys.argv[5:8])
 DESCRIPTIONS = ("vax.gg", "vax-two.gg", "reloads.gg", "reloads-three.gg")
 IN_A_SOURCE = 50
 TURNS = 20_000
-STEPS, STEPS_BEHIND = 20_000_000, 2_000_000
-DONE, REFUSED, SPENT, TRAPPED, WILD, DEEP = 0, 14, 16, 17, 18, 19
-ENDS = {DONE: "end", SPENT: "go on", TRAPPED: "trap", WILD: "are wild", DEEP: "are deep"}
-KEPT = set("int char short unsigned void static register if else while do for break continue return sizeof putchar getchar".split())
-WORD = re.compile(r"""//[^\n]*|/\*.*?\*/|"(?:\\.|[^"\\])*"|'(?:\\.|[^'\\])*'|\w+""", re.S)
 os.chdir(work)
-
-
-class Program:
-    """A generated program, the words that generate it, and an input."""
-
-    def __init__(self, turn, chance):
-        self.words = ["gen", str(first_seed + turn)] + (["--free"] if turn % 3 else [])
-        self.source = written([plain, *self.words]).decode()
-        self.given = bytes(chance.randrange(256) for _ in range(chance.randrange(41)))
-
-    def marked(self, mark):
-        """The source with a mark before each name that it declares."""
-
-        def changed(found):
-            word = found.group()
-            return mark + word if re.match(r"[A-Za-z_]", word) and word not in KEPT else word
-
-        return WORD.sub(changed, self.source)
-
-
-def joined(some):
-    """One source of programs by their numbers."""
-    parts = [one.marked(f"p{number}_") for number, one in some.items()]
-    calls = [f"  if (n == {number}) return p{number}_main();\n" for number in some]
-    return "\n".join(parts) + "int main() {\n  int n;\n  n = getchar();\n" + "".join(calls) + "  return 0 - 1;\n}\n"
 
 
 def as_they_are(some):
     return "".join(one.source for one in some.values())
-
-
-def difference(meaning, run):
-    """What a text's run has otherwise than the source's, or nothing."""
-    front = run.written.startswith(meaning.written)
-    if meaning.status in (WILD, DEEP, SPENT):
-        same = front or (run.status == SPENT and meaning.written.startswith(run.written))
-    else:
-        same = (run.status, run.written, run.report) == (meaning.status, meaning.written, meaning.report)
-    if same:
-        return None
-    output = "the output begins so" if front else "the output differs"
-    return f"{run.status} {run.report!r}, by its meaning {meaning.status} {meaning.report!r}, {output}"
 
 
 def compiled(description):
@@ -122,7 +80,7 @@ class Tally:
         self.texts[description] += 1
         self.frames[description] += frame_words(text)
         for number, (given, meaning) in meanings.items():
-            run = Done([program, "run", "text.s", str(STEPS_BEHIND if meaning.status == SPENT else STEPS)], given)
+            run = Done([program, "run", "text.s", str(steps_of(meaning))], given)
             self.runs[description] += 1
             line = difference(meaning, run)
             if line:
@@ -136,8 +94,7 @@ class Tally:
             put("source.c", source_of(some))
             done = compiled(description)
             while done.status == REFUSED and some:
-                found = re.match(rb"ggvax: p(\d+)_", done.report)
-                del some[int(found.group(1)) if found else next(iter(some))]
+                del some[left_out(some, done)]
                 self.refused += 1
                 put("source.c", source_of(some))
                 done = compiled(description)
@@ -155,7 +112,7 @@ def compare():
     chance = random.Random(first_seed)
     tally, by_end = Tally(), {}
     for turn in range(0, programs, IN_A_SOURCE):
-        some = {number: Program(turn + number, chance) for number in range(min(IN_A_SOURCE, programs - turn))}
+        some = {number: Program(plain, first_seed, turn + number, chance) for number in range(min(IN_A_SOURCE, programs - turn))}
         for number, end in tally.compare(some, joined, lambda number, one: bytes([number]) + one.given).items():
             by_end.setdefault(end, []).append(some[number])
         print(f"{turn + len(some)} programs: {tally.wrong} differ so far", file=sys.stderr, flush=True)
@@ -199,25 +156,15 @@ def compare_speed():
     return times["1000"] > 12 * times["100"] or times["all"] > 60 or peak > 2048
 
 
-def least_steps(given):
-    """The least number of instructions with which the text's run is not spent."""
-    low, high = 0, STEPS
-    while high - low > 1:
-        middle = (low + high) // 2
-        if Done([program, "run", "text.s", str(middle)], given).status == SPENT:
-            low = middle
-        else:
-            high = middle
-    return high
-
-
 def count_examples():
     print("| Program | Text, in bytes | Instructions |")
     print("|---|---|---|")
     for path in sorted(glob.glob(f"{examples}/*.c")):
         shutil.copy(path, "source.c")
         done = compiled("vax.gg")
-        told = f"{len(done.written):,} | {least_steps(b'AB'):,}" if done.status == DONE else f"{done.report.decode().strip()} |"
+        told = f"{done.report.decode().strip()} |"
+        if done.status == DONE:
+            told = f"{len(done.written):,} | {least_steps(program, 'text.s', b'AB'):,}"
         print(f"| `{os.path.basename(path)}` | {told} |", flush=True)
 
 

@@ -16,8 +16,9 @@ use Rattle.cmd_check.proofs.Exactly as check
 use Rattle.cmd_check.proofs.Exactly.{OfDescription, Comes, IsNot, of_description, not_refused, refuses}
 use Rattle.cmd_meaning.specs.Sources.{source_form}
 use Rattle.gg_compile.specs.Needs.{AllFit, IsFirstOver}
-use Rattle.cmd_compile.specs.Texts.{FrameIsFull, StarvedText}
-use Rattle.cmd_compile.specs.Outcome.{Files, FindsDescription, Leaves, NoDescription, NoProgram, NoText, NotWritten, Written}
+use Rattle.cmd_compile.specs.Passing.{Passing}
+use Rattle.cmd_compile.specs.Texts.{FrameIsFull, StarvedText, LinesRefused, CutLines, StarvedLines}
+use Rattle.cmd_compile.specs.Outcome.{Files, FindsDescription, Leaves, NoDescription, NoProgram, NoText, NotWritten, NotTold, Written}
 use Rattle.cmd_compile.specs.Exact.{Works, Given, Answers, HasNoFaults}
 
 -- how a source ends behind an accepted description
@@ -36,7 +37,7 @@ data Kind (result : Status) (names : Files) (at : Outside) : Type 0 where
   Before : (of : OfDescription result (at.folder.holds names.description)) → Kind result names at
   Behind : (d : Content) (finds : FindsDescription names at d) (of : OfSource result names at d) → Kind result names at
 
-module _ (result : Status) (names : Files) (at : Outside) where
+module _ (by : Passing) (result : Status) (names : Files) (at : Outside) where
   -- what was come to with the description
   comes : Kind result names at → Comes result (at.folder.holds names.description)
   comes (Memory is) = check.Memory is
@@ -63,14 +64,19 @@ module _ (result : Status) (names : Files) (at : Outside) where
   of_output n text (CutOutput is cut told) = absurd (n.source.of_out cut.rises)
   of_output n text (StarvedOutput starved front once) = Memory starved.0
 
-  kind_of : HasNoFaults names at → Leaves result names at → Kind result names at
+  of_lines : HasNoFaults names at → (lines : List ℕ) → LinesRefused lines result at.report → Kind result names at
+  of_lines n lines (CutLines is cut) = absurd (n.source.of_report cut.rises)
+  of_lines n lines (StarvedLines starved) = Memory starved.0
+
+  kind_of : HasNoFaults names at → Leaves by result names at → Kind result names at
   kind_of n (NoDescription untouched r) = of_refused (of_description result names.description at.folder at.report n.description.of_folder r)
   kind_of n (NoProgram d finds untouched r) = of_source n d finds r
   kind_of n (NoText d p finds untouched (FrameIsFull f k over told)) =
       refused _ _ at.report told (λ is. Behind d finds.description (Over p finds.holds f k is over))
   kind_of n (NoText d p finds untouched (StarvedText starved)) = Memory starved.0
   kind_of n (NotWritten d p finds text is_text r) = of_output n text r
-  kind_of n (Written is w) = Behind w.description w.finds.description (Done is w.program w.finds.holds w.is_text.fit)
+  kind_of n (NotTold d p finds text is_text takes r) = of_lines n _ r
+  kind_of n (Written is w) = Behind w.description w.finds.description (Done is w.program w.finds.holds w.is_text.is_text.fit)
 
   -- an accepted description is refused for want of memory alone
   before : (d : Content) (status : Status) → Works names at d → OfDescription result (at.folder.holds names.description) → IsAnswer status result
@@ -122,13 +128,14 @@ module _ (result : Status) (names : Files) (at : Outside) where
   fits p g fit (Behind e finds (Over q holds f k is o)) = absurd (over_not_fit q f k o (given AllFit p q g.item holds fit))
   fits p g fit (Behind e finds (Done is q holds less)) = inl is
 
-pub exactly : (result : Status) (names : Files) (at : Outside) → Leaves result names at → HasNoFaults names at → Answers result names at
-exactly result names at leaves none =
-    let kind = kind_of result names at none leaves in
+pub exactly : (by : Passing) (result : Status) (names : Files) (at : Outside) → Leaves by result names at → HasNoFaults names at
+    → Answers result names at
+exactly by result names at leaves none =
+    let kind = kind_of by result names at none leaves in
     record {
-      description = refuses result (at.folder.holds names.description) (comes result names at kind);
-      long_source = λ d w h. long_source result names at d w h kind;
-      no_source = λ d w h. wrong_source result names at d w h kind;
-      over = λ p function need g o. over result names at p function need g o kind;
-      fits = λ p g fit. fits result names at p g fit kind;
+      description = refuses result (at.folder.holds names.description) (comes by result names at kind);
+      long_source = λ d w h. long_source by result names at d w h kind;
+      no_source = λ d w h. wrong_source by result names at d w h kind;
+      over = λ p function need g o. over by result names at p function need g o kind;
+      fits = λ p g fit. fits by result names at p g fit kind;
     }

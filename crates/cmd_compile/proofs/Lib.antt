@@ -1,3 +1,4 @@
 pub mod Exactly
 pub mod Stages
 pub mod Reading
+pub mod Counting

@@ -1,4 +1,5 @@
 pub mod Lines
+pub mod Passing
 pub mod Texts
 pub mod Outcome
 pub mod Exact

@@ -10,7 +10,9 @@ use Rattle.md_reader.specs.State.{Content}
 use Rattle.c_program.specs.Programs.{AProgram}
 use Rattle.cmd_check.specs.Descriptions.{description_form, IsAccepted, NotAccepted}
 use Rattle.cmd_meaning.specs.Sources.{source_form}
-use Rattle.cmd_compile.specs.Texts.{IsTextOf, HasNoText}
+use Rattle.cmd_compile.specs.Lines.{pass_lines}
+use Rattle.cmd_compile.specs.Passing.{Passing}
+use Rattle.cmd_compile.specs.Texts.{IsTextBy, HasNoText, LinesRefused}
 
 -- the names of the two files
 pub record Files : Type 0 where
@@ -35,29 +37,34 @@ pub record FindsProgram (names : Files) (at : Outside) (d : Content) (p : AProgr
   pub holds : Holds source_form (at.folder.holds names.source) p
   pub unfailed : IsUnfailed at.folder
 
--- the first file is an accepted description, the second the source of a program, and `out` gained a text of that program
-pub record IsCompiled (names : Files) (at : Outside) : Type 0 where
+-- The first file is an accepted description, the second the source of a program, and `out` gained a text of that program. The report
+-- gained a line for each pass.
+pub record IsCompiled (by : Passing) (names : Files) (at : Outside) : Type 0 where
   pub description : Content
   pub program : AProgram
   pub finds : FindsProgram names at description program
   pub text : List ℕ
-  pub is_text : IsTextOf description program text
+  pub is_text : IsTextBy by description program text
   pub takes : TakesAll at.out text
-  pub untold : IsUntouched at.report
+  pub told : TakesAll at.report (pass_lines 0 by.changes)
 
--- What the command came to, in its order. Nothing is written to `out` before a text is there.
-pub data Leaves (result : Status) (names : Files) (at : Outside) : Type 0 where
+-- What the command came to, in its order. Nothing is written to `out` before a text is there, and no line of a pass before the text is
+-- written whole.
+pub data Leaves (by : Passing) (result : Status) (names : Files) (at : Outside) : Type 0 where
   -- the first file gave no accepted description
   NoDescription : (untouched : IsUntouched at.out) (refused : NotAccepted names.description at.folder result at.report)
-      → Leaves result names at
+      → Leaves by result names at
   -- the second file gave no program
   NoProgram : (d : Content) (finds : FindsDescription names at d) (untouched : IsUntouched at.out)
-      (refused : FileRefused source_form names.source at.folder result at.report) → Leaves result names at
+      (refused : FileRefused source_form names.source at.folder result at.report) → Leaves by result names at
   -- the program has no text
   NoText : (d : Content) (p : AProgram) (finds : FindsProgram names at d p) (untouched : IsUntouched at.out)
-      (refused : HasNoText p result at.report) → Leaves result names at
+      (refused : HasNoText p result at.report) → Leaves by result names at
   -- the program's text was not written whole
-  NotWritten : (d : Content) (p : AProgram) (finds : FindsProgram names at d p) (text : List ℕ) (is_text : IsTextOf d p text)
-      (refused : OutputRefused text result at.out at.report) → Leaves result names at
+  NotWritten : (d : Content) (p : AProgram) (finds : FindsProgram names at d p) (text : List ℕ) (is_text : IsTextBy by d p text)
+      (refused : OutputRefused text result at.out at.report) → Leaves by result names at
+  -- the program's text is in `out`, but the lines of the passes are not whole in the report
+  NotTold : (d : Content) (p : AProgram) (finds : FindsProgram names at d p) (text : List ℕ) (is_text : IsTextBy by d p text)
+      (takes : TakesAll at.out text) (refused : LinesRefused (pass_lines 0 by.changes) result at.report) → Leaves by result names at
   -- the program's text is in `out`
-  Written : (is : result ≡ statuses.Done) (compiled : IsCompiled names at) → Leaves result names at
+  Written : (is : result ≡ statuses.Done) (compiled : IsCompiled by names at) → Leaves by result names at

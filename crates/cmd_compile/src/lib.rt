@@ -3,6 +3,8 @@
 
 pub mod compile;
 pub mod lines;
+pub mod passing;
 pub mod text;
 
 pub use compile::compile_source;
+pub use vax_passes::Pass;

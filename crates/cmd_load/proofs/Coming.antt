@@ -13,6 +13,7 @@ use Rattle.cmd_check.specs.sel_parse.specs.Shown.{Refusal, PoolSmall, Template, 
 use Rattle.cmd_check.specs.Descriptions.{description_form, BuildRefused, TooMany, StarvedBuild, NotRead, NotBuilt, NotAccepted, NoTables, Stopped, NoRules}
 use Rattle.cmd_check.specs.Rules.{refusal_status, RulesRefused, NotShown, StarvedShow}
 use Rattle.cmd_check.specs.Stops.{TellsStop}
+use Rattle.cmd_compile.specs.Passing.{Passing}
 use Rattle.cmd_load.specs.declared.summary.Summary.{Summary}
 use Rattle.cmd_load.specs.Telling.{SummaryTold, Whole, Cut, StarvedSummary}
 use Rattle.cmd_load.specs.Outcome.{Loads, Starved, NotWritten, IsSpent, BothEnded, Leaves, NoDescription, Behind, MayCome}
@@ -65,12 +66,12 @@ module _ (result : Status) where
   of_summary summary report (Cut e cut) = is statuses.WriteFault tt e
   of_summary summary report (StarvedSummary starved) = is statuses.NoMemory tt starved.0
 
-  of_loads : (d : Content) (k : ℕ) (out report : Change) → Loads d k result out report → MayCome result
-  of_loads d k out report (Starved untouched starved) = is statuses.NoMemory tt starved.0
-  of_loads d k out report (NotWritten made r) = of_output _ out report r
-  of_loads d k out report (IsSpent made spent output said) = told _ _ report tt said
-  of_loads d k out report (BothEnded made output summary alike written said) = of_summary summary report said
+  of_loads : (by : Passing) (d : Content) (k : ℕ) (out report : Change) → Loads by d k result out report → MayCome result
+  of_loads by d k out report (Starved untouched starved) = is statuses.NoMemory tt starved.0
+  of_loads by d k out report (NotWritten made r) = of_output _ out report r
+  of_loads by d k out report (IsSpent made spent output said) = told _ _ report tt said
+  of_loads by d k out report (BothEnded made output summary alike written said) = of_summary summary report said
 
-  pub may_come : (name : List ℕ) (k : ℕ) (at : Outside) → Leaves result name k at → MayCome result
-  may_come name k at (NoDescription untouched r) = of_description name at.folder at.report r
-  may_come name k at (Behind d finds loads) = of_loads d k at.out at.report loads
+  pub may_come : (by : Passing) (name : List ℕ) (k : ℕ) (at : Outside) → Leaves by result name k at → MayCome result
+  may_come by name k at (NoDescription untouched r) = of_description name at.folder at.report r
+  may_come by name k at (Behind d finds loads) = of_loads by d k at.out at.report loads

@@ -10,6 +10,7 @@ use Rattle.md_reader.specs.State.{Content}
 use Rattle.cmd_check.specs.Descriptions.{description_form, IsAccepted}
 use Rattle.cmd_check.proofs.Exactly as check
 use Rattle.cmd_check.proofs.Exactly.{Comes, IsNot, of_description, not_refused, refuses}
+use Rattle.cmd_compile.specs.Passing.{Passing}
 use Rattle.cmd_load.specs.declared.summary.Summary.{Summary}
 use Rattle.cmd_load.specs.Telling.{SummaryTold, Whole, Cut, StarvedSummary}
 use Rattle.cmd_load.specs.Outcome.{Loads, Starved, NotWritten, IsSpent, BothEnded, Leaves, NoDescription, Behind}
@@ -19,7 +20,7 @@ use Rattle.cmd_load.specs.Exact.{Answers}
 abbrev Works : Status → Type 0
 Works result = IsAnswer statuses.Done result ⊎ (result ≡ statuses.Spent)
 
-module _ (result : Status) (name : List ℕ) (at : Outside) (none : HasNoFault name at) where
+module _ (by : Passing) (result : Status) (name : List ℕ) (at : Outside) (none : HasNoFault name at) where
   starved : result ≡ statuses.NoMemory → Works result
   starved is = inl (inr is)
 
@@ -36,7 +37,7 @@ module _ (result : Status) (name : List ℕ) (at : Outside) (none : HasNoFault n
   of_summary summary (Cut is cut) = absurd (none.of_report cut.rises)
   of_summary summary (StarvedSummary lack) = starved lack.0
 
-  of_loads : (d : Content) (k : ℕ) → Loads d k result at.out at.report → Works result
+  of_loads : (d : Content) (k : ℕ) → Loads by d k result at.out at.report → Works result
   of_loads d k (Starved untouched lack) = starved lack.0
   of_loads d k (NotWritten made r) = of_output _ r
   of_loads d k (IsSpent made spent output told) = of_spent _ told
@@ -46,7 +47,7 @@ module _ (result : Status) (name : List ℕ) (at : Outside) (none : HasNoFault n
   of_refused (inl is) = check.Memory is
   of_refused (inr of) = check.Refused of
 
-  comes : (k : ℕ) → Leaves result name k at → Comes result (at.folder.holds name)
+  comes : (k : ℕ) → Leaves by result name k at → Comes result (at.folder.holds name)
   comes k (NoDescription untouched r) = of_refused (of_description result name at.folder at.report none.of_folder r)
   comes k (Behind d finds loads) = check.Accepted d finds.holds finds.accepted
 
@@ -55,13 +56,13 @@ module _ (result : Status) (name : List ℕ) (at : Outside) (none : HasNoFault n
   before d item accepted (inl is) = starved is
   before d item accepted (inr of) = inl (not_refused result (at.folder.holds name) d statuses.Done item accepted of)
 
-  works : (k : ℕ) (d : Content) → IsItem description_form (at.folder.holds name) d → IsAccepted d → Leaves result name k at → Works result
+  works : (k : ℕ) (d : Content) → IsItem description_form (at.folder.holds name) d → IsAccepted d → Leaves by result name k at → Works result
   works k d item accepted (NoDescription untouched r) =
       before d item accepted (of_description result name at.folder at.report none.of_folder r)
   works k d item accepted (Behind e finds loads) = of_loads e k loads
 
-pub exactly : (result : Status) (name : List ℕ) (k : ℕ) (at : Outside) → Leaves result name k at → HasNoFault name at → Answers result (at.folder.holds name)
-exactly result name k at leaves none = record {
-  description = refuses result (at.folder.holds name) (comes result name at none k leaves);
-  works = λ d item accepted. works result name at none k d item accepted leaves;
+pub exactly : (by : Passing) (result : Status) (name : List ℕ) (k : ℕ) (at : Outside) → Leaves by result name k at → HasNoFault name at → Answers result (at.folder.holds name)
+exactly by result name k at leaves none = record {
+  description = refuses result (at.folder.holds name) (comes by result name at none k leaves);
+  works = λ d item accepted. works by result name at none k d item accepted leaves;
 }

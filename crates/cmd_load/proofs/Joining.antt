@@ -17,7 +17,8 @@ use Rattle.vax_machine.specs.Loading.{load_fault}
 use Rattle.vax_machine.specs.Running.{run}
 use Rattle.gg_load.specs.Source.{source_text}
 use Rattle.gg_load_meaning.specs.Run.{ComesTo, source_outcome}
-use Rattle.cmd_compile.specs.Texts.{IsTextOf}
+use Rattle.cmd_compile.specs.Passing.{Passing}
+use Rattle.cmd_compile.specs.Texts.{IsTextOf, IsTextBy}
 use Rattle.cmd_load_runs.specs.Tallies.{IsRunnable}
 use Rattle.cmd_load_runs.specs.Sides.{EndsAt, HasEndedLike, EndsLike}
 use Rattle.cmd_load.specs.declared.sides.Sizes.{Sizes}
@@ -42,19 +43,19 @@ only_spent (Ended s) v ends never = absurd (never s refl)
 only_spent Spent v ends never = refl
 only_spent _ v ends never = absurd (never v (ends (λ e. cc)))
 
-module _ (d : Content) (k : ℕ) (p : AProgram) (text : List ℕ) (reads : Reads (source_text k) p) (is_text : IsTextOf d p text)
-    (comes : ComesTo (source p []) (source_outcome k)) (few : (source_outcome k).number ≤ greatest_number) (one : OneEnd (run is_text.code []))
-    (like : EndsLike (run is_text.code []) (source_outcome k) 0) where
+module _ (by : Passing) (d : Content) (k : ℕ) (p : AProgram) (text : List ℕ) (reads : Reads (source_text k) p) (is_text : IsTextBy by d p text)
+    (comes : ComesTo (source p []) (source_outcome k)) (few : (source_outcome k).number ≤ greatest_number)
+    (one : OneEnd (run is_text.is_text.code [])) (like : EndsLike (run is_text.is_text.code []) (source_outcome k) 0) where
   abbrev o : Outcome
   o = source_outcome k
 
   abbrev whole : Outcome
-  whole = run is_text.code [] greatest_number
+  whole = run is_text.is_text.code [] greatest_number
 
   abbrev sizes : Sizes
   sizes = record { functions = k; source = length (source_text k); text = length text }
 
-  abbrev made : Made d k
+  abbrev made : Made by d k
   made = record { program = p; reads = reads; text = text; is_text = is_text }
 
   source_ends : EndsAt (source p []) o.number o.output 0
@@ -69,14 +70,14 @@ module _ (d : Content) (k : ℕ) (p : AProgram) (text : List ℕ) (reads : Reads
         only_spent whole.end 0 (λ u. ap (λ (x : Outcome). x.end) (like greatest_number u).is)
         (λ w e. unended 0 w (ap (λ (x : Outcome). x.end) turns_is) (ap (λ (x : Outcome). x.end) steps_are ∙ e))
 
-    pub told_so : (result : Status) (out report : Change) → SidesTold sizes turns steps result out report → Outcomes d k result out report
+    pub told_so : (result : Status) (out report : Change) → SidesTold sizes turns steps result out report → Outcomes by d k result out report
     told_so result out report (Unwritten refused) = NotWritten made (subst (λ (x : Outcome). OutputRefused x.output result out report) steps_are refused)
     told_so result out report (Written written (OneSpent unended told)) =
         IsSpent made (spent unended) (subst (λ (x : Outcome). TakesAll out x.output) steps_are written) told
     told_so result out report (Written written (BothValues other value turns_end steps_end told)) =
         let end_is : whole.end ≡ Ended value = sym (ap (λ (x : Outcome). x.end) steps_are) ∙ steps_end in
         let unspent : whole.end ≡ Spent → ⊥ = λ e. let f : Ended value ≡ Spent = sym end_is ∙ e in cc in
-        let h : HasEndedLike (run is_text.code []) o 0 greatest_number = like greatest_number unspent in
+        let h : HasEndedLike (run is_text.is_text.code []) o 0 greatest_number = like greatest_number unspent in
         let zero_is : Ended 0 ≡ Ended value = sym (ap (λ (x : Outcome). x.end) h.is) ∙ end_is in
         let value_is : 0 ≡ value = cc in
         let output_is : steps.output ≡ o.output = ap (λ (x : Outcome). x.output) steps_are ∙ ap (λ (x : Outcome). x.output) h.is in
@@ -89,8 +90,8 @@ module _ (d : Content) (k : ℕ) (p : AProgram) (text : List ℕ) (reads : Reads
               subst (λ (v : ℕ). EndsAt (source p []) turns.number o.output v) value_is
               (subst (λ (n : ℕ). EndsAt (source p []) n o.output 0) (sym turns_number) source_ends);
           instructions =
-              subst (λ (v : ℕ). EndsAt (run is_text.code []) steps.number o.output v) value_is
-              (subst (λ (n : ℕ). EndsAt (run is_text.code []) n o.output 0) (sym steps_number) h.at);
+              subst (λ (v : ℕ). EndsAt (run is_text.is_text.code []) steps.number o.output v) value_is
+              (subst (λ (n : ℕ). EndsAt (run is_text.is_text.code []) n o.output 0) (sym steps_number) h.at);
           turns_within = omega (arith, turns_number, few);
           instructions_within = omega (arith, steps_number, within);
           functions_are = refl;

@@ -13,6 +13,7 @@ ghost use Rattle.cmd_files.specs.Exact.{IsExact};
 ghost use Rattle.cmd_files.specs.Translations.{IsTranslated};
 ghost use Rattle.cmd_check.specs.Outcome.{Leaves as CheckLeaves};
 ghost use Rattle.cmd_check.specs.Exact.{IsExact as CheckIsExact};
+ghost use Rattle.cmd_compile.specs.Passing.{passing, AreKept};
 ghost use Rattle.cmd_compile.specs.Outcome.{files, FailAtMost, Leaves as CompileLeaves};
 ghost use Rattle.cmd_compile.specs.Exact.{IsExact as CompileIsExact};
 ghost use Rattle.cmd_load.specs.Outcome.{Leaves as LoadLeaves, MayCome as LoadMayCome};
@@ -23,7 +24,7 @@ ghost use Rattle.cmd_image.specs.Texts.{image_of_text};
 ghost use Rattle.cmd_text.specs.Images.{text_of_image};
 
 use cmd_check::check_description;
-use cmd_compile::compile_source;
+use cmd_compile::{Pass, compile_source};
 use cmd_image::write_image;
 use cmd_load::load_generated;
 use cmd_meaning::run_source;
@@ -43,6 +44,7 @@ pub fn ggvax<F: Folder, I: Source, O: Sink, E: Sink>(
     input: &mut I,
     out: &mut O,
     report: &mut E,
+    passes: &mut Vec<Box<dyn Pass>>,
 ) -> Status
     // `check D`: what each status says of the machine description, of its tables and rules and what is written, and that each comes
     // where its cause is there.
@@ -51,10 +53,11 @@ pub fn ggvax<F: Folder, I: Source, O: Sink, E: Sink>(
     ensures check_exact { (d : List ℕ) → SaysCheck (spelled words.now) d
         → CheckIsExact result d (outside F.Folder O.Sink E.Sink folder.old folder.new out.old out.new report.old report.new) }
 
-    // `compile D S`: the same of the machine description, of the source and of the text of its code. Where a text is written, it is
-    // that of one code, which loads and on every input does what the source does; and a source whose functions fit their frames has one.
+    // `compile D S`: the same of the machine description, of the source and of the text. Where a text is written, it is that of one code,
+    // to which the passes lead from the source's, each by what it says of itself. It loads and on every input does what the source does;
+    // and a source whose functions fit their frames has one.
     ensures compile { (d source : List ℕ) → SaysCompile (spelled words.now) d source
-        → CompileLeaves result (files d source)
+        → CompileLeaves (passing (λ p n c e. wrote p n c e) (λ p. made p) passes.old.items passes.new.items) result (files d source)
         (outside F.Folder O.Sink E.Sink folder.old folder.new out.old out.new report.old report.new) }
     ensures compile_exact { (d source : List ℕ) → SaysCompile (spelled words.now) d source
         → CompileIsExact result (files d source)
@@ -76,10 +79,11 @@ pub fn ggvax<F: Folder, I: Source, O: Sink, E: Sink>(
         → IsExact source_form source_runner result (call_of source count (intake I.Source input.old input.new)
         (outside F.Folder O.Sink E.Sink folder.old folder.new out.old out.new report.old report.new)) }
 
-    // `load D K`: the same of the machine description, and of the generated source of K functions, of its text and of what both
-    // sides' runs came to; and that no other status comes.
+    // `load D K`: the same of the machine description, and of the generated source of K functions, of its text by the passes and of what
+    // both sides' runs came to; and that no other status comes.
     ensures load { (d : List ℕ) (k : ℕ) → SaysLoad (spelled words.now) d k
-        → LoadLeaves result d k (outside F.Folder O.Sink E.Sink folder.old folder.new out.old out.new report.old report.new) }
+        → LoadLeaves (passing (λ p n c e. wrote p n c e) (λ p. made p) passes.old.items passes.new.items) result d k
+        (outside F.Folder O.Sink E.Sink folder.old folder.new out.old out.new report.old report.new) }
     ensures load_comes { (d : List ℕ) (k : ℕ) → SaysLoad (spelled words.now) d k → LoadMayCome result }
     ensures load_exact { (d : List ℕ) (k : ℕ) → SaysLoad (spelled words.now) d k
         → LoadIsExact result d (outside F.Folder O.Sink E.Sink folder.old folder.new out.old out.new report.old report.new) }
@@ -119,6 +123,16 @@ pub fn ggvax<F: Folder, I: Source, O: Sink, E: Sink>(
     ensures text_input { (image : List ℕ) → SaysText (spelled words.now) image → input.new ≡ input.old }
     ensures usage_input { SaysNone (spelled words.now) → input.new ≡ input.old }
     ensures taken { TakesAtMost (input_limit + 1) (intake I.Source input.old input.new) }
+
+    // The list holds the same passes in the same order, and no one's number of changes fell. `compile` and `load` alone call them.
+    ensures kept { AreKept (λ p. p.vtable) (λ p. made p) passes.old.items passes.new.items }
+    ensures check_passes { (d : List ℕ) → SaysCheck (spelled words.now) d → passes.new.items ≡ passes.old.items }
+    ensures run_passes { (text : List ℕ) (count : ℕ) → SaysRun (spelled words.now) text count → passes.new.items ≡ passes.old.items }
+    ensures meaning_passes { (source : List ℕ) (count : ℕ) → SaysMeaning (spelled words.now) source count
+        → passes.new.items ≡ passes.old.items }
+    ensures image_passes { (text : List ℕ) → SaysImage (spelled words.now) text → passes.new.items ≡ passes.old.items }
+    ensures text_passes { (image : List ℕ) → SaysText (spelled words.now) image → passes.new.items ≡ passes.old.items }
+    ensures usage_passes { SaysNone (spelled words.now) → passes.new.items ≡ passes.old.items }
 {
     let Some(command) = command_of(words) else {
         return refuse(
@@ -130,14 +144,14 @@ pub fn ggvax<F: Folder, I: Source, O: Sink, E: Sink>(
     match command {
         Command::Check(description) => check_description(alloc, description, folder, out, report),
         Command::Compile(description, source) => {
-            compile_source(alloc, description, source, folder, out, report)
+            compile_source(alloc, description, source, folder, out, report, passes)
         }
         Command::Run(text, count) => run_text(alloc, text, count, folder, input, out, report),
         Command::Meaning(source, count) => {
             run_source(alloc, source, count, folder, input, out, report)
         }
         Command::Load(description, functions) => {
-            load_generated(alloc, description, functions, folder, out, report)
+            load_generated(alloc, description, functions, folder, out, report, passes)
         }
         Command::Image(text) => write_image(alloc, text, folder, out, report),
         Command::Text(image) => write_text(alloc, image, folder, out, report),

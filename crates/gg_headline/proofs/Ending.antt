@@ -15,8 +15,9 @@ use Rattle.cmd_compile.specs.cmd_check.specs.Rules.{refusal_status, RulesRefused
 use Rattle.cmd_compile.specs.cmd_check.specs.Stops.{TellsStop}
 use Rattle.cmd_compile.specs.cmd_check.specs.Descriptions.{description_form, BuildRefused, TooMany, StarvedBuild, NotRead, NotBuilt, NotAccepted, NoTables, Stopped, NoRules}
 use Rattle.cmd_compile.specs.cmd_meaning.specs.Sources.{source_form}
-use Rattle.cmd_compile.specs.Texts.{HasNoText, FrameIsFull, StarvedText}
-use Rattle.cmd_compile.specs.Outcome.{NoDescription, NoProgram, NoText, NotWritten, Written}
+use Rattle.cmd_compile.specs.Passing.{Passing}
+use Rattle.cmd_compile.specs.Texts.{HasNoText, FrameIsFull, StarvedText, LinesRefused, CutLines, StarvedLines}
+use Rattle.cmd_compile.specs.Outcome.{NoDescription, NoProgram, NoText, NotWritten, NotTold, Written}
 use Rattle.gg_headline.specs.Claims.{IsRefusal, CompileEnds}
 
 module _ (result : Status) (report : Change) where
@@ -75,9 +76,14 @@ module _ (result : Status) (report : Change) where
   of_output out text (CutOutput is cut line) = at statuses.WriteFault is tt
   of_output out text (StarvedOutput s front once) = starved s
 
-pub compile_ends : CompileEnds
-compile_ends result names at (NoDescription untouched r) = inr (of_description result at.report names.description at.folder r)
-compile_ends result names at (NoProgram d finds untouched r) = inr (of_source_file result at.report names.source at.folder r)
-compile_ends result names at (NoText d p finds untouched r) = inr (of_text result at.report p r)
-compile_ends result names at (NotWritten d p finds text is_text r) = inr (of_output result at.report at.out text r)
-compile_ends result names at (Written is compiled) = inl (is, compiled)
+  of_lines : {lines : List ℕ} → LinesRefused lines result report → IsRefusal result
+  of_lines (CutLines is cut) = at statuses.WriteFault is tt
+  of_lines (StarvedLines s) = starved s
+
+pub compile_ends : (by : Passing) → CompileEnds by
+compile_ends by result names at (NoDescription untouched r) = inr (of_description result at.report names.description at.folder r)
+compile_ends by result names at (NoProgram d finds untouched r) = inr (of_source_file result at.report names.source at.folder r)
+compile_ends by result names at (NoText d p finds untouched r) = inr (of_text result at.report p r)
+compile_ends by result names at (NotWritten d p finds text is_text r) = inr (of_output result at.report at.out text r)
+compile_ends by result names at (NotTold d p finds text is_text takes r) = inr (of_lines result at.report r)
+compile_ends by result names at (Written is compiled) = inl (is, compiled)

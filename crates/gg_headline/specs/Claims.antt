@@ -15,6 +15,7 @@ use Rattle.cmd_files.specs.Calls.{Call}
 use Rattle.cmd_files.specs.Outcome.{RanTo, IsRefusedAs}
 use Rattle.cmd_files.specs.Exact.{LeavesBytes, IsAnswer, Answers}
 use Rattle.cmd_run.specs.Texts.{text_limit, text_form, code_runner}
+use Rattle.cmd_compile.specs.Passing.{Passing}
 use Rattle.cmd_compile.specs.Texts.{IsTextOf}
 use Rattle.cmd_compile.specs.Outcome.{Files, IsCompiled, Leaves}
 
@@ -44,10 +45,10 @@ IsRefusal statuses.Broken = ⊥
 IsRefusal statuses.ImageRefused = ⊥
 
 -- What `compile` leaves at status 0 is a text of the source, and at each other status it refuses.
-abbrev pub CompileEnds : Type 0
-CompileEnds =
-    (result : Status) (names : Files) (at : Outside) → Leaves result names at
-    → ((result ≡ statuses.Done) × IsCompiled names at) ⊎ IsRefusal result
+abbrev pub CompileEnds : Passing → Type 0
+CompileEnds by =
+    (result : Status) (names : Files) (at : Outside) → Leaves by result names at
+    → ((result ≡ statuses.Done) × IsCompiled by names at) ⊎ IsRefusal result
 
 -- the file that `run` is given is this text
 abbrev pub HoldsText : List ℕ → Call → Type 0

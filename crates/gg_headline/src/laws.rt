@@ -1,9 +1,13 @@
 // The laws. The functions do nothing; their clauses are the laws.
+ghost use Rattle.cmd_compile.specs.Passing.{passing};
 ghost use Rattle.gg_headline.specs.Claims.{CompileEnds, TextsAreTaken, RunsTell, RunsEnd};
 
-/// The law: what `compile` leaves at status 0 is a text of the source's code, and each other status is one of those that refuse.
-pub fn compile_ends()
-    ensures { CompileEnds }
+use cmd_compile::Pass;
+
+/// The law: what `compile` leaves at status 0 is a text of the source's code, and each other status is one of those that refuse. It holds
+/// of whatever passes: the list as it was before the call, and as it is behind it.
+pub fn compile_ends(_before: &[Box<dyn Pass>], _behind: &[Box<dyn Pass>])
+    ensures { CompileEnds (passing (λ p n c e. wrote p n c e) (λ p. made p) _before.now _behind.now) }
 {}
 
 /// The law: `run` doesn't refuse a text that `compile` wrote for what it holds: it is a code's text, and the code loads.

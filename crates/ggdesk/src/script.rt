@@ -4,8 +4,10 @@ use cmd_session::{Status, write_all};
 use gg_base::NoMemory;
 use gg_outside::{Sink, SinkFault};
 use ggdesk_commands::commands::answer_commands;
+use ggdesk_images::images::answer_images;
 use ggdesk_machine::assembly::answer_assembly;
 use ggdesk_machine::machine::answer_machine;
+use ggdesk_passes::passes::answer_passes;
 use ggdesk_rules::check::answer_checks;
 use ggdesk_rules::tables::answer_tables;
 use ggdesk_rules::templates::answer_templates;
@@ -25,7 +27,9 @@ fn answer_rows(
     match subject {
         Subject::Syntax => answer_syntax(alloc, rows, told),
         Subject::Assembly => answer_assembly(alloc, rows, told),
+        Subject::Images => answer_images(alloc, rows, told),
         Subject::Machine => answer_machine(alloc, rows, told),
+        Subject::Passes => answer_passes(alloc, rows, told),
         Subject::Terms => answer_terms(alloc, rows, told),
         Subject::Trees => answer_trees(alloc, rows, told),
         Subject::Types => answer_types(alloc, rows, told),

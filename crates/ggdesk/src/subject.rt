@@ -7,8 +7,12 @@ pub enum Subject {
     Syntax,
     /// Assembly texts: what they hold or their first wrong line, and whether they are written back byte for byte.
     Assembly,
+    /// Binary images: those of texts, and the texts of those that bytes are.
+    Images,
     /// Texts on the machine: instructions at their edges, operands, and each way to end.
     Machine,
+    /// Lists of passes over assembly texts: what they lead to, and how many changes each has made.
+    Passes,
     /// Terms with their normal forms, and rules with the effects of their patterns.
     Terms,
     /// Trees and programs of trees: whether they are well typed or valid, and how they run.
@@ -28,10 +32,12 @@ pub enum Subject {
 }
 
 /// The subjects with their names.
-pub static SUBJECTS: [(&str, Subject); 11] = [
+pub static SUBJECTS: [(&str, Subject); 13] = [
     ("syntax", Subject::Syntax),
     ("assembly", Subject::Assembly),
+    ("images", Subject::Images),
     ("machine", Subject::Machine),
+    ("passes", Subject::Passes),
     ("terms", Subject::Terms),
     ("trees", Subject::Trees),
     ("types", Subject::Types),

@@ -1,5 +1,7 @@
 // A source compiled by the shipped description, or by it with fewer registers, and run on both sides.
 
+use crate::fronts::stops_of;
+use crate::passes::PassName;
 use crate::world::{SOURCE, TEXT, folder_of, put_file, ran, refusal};
 use cmd_check::{Accepted, read_accepted};
 use cmd_compile::text::text_of;
@@ -9,6 +11,8 @@ use cmd_session::Status;
 use gg_outside::{MemFolder, MemSink};
 use gg_texts::VAX_GG;
 use std::alloc::{AllocError, Global};
+use vax_codes::{JumpChain, NeedlessTest};
+use vax_passes::{DeadTail, NextJump, Pass};
 
 // The line of the shipped description that names its registers.
 const POOL: &str = "pool r0 r1 r2 r3 r4 r5\n";
@@ -53,14 +57,25 @@ pub fn open(alloc: Global, registers: &str) -> Result<Opened, AllocError> {
     })
 }
 
-// The text of a source that was read, or what `compile` leaves behind where there is none.
+// The text of a source that was read, by those of the passes that are shipped, or what `compile` leaves behind where there is none.
 fn written(
     alloc: Global,
     accepted: &Accepted,
     source: &SourceText,
+    names: &[PassName],
 ) -> Result<Result<String, String>, AllocError> {
     let mut report = MemSink::new(alloc, 1, Vec::new(alloc));
-    match text_of(alloc, accepted, source.program(), &mut report) {
+    let mut passes: Vec<Box<dyn Pass>> = Vec::new(alloc);
+    for name in names {
+        match name {
+            PassName::Chain => passes.push(Box::new(alloc, JumpChain::new(alloc))?)?,
+            PassName::Next => passes.push(Box::new(alloc, NextJump::new(alloc))?)?,
+            PassName::Dead => passes.push(Box::new(alloc, DeadTail::new(alloc))?)?,
+            PassName::Test => passes.push(Box::new(alloc, NeedlessTest::new(alloc))?)?,
+            _ => {}
+        }
+    }
+    match text_of(alloc, accepted, source.program(), &mut passes, &mut report) {
         Ok(text) => Ok(Ok(text)),
         Err(status) => Ok(Err(refusal(alloc, status, &report)?)),
     }
@@ -71,12 +86,13 @@ fn compiled(
     alloc: Global,
     accepted: &Accepted,
     source: &str,
+    names: &[PassName],
 ) -> Result<Result<String, String>, AllocError> {
     let mut folder = folder_of(alloc, SOURCE, source.as_bytes())?;
     let mut report = MemSink::new(alloc, 1, Vec::new(alloc));
     let read: Result<SourceText, Status> = read_file(alloc, &mut folder, SOURCE, &mut report);
     match read {
-        Ok(source) => written(alloc, accepted, &source),
+        Ok(source) => written(alloc, accepted, &source, names),
         Err(status) => Ok(Err(refusal(alloc, status, &report)?)),
     }
 }
@@ -101,16 +117,28 @@ fn both(
     format!(in alloc; "{run}, by its meaning {meaning}")
 }
 
-/// What both sides of a source leave behind, or how it is refused.
+/// How the writing of a source's text ends at each of its calls that fails, or how the source is refused.
+pub fn written_of(alloc: Global, opened: &Opened, source: &str) -> Result<String, AllocError> {
+    match &opened.accepted {
+        Ok(accepted) => match compiled(alloc, accepted, source, &[])? {
+            Ok(text) => stops_of(alloc, text.as_str()),
+            Err(told) => Ok(told),
+        },
+        Err(told) => String::from_str(alloc, told.as_str()),
+    }
+}
+
+/// What both sides of a source leave behind, its text being written by these passes; or how it is refused.
 pub fn told_of(
     alloc: Global,
     opened: &Opened,
     source: &str,
     count: u64,
     input: &str,
+    names: &[PassName],
 ) -> Result<String, AllocError> {
     match &opened.accepted {
-        Ok(accepted) => match compiled(alloc, accepted, source)? {
+        Ok(accepted) => match compiled(alloc, accepted, source, names)? {
             Ok(text) => both(alloc, text.as_str(), source, count, input),
             Err(told) => Ok(told),
         },

@@ -2,13 +2,17 @@
 // the report:
 // - `REGISTERS@SOURCE@N@INPUT`: the source compiled by the shipped description with so many registers in its pool, or as it is, and both
 //   sides run with that number and that input: what `run` of the text leaves behind, and what `meaning` of the source leaves, where that
-//   differs; or how the source is refused. A description is read and checked once for the rows that name it one behind another.
+//   differs; or how the source is refused. A description is read and checked once for the rows that name it one behind another. Marks may
+//   stand behind the input, with `@` between: the shipped passes that the text is written by.
 // - `text@TEXT@N@INPUT`: what `run` of that assembly text leaves behind; `~` stands for a TAB there and `/` for a line feed.
 // - `source@SOURCE@N@INPUT`: what `meaning` of that source leaves behind.
+// - `writes@SOURCE@1@`: how the writing of the text of that source ends at each of its calls that fails, one for each byte.
 // - `ggvax@WORDS@FILE@INPUT@MARKS`: what the whole program leaves behind, by words between commas, where the folder has the shipped
-//   description as `d`, the small one as `m`, and the file `s`; `→` stands for a TAB there and `¶` for a line feed. The marks are told with
-//   `World`.
-use crate::both::{Opened, open, told_of};
+//   description as `d`, the small one as `m`, the large one as `h`, and the file `s`; `→` stands for a TAB there and `¶` for a line feed.
+//   The marks are told with `World`.
+// - `fronts@WORDS@FILE@INPUT@MARKS`: the same of each front of the file, behind the least length of those that leave it.
+use crate::both::{Opened, open, told_of, written_of};
+use crate::fronts::fronts_of;
 use crate::world::{SOURCE, TEXT, World, called, folder_of, ran};
 use gg_base::NoMemory;
 use std::alloc::{AllocError, Global};
@@ -28,6 +32,14 @@ fn unfolded(alloc: Global, row: &str, tab: char, line_feed: char) -> Result<Stri
         .collect(alloc)
 }
 
+// Opens the description with so many registers, where another one is open.
+fn open_with(alloc: Global, opened: &mut Opened, registers: &str) -> Result<(), AllocError> {
+    if opened.registers.as_str() != registers {
+        *opened = open(alloc, registers)?;
+    }
+    Ok(())
+}
+
 // What the row's run leaves behind.
 fn answer_run(
     alloc: Global,
@@ -36,6 +48,7 @@ fn answer_run(
     file: &str,
     count: u64,
     input: &str,
+    marks: &str,
 ) -> Result<String, AllocError> {
     match kind {
         "text" => {
@@ -47,13 +60,32 @@ fn answer_run(
             let mut folder = folder_of(alloc, SOURCE, file.as_bytes())?;
             ran(alloc, &mut folder, false, count, input)
         }
+        "writes" => {
+            open_with(alloc, opened, "")?;
+            written_of(alloc, opened, file)
+        }
         registers => {
-            if opened.registers.as_str() != registers {
-                *opened = open(alloc, registers)?;
-            }
-            told_of(alloc, opened, file, count, input)
+            open_with(alloc, opened, registers)?;
+            let world = World::of(alloc, marks)?;
+            told_of(alloc, opened, file, count, input, &world.passes)
         }
     }
+}
+
+// What the whole program leaves behind, of the file or of each front of it.
+fn answer_call(
+    alloc: Global,
+    kind: &str,
+    words: &str,
+    file: &str,
+    input: &str,
+    marks: &str,
+) -> Result<String, AllocError> {
+    let file = unfolded(alloc, file, '→', '¶')?;
+    if kind == "fronts" {
+        return fronts_of(alloc, words, &file, input, marks);
+    }
+    called(alloc, words, &file, input, World::of(alloc, marks)?)
 }
 
 fn answer(alloc: Global, opened: &mut Opened, row: &str) -> Result<String, AllocError> {
@@ -66,13 +98,12 @@ fn answer(alloc: Global, opened: &mut Opened, row: &str) -> Result<String, Alloc
     ) else {
         return String::from_str(alloc, "no row");
     };
-    if kind == "ggvax" {
-        let file = unfolded(alloc, second, '→', '¶')?;
-        let world = World::of(alloc, parts.next().unwrap_or(""))?;
-        return called(alloc, first, &file, third, world);
+    let marks = parts.next().unwrap_or("");
+    if kind == "ggvax" || kind == "fronts" {
+        return answer_call(alloc, kind, first, second, third, marks);
     }
     match second.parse::<u64>() {
-        Ok(count) => answer_run(alloc, opened, kind, first, count, third),
+        Ok(count) => answer_run(alloc, opened, kind, first, count, third, marks),
         Err(_) => String::from_str(alloc, "no number"),
     }
 }

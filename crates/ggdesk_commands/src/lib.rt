@@ -3,4 +3,7 @@
 
 pub mod both;
 pub mod commands;
+pub mod fronts;
+pub mod large;
+pub mod passes;
 pub mod world;

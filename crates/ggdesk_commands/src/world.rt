@@ -1,6 +1,8 @@
 // What a command finds in memory: files, an input, sinks, and the calls of each that fail.
 ghost use Rattle.std.specs.Prelude.{◌<◌};
 
+use crate::large::large_description;
+use crate::passes::{Counted, PassName, Refusing, Twice};
 use cmd_meaning::run_source;
 use cmd_run::run_text;
 use cmd_session::Status;
@@ -9,6 +11,11 @@ use gg_base::{Bytes, Name};
 use gg_outside::{MemFile, MemFolder, MemSink, MemSource};
 use gg_texts::{M_GG, VAX_GG};
 use std::alloc::{AllocError, Global};
+use vax_codes::{JumpChain, NeedlessTest};
+use vax_passes::{DeadTail, NextJump, Pass};
+
+/// The file of the large description.
+const LARGE: &str = "h";
 
 /// The files of the commands: the text and the source that both sides are told of.
 pub const TEXT: &str = "a.s";
@@ -83,8 +90,8 @@ pub fn ran(
     left(alloc, status, &out, &report)
 }
 
-/// What the folder, the input and the sinks of one call do: the numbers of their calls that fail, how many bytes a call takes, and the
-/// lengths up to which blanks are put behind the file `s` and the input.
+/// What the folder, the input and the sinks of one call do: the numbers of their calls that fail, how many bytes a call takes, the
+/// lengths up to which a byte, else a blank, is put behind the file `s` and the input, and the passes that it is given, in order.
 #[derive(Drop)]
 pub struct World {
     folder: Vec<u64>,
@@ -94,6 +101,8 @@ pub struct World {
     most: usize,
     file_length: usize,
     input_length: usize,
+    fill: u8,
+    pub passes: Vec<PassName>,
 }
 
 // The number behind the name of a mark and `=`.
@@ -104,7 +113,8 @@ fn numbered(mark: &str) -> Option<(&str, u32)> {
 
 impl World {
     /// The world of marks between blanks: `folder=N`, `input=N`, `out=N` and `report=N` are calls that fail, counted from 0; `most=N` is
-    /// how many bytes a call takes, else one; `file=N` and `given=N` are lengths.
+    /// how many bytes a call takes, else one; `file=N` and `given=N` are lengths, and `fill=N` is the byte up to them. Each of `chain`,
+    /// `next`, `dead`, `test`, `twice`, `counted=N` and `refusing=N` is a pass, as `PassName` says.
     pub fn of(alloc: Global, marks: &str) -> Result<World, AllocError> {
         let mut world = World {
             folder: Vec::new(alloc),
@@ -114,6 +124,8 @@ impl World {
             most: 1,
             file_length: 0,
             input_length: 0,
+            fill: b' ',
+            passes: Vec::new(alloc),
         };
         for mark in marks.split(' ') {
             match numbered(mark) {
@@ -124,18 +136,26 @@ impl World {
                 Some(("most", count)) => world.most = count as usize,
                 Some(("file", length)) => world.file_length = length as usize,
                 Some(("given", length)) => world.input_length = length as usize,
-                _ => {}
+                Some(("fill", byte)) => world.fill = (byte % 0x100) as u8,
+                Some(("counted", changes)) => world.passes.push(PassName::Counted(changes))?,
+                Some(("refusing", calls)) => world.passes.push(PassName::Refusing(calls))?,
+                Some(_) => {}
+                None => {
+                    if let Some(name) = PassName::of(mark) {
+                        world.passes.push(name)?;
+                    }
+                }
             }
         }
         Ok(world)
     }
 }
 
-// The bytes of a text, with blanks behind them up to that length.
-fn padded(alloc: Global, text: &str, length: usize) -> Result<Vec<u8>, AllocError> {
+// The bytes of a text, with a byte behind them up to that length.
+fn padded(alloc: Global, text: &str, length: usize, fill: u8) -> Result<Vec<u8>, AllocError> {
     let mut bytes = Vec::from_slice(alloc, text.as_bytes())?;
     if bytes.len() < length {
-        bytes.resize(length, b' ')?;
+        bytes.resize(length, fill)?;
     }
     Ok(bytes)
 }
@@ -172,13 +192,17 @@ fn shown(alloc: Global, bytes: &[u8]) -> Result<String, AllocError> {
         .collect(alloc)
 }
 
-// The files of the whole program's folder: the shipped description, the small one, and the file of a row.
-fn files_of(alloc: Global, file: &str, length: usize) -> Result<Vec<MemFile>, AllocError> {
-    let bytes = padded(alloc, file, length)?;
+// The files of the whole program's folder: the shipped description, the small one, and the file of a row; the large one, where its first
+// file is asked for by that name.
+fn files_of(alloc: Global, words: &[String], file: &[u8]) -> Result<Vec<MemFile>, AllocError> {
     let mut files = Vec::new(alloc);
     put_file(alloc, &mut files, "d", VAX_GG.as_bytes())?;
     put_file(alloc, &mut files, "m", M_GG.as_bytes())?;
-    put_file(alloc, &mut files, "s", bytes.as_slice())?;
+    put_file(alloc, &mut files, "s", file)?;
+    if words.get(1).is_some_and(|name| name.as_str() == LARGE) {
+        let large = large_description(alloc)?;
+        put_file(alloc, &mut files, LARGE, large.as_bytes())?;
+    }
     Ok(files)
 }
 
@@ -194,8 +218,39 @@ fn left_on_a_line(
     format!(in alloc; "{} {out}|{report}", status as u8)
 }
 
+// Runs the whole program with the passes of those names.
+fn run_program(
+    alloc: Global,
+    words: &[String],
+    names: &[PassName],
+    folder: &mut MemFolder,
+    input: &mut MemSource,
+    out: &mut MemSink,
+    report: &mut MemSink,
+) -> Result<Status, AllocError> {
+    let mut passes: Vec<Box<dyn Pass>> = Vec::new(alloc);
+    for name in names {
+        match *name {
+            PassName::Chain => passes.push(Box::new(alloc, JumpChain::new(alloc))?)?,
+            PassName::Next => passes.push(Box::new(alloc, NextJump::new(alloc))?)?,
+            PassName::Dead => passes.push(Box::new(alloc, DeadTail::new(alloc))?)?,
+            PassName::Test => passes.push(Box::new(alloc, NeedlessTest::new(alloc))?)?,
+            PassName::Twice => {
+                let next = NextJump::new(alloc);
+                passes.push(Box::new(alloc, Twice::new(next))?)?;
+            }
+            PassName::Counted(changes) => {
+                let counted = Counted::new(u64::from(changes));
+                passes.push(Box::new(alloc, counted)?)?;
+            }
+            PassName::Refusing(calls) => passes.push(Box::new(alloc, Refusing::new(calls))?)?,
+        }
+    }
+    Ok(ggvax(alloc, words, folder, input, out, report, &mut passes))
+}
+
 /// What the whole program leaves behind: its status, what its output gained, a bar, and what its report gained. The folder has the
-/// shipped description as `d`, the small one as `m`, and the file `s`.
+/// shipped description as `d`, the small one as `m`, the large one as `h`, and the file `s`.
 pub fn called(
     alloc: Global,
     words: &str,
@@ -204,21 +259,23 @@ pub fn called(
     world: World,
 ) -> Result<String, AllocError> {
     let words = words_of(alloc, words)?;
-    let files = files_of(alloc, file, world.file_length)?;
-    let given = padded(alloc, input, world.input_length)?;
+    let bytes = padded(alloc, file, world.file_length, world.fill)?;
+    let files = files_of(alloc, words.as_slice(), bytes.as_slice())?;
+    let given = padded(alloc, input, world.input_length, world.fill)?;
     let most = at_least_one(world.most);
     let mut folder = MemFolder::new(alloc, files, world.folder);
     let mut input = MemSource::new(given, most, world.input);
     let mut out = MemSink::new(alloc, most, world.out);
     let mut report = MemSink::new(alloc, most, world.report);
-    let status = ggvax(
+    let status = run_program(
         alloc,
         words.as_slice(),
+        world.passes.as_slice(),
         &mut folder,
         &mut input,
         &mut out,
         &mut report,
-    );
+    )?;
     left_on_a_line(alloc, status, &out, &report)
 }
 

@@ -8,6 +8,8 @@ use gg_outside::{StdFolder, StdSink, StdSource};
 use std::env;
 use std::io::ErrorKind;
 use std::process::ExitCode;
+use vax_codes::{JumpChain, NeedlessTest};
+use vax_passes::{DeadTail, NextJump, Pass};
 
 // The words behind the program's name; none where the system gives none, or one of them is no UTF-8.
 fn command_words(rt: HostRuntime) -> Result<Vec<String>, NoMemory> {
@@ -25,6 +27,11 @@ fn run(rt: HostRuntime) -> Result<Status, NoMemory> {
     let mut input = StdSource::new(rt)?;
     let mut out = StdSink::out(rt)?;
     let mut report = StdSink::err(rt)?;
+    let mut passes: Vec<Box<dyn Pass>> = Vec::new(alloc);
+    passes.push(Box::new(alloc, JumpChain::new(alloc))?)?;
+    passes.push(Box::new(alloc, NextJump::new(alloc))?)?;
+    passes.push(Box::new(alloc, DeadTail::new(alloc))?)?;
+    passes.push(Box::new(alloc, NeedlessTest::new(alloc))?)?;
     Ok(ggvax(
         alloc,
         words.as_slice(),
@@ -32,6 +39,7 @@ fn run(rt: HostRuntime) -> Result<Status, NoMemory> {
         &mut input,
         &mut out,
         &mut report,
+        &mut passes,
     ))
 }
 

@@ -1,15 +1,9 @@
-use Rattle.c_program.specs.Programs.{program}
-use Rattle.cmd_compile.specs.Texts.{FrameIsFull}
-use Rattle.cmd_compile.proofs.Reading.{is_text}
+use Rattle.cmd_compile.proofs.Counting.{kept_same}
+use Rattle.cmd_compile.proofs.Reading.{is_text_by}
 use Rattle.cmd_compile.proofs.text.text_of.Goals as goal
 
-pub returns-in-Err-FrameFull-clause-refused : goal.returns-in-Err-FrameFull-clause-refused
-returns-in-Err-FrameFull-clause-refused g c =
-    FrameIsFull c.in-Err-FrameFull.function c.in-Err-FrameFull.need (rw c.in-Err-FrameFull.field-0-is at c.in-Err-FrameFull.ensures.over)
-    (c.refuse_with.ensures _ c.frame_line-line.ensures)
+pub returns-in-Err-clause-kept : goal.returns-in-Err-clause-kept
+returns-in-Err-clause-kept g c = kept_same _ _ _
 
-pub returns-in-Ok-write_code-clause-text : goal.returns-in-Ok-write_code-clause-text
-returns-in-Ok-write_code-clause-text g c =
-    is_text c.args.accepted.now.content (program c.args.source.now.held) c.in-Ok.compiled.trees c.in-Ok.compiled.code _ c.in-Ok.ensures.trees
-    c.in-Ok.ensures.code c.in-Ok.ensures.valid c.in-Ok.ensures.keeps c.in-Ok.ensures.fit
-    (rw c.new-text.ensures.bytes at c.in-Ok-write_code.ensures.written)
+pub returns-in-Ok-passed_text-clause-text : goal.returns-in-Ok-passed_text-clause-text
+returns-in-Ok-passed_text-clause-text g c = is_text_by c.alike_runs_follow.ensures _ _ _ c.in-Ok.code _ c.in-Ok.ensures.code c.in-Ok-passed_text.ensures.text

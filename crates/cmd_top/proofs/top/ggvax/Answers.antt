@@ -12,6 +12,7 @@ use Rattle.cmd_compile.specs.Outcome.{files, FailAtMost, Leaves as CompileLeaves
 use Rattle.cmd_compile.specs.Exact.{IsExact as CompileIsExact}
 use Rattle.cmd_load.specs.Outcome.{Leaves as LoadLeaves}
 use Rattle.cmd_load.specs.Exact.{IsExact as LoadIsExact}
+use Rattle.cmd_compile.proofs.Counting.{kept_same}
 use Rattle.cmd_image.specs.Texts.{image_of_text}
 use Rattle.cmd_text.specs.Images.{text_of_image}
 use Rattle.cmd_top.proofs.Chosen.{only_check, only_compile, only_run, only_meaning, only_load, only_image, only_text, counts, carried, named, paired}
@@ -59,7 +60,7 @@ returns-in-Check-clause-check_exact g c = λ d said.
 
 pub returns-in-Compile-clause-compile : goal.returns-in-Compile-clause-compile
 returns-in-Compile-clause-compile g c = λ d source said.
-    paired (λ x y. CompileLeaves c.compile_source.result (files x y)
+    paired (λ x y. CompileLeaves _ c.compile_source.result (files x y)
     (outside g.F.Folder g.O.Sink g.E.Sink c.args.folder.now c.compile_source.new.folder c.args.out.now c.compile_source.new.out c.args.report.now c.compile_source.new.report))
     _ _ _ _ (only_compile _ _ _ _ c.in-Some.ensures.only c.in-Compile.is d source said) c.compile_source.ensures.leaves
 
@@ -79,7 +80,7 @@ load_generated-requires g c = counts _ _ _ _ c.in-Some.ensures.some c.in-Load.is
 
 pub returns-in-Load-clause-load : goal.returns-in-Load-clause-load
 returns-in-Load-clause-load g c = λ d k said.
-    carried (λ s n. LoadLeaves c.load_generated.result s n
+    carried (λ s n. LoadLeaves _ c.load_generated.result s n
     (outside g.F.Folder g.O.Sink g.E.Sink c.args.folder.now c.load_generated.new.folder c.args.out.now c.load_generated.new.out c.args.report.now c.load_generated.new.report))
     _ _ _ _ (only_load _ _ _ _ c.in-Some.ensures.only c.in-Load.is d k said) c.load_generated.ensures.leaves
 
@@ -88,6 +89,24 @@ returns-in-Load-clause-load_exact g c = λ d k said.
     carried (λ s n. LoadIsExact c.load_generated.result s
     (outside g.F.Folder g.O.Sink g.E.Sink c.args.folder.now c.load_generated.new.folder c.args.out.now c.load_generated.new.out c.args.report.now c.load_generated.new.report))
     _ _ _ _ (only_load _ _ _ _ c.in-Some.ensures.only c.in-Load.is d k said) c.load_generated.ensures.exact
+
+pub returns-in-None-clause-kept : goal.returns-in-None-clause-kept
+returns-in-None-clause-kept g c = kept_same _ _ _
+
+pub returns-in-Check-clause-kept : goal.returns-in-Check-clause-kept
+returns-in-Check-clause-kept g c = kept_same _ _ _
+
+pub returns-in-Run-clause-kept : goal.returns-in-Run-clause-kept
+returns-in-Run-clause-kept g c = kept_same _ _ _
+
+pub returns-in-Meaning-clause-kept : goal.returns-in-Meaning-clause-kept
+returns-in-Meaning-clause-kept g c = kept_same _ _ _
+
+pub returns-in-Image-clause-kept : goal.returns-in-Image-clause-kept
+returns-in-Image-clause-kept g c = kept_same _ _ _
+
+pub returns-in-Text-clause-kept : goal.returns-in-Text-clause-kept
+returns-in-Text-clause-kept g c = kept_same _ _ _
 
 pub returns-in-Image-clause-image : goal.returns-in-Image-clause-image
 returns-in-Image-clause-image g c = λ text said.

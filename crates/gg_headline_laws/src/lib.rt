@@ -1,0 +1,4 @@
+//! The commands `compile` and `run`, one behind the other: what each comes to, exactly.
+#![tactic(auto)]
+
+pub mod laws;

@@ -1,0 +1,25 @@
+# Completion of ggvax's words for bash: source this file.
+
+_ggvax() {
+    local word=${COMP_WORDS[COMP_CWORD]} at=$COMP_CWORD first=1 ending
+    [ "${COMP_WORDS[1]}" = --try ] && first=2
+    if [ "$at" -eq 1 ]; then
+        COMPREPLY=($(compgen -W 'check compile run meaning load image text --try --help --version' -- "$word"))
+        return
+    fi
+    if [ "$at" -eq "$first" ]; then
+        COMPREPLY=($(compgen -W 'check compile run meaning load image text' -- "$word"))
+        return
+    fi
+    case ${COMP_WORDS[first]}$((at - first)) in
+    check1 | compile1 | load1) ending=gg ;;
+    compile2 | meaning1) ending=c ;;
+    run1 | image1) ending=s ;;
+    text1) ending=img ;;
+    *) return ;;
+    esac
+    compopt -o filenames
+    COMPREPLY=($(compgen -f -X "!*.$ending" -- "$word") $(compgen -d -- "$word"))
+}
+
+complete -F _ggvax ggvax ./ggvax

@@ -1,0 +1,62 @@
+#!/usr/bin/env python3
+"""Prints the man page ggvax(1), made from docs/commands.md. Usage: tools/man.py >ggvax.1"""
+
+import pathlib
+import re
+import sys
+
+HERE = pathlib.Path(__file__).resolve().parent.parent
+HEAD = """.TH GGVAX 1
+.SH NAME
+ggvax \\- a retargetable code generator for the VAX-11, whose output is proved to do what its source does
+.SH SYNOPSIS
+.B ggvax
+check D | compile D S | run A N | meaning S N | load D K | image A | text I"""
+
+
+def spelled(text):
+    """A text of Markdown in the man page's letters: what stands in backquotes or stars is bold, a link is its words."""
+    text = re.sub(r"\[([^]]*)\]\([^)]*\)", r"\1", text).replace("\\|", "|").replace("\\", "\\e").replace("-", "\\-")
+    text = re.sub(r"`([^`]*)`", r"\\fB\1\\fR", text)
+    text = re.sub(r"\*\*([^*]*)\*\*", r"\\fB\1\\fR", text)
+    return "\\&" + text if text[:1] in (".", "'") else text
+
+
+def cells(line):
+    return [it.strip() for it in re.split(r"(?<!\\)\|", line)[1:-1]]
+
+
+def table(lines):
+    """A paragraph for each row, under its first cell; a row whose first cell is empty goes on with the one before it."""
+    for line in lines[2:]:
+        first, *others = cells(line)
+        if first:
+            yield f".TP\n{spelled(first)}"
+        else:
+            yield ".br"
+        yield "\n.br\n".join(spelled(it) for it in others if it)
+
+
+def blocks(text):
+    """The page's parts: headings, tables, texts that stand as they are, and paragraphs."""
+    for part in re.findall(r"```\n.*?\n```|(?:[^\n]+\n?)+", text, re.S):
+        lines = part.strip("\n").split("\n")
+        if lines[0] == "```":
+            yield ".PP\n.nf\n.RS\n" + "\n".join(spelled("`" + it + "`") if it else "" for it in lines[1:-1]) + "\n.RE\n.fi"
+        elif lines[0].startswith("#"):
+            yield f".SH {lines[0].lstrip('# ').upper()}"
+        elif lines[0].startswith("|"):
+            yield "\n".join(table(lines))
+        else:
+            yield ".PP\n" + spelled(" ".join(lines))
+
+
+def main():
+    text = (HERE / "docs" / "commands.md").read_text()
+    page = [it for it in blocks(text) if it != ".SH COMMANDS"]
+    print("\n".join([HEAD, ".SH DESCRIPTION", *page]))
+    return 0
+
+
+if __name__ == "__main__":
+    sys.exit(main())
