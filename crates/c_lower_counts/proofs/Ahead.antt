@@ -1,6 +1,6 @@
 -- Labels that stand ahead of a jump: it is not counted.
 use Rattle.std.proofs.Common.{◌≡◌, ℕ, Bool, true, List, [], ◌∷◌, ◌++◌, refl, ap, ◌∙◌, subst, sym, append_assoc}
-use Rattle.std.specs.Prelude.{◌||◌, ◌==◌}
+use Rattle.std.specs.Prelude.{◌||◌}
 use Rattle.std.proofs.lemmas.Bool.{eq-eqb}
 use Rattle.gg_base.proofs.Facts.{or_true}
 use Rattle.tree_meaning.specs.State.{is_label}

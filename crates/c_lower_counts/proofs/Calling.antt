@@ -3,7 +3,7 @@ use Rattle.std.proofs.Common.{◌≡◌, ℕ, zero, suc, ◌+◌, ◌≤◌, ◌
 use Rattle.std.specs.Prelude.{Bool, true, false, not, ◌&&◌, ◌||◌, cond, slice_get, nat_lt, take, ◌-◌}
 use Rattle.std.proofs.lemmas.Bool.{or_parts, or_cases, and_parts, not-false, not-true}
 use Rattle.gg_base.specs.declared.run.End.TheVariants as ends
-use Rattle.gg_base.specs.Runs.{Outcome, Runs, counted, one_first, stop}
+use Rattle.gg_base.specs.Runs.{Runs, counted, one_first, stop}
 use Rattle.tree_core.specs.declared.program.TreeItem.{TreeItem}
 use Rattle.tree_core.specs.declared.program.TreeProgram.{TreeProgram}
 use Rattle.tree_meaning.specs.declared.value.Value.{Value}
@@ -19,7 +19,7 @@ use Rattle.c_lower_scheme.specs.Calls.{pushes, called_drop, called_low, must_pas
 use Rattle.c_lower_scheme.specs.Assignments.{stays}
 use Rattle.c_sound.specs.Fits.{AreBytes}
 use Rattle.c_lower_follows.proofs.Values.{SmallTree, Ranged, Small, worth_small}
-use Rattle.c_lower_counts.proofs.Leads.{Leads, one_tree, jumped, leads_deep, leads_none, leads_below, leads_counted, leads_quiet, leads_emit}
+use Rattle.c_lower_counts.proofs.Leads.{Leads, one_tree, leads_deep, leads_none, leads_below, leads_counted, leads_quiet, leads_emit}
 use Rattle.c_lower_follows.proofs.Steps.{Desk, desk_sight, on, Resolves, resolves_back, resolves_split}
 use Rattle.c_lower_counts.proofs.Steps.{moves, state, lost, push_step, call_counts, save_step}
 use Rattle.c_lower_follows.proofs.Agreeing.{Below, below_more, Alike, value, value_alike, value_stable, value_pure, Since, agree_temp, set_same, set_other, not_nil, front_nil, back_nil}
@@ -42,7 +42,6 @@ use Rattle.c_lower_counts.proofs.Carried.{called as called_tree, entered_is}
 use Rattle.std.proofs.lemmas.Option.{slice_get_past}
 use Rattle.c_meaning.specs.Calls.{put_char, got, call, answer, back, begun as begun_source, entered}
 use Rattle.c_meaning.specs.Calls.{called as called_source}
-use Rattle.c_lower_scheme.specs.Programs.{body_of, items_of}
 use Rattle.c_lower_scheme.proofs.Facts.{stable_inert, pushes_append}
 use Rattle.c_lower_counts.proofs.Assigning.{agreed, gone, DoesLow}
 

@@ -15,7 +15,7 @@ use Rattle.c_lower_scheme.specs.Parts.{with_done, then_done, Lowered, Pair, Emit
 use Rattle.c_lower_scheme.specs.Conditions.{truth_of, compare, conditional, chain, chain_drop, drop_two, choose_low, choose_drop, choose, comma, choose_deliver}
 use Rattle.c_lower_scheme.specs.Values.{relation, joined}
 use Rattle.c_lower_counts.proofs.Leads.{Leads, one_tree, leads_quiet}
-use Rattle.c_lower_counts.proofs.Ahead.{IsAhead, ahead_here, ahead_later, ahead_behind, ahead_joined}
+use Rattle.c_lower_counts.proofs.Ahead.{ahead_here, ahead_later, ahead_behind, ahead_joined}
 use Rattle.c_lower_follows.proofs.Steps.{Desk, Resolves, resolves_back, resolves_split}
 use Rattle.c_lower_counts.proofs.Steps.{label_step, label_counts, jump_step, at_items, to_label, goes_ahead, goes_on, from_before, moves, cbr_step}
 use Rattle.c_lower_follows.proofs.Agreeing.{Since, set_same, set_other, not_nil, back_nil}

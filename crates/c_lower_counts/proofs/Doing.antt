@@ -9,7 +9,7 @@ use Rattle.tree_core.specs.declared.program.TreeItem.{TreeItem}
 use Rattle.tree_core.specs.declared.program.TreeProgram.{TreeProgram}
 use Rattle.tree_meaning.specs.declared.value.Value.{Value}
 use Rattle.tree_meaning.specs.declared.value.Value.TheVariants.{Number, ZeroDivisor, Wild}
-use Rattle.tree_meaning.specs.State.{Activation, with_local, behind, arrived, returned}
+use Rattle.tree_meaning.specs.State.{Activation, with_local, returned}
 use Rattle.tree_counts.specs.Counted.{tallies as left_runs}
 use Rattle.tree_meaning.specs.Values.{bind, there}
 use Rattle.c_meaning.specs.State.{State}

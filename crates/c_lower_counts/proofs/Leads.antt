@@ -2,7 +2,7 @@
 use Rattle.std.proofs.Common.{◌≡◌, ℕ, zero, suc, ◌<◌, ◌≤◌, Bool, true, false, List, [], ◌∷◌, refl, ap, arith}
 use Rattle.gg_base.specs.declared.run.End.{End}
 use Rattle.gg_base.specs.declared.run.End.TheVariants.{Ended, Trapped, Wild, Deep, Spent, Broken}
-use Rattle.gg_base.specs.Runs.{Outcome, Runs, emit, counted, stop}
+use Rattle.gg_base.specs.Runs.{Runs, emit, counted, stop}
 use Rattle.tree_counts.specs.Counted.{with_count}
 use Rattle.c_lower_counts.specs.Claim.{Within}
 

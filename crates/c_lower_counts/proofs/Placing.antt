@@ -18,7 +18,7 @@ use Rattle.tree_core.specs.declared.program.TreeProgram.{TreeProgram}
 use Rattle.tree_core.specs.Area.{fetched, stored, is_inside}
 use Rattle.tree_meaning.specs.declared.value.Value.{Value}
 use Rattle.tree_meaning.specs.declared.value.Value.TheVariants.{Number, ZeroDivisor, Wild}
-use Rattle.tree_meaning.specs.State.{Activation, with_local, arrived}
+use Rattle.tree_meaning.specs.State.{Activation, with_local}
 use Rattle.tree_meaning.specs.Values.{bind, there}
 use Rattle.c_types.specs.declared.types.Integer.{Integer}
 use Rattle.c_types.specs.declared.types.Integer.TheVariants as ints
@@ -31,7 +31,6 @@ use Rattle.c_meaning.specs.declared.store.Spot.TheVariants.{Local, Parameter, Me
 use Rattle.c_meaning.specs.State.{State, integer_access, set_at, with_locals, with_parameters, with_area, put_local, put}
 use Rattle.c_meaning.specs.Values.{Rest, RestAt, or_wild, written, read_at, address_of}
 use Rattle.c_lower_scheme.specs.Trees.{Tree, Indir, Item, divides}
-use Rattle.c_lower_scheme.specs.Spelling.{spelled_all}
 use Rattle.c_lower_scheme.specs.Parts.{Where, InLoc, InArg, InMem, Located, Assignable}
 use Rattle.c_lower_scheme.specs.Places.{integer_of, conv, fitted, read_from, address_tree, read_low, address_low}
 use Rattle.c_sound.specs.Fits.{AreBytes}
@@ -39,7 +38,7 @@ use Rattle.c_sound.proofs.Bytes.{bytes_joined, bytes_drop}
 use Rattle.c_lower_follows.proofs.Values.{bytes_take, SmallTree}
 use Rattle.c_lower_counts.proofs.Leads.{Leads, leads_wild}
 use Rattle.c_lower_follows.proofs.Steps.{Desk, on, Resolves}
-use Rattle.c_lower_counts.proofs.Steps.{state, narrowed, written_at}
+use Rattle.c_lower_counts.proofs.Steps.{narrowed, written_at}
 use Rattle.c_lower_follows.proofs.Agreeing.{Below, value, ranged_set, set_both}
 use Rattle.c_lower_counts.proofs.Doing.{on_bind, Agrees, here, Onto, Does, Maps}
 

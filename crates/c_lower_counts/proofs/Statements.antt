@@ -11,7 +11,7 @@ use Rattle.tree_core.specs.declared.program.Object.{Object}
 use Rattle.tree_core.specs.declared.program.TreeItem.{TreeItem}
 use Rattle.tree_core.specs.declared.program.TreeFn.{TreeFn}
 use Rattle.tree_core.specs.declared.program.TreeProgram.{TreeProgram}
-use Rattle.tree_meaning.specs.State.{Activation, with_local, behind, returned, arrived}
+use Rattle.tree_meaning.specs.State.{Activation, with_local, behind, returned}
 use Rattle.tree_counts.specs.Counted.{tallies as runs}
 use Rattle.c_types.specs.declared.types.CType.{CType}
 use Rattle.c_types.specs.declared.typed.Variable.TheVariants as variables

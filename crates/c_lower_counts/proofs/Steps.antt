@@ -1,5 +1,5 @@
 -- The steps of a tree program, item by item, and which of them are counted.
-use Rattle.std.proofs.Common.{◌≡◌, ℕ, zero, suc, ◌-◌, List, [], ◌∷◌, ◌++◌, length, Option, Some, None, refl, ap, arith, sym, ◌∙◌, subst, append_assoc}
+use Rattle.std.proofs.Common.{◌≡◌, ℕ, zero, suc, ◌-◌, List, [], ◌∷◌, ◌++◌, length, Option, Some, None, refl, ap, arith, sym, ◌∙◌, subst}
 use Rattle.std.specs.Prelude.{Bool, true, false, not, cond, slice_set}
 use Rattle.gg_base.specs.declared.size.Size.{Size}
 use Rattle.gg_base.specs.declared.size.Size.TheVariants as sizes
@@ -22,8 +22,8 @@ use Rattle.tree_core.specs.Area.{stored}
 use Rattle.tree_meaning.specs.declared.value.Value.{Value}
 use Rattle.tree_meaning.specs.declared.value.Value.TheVariants.{Number, ZeroDivisor, Wild}
 use Rattle.tree_meaning.specs.declared.value.Meaning.TheVariants as meaning
-use Rattle.tree_meaning.specs.Values.{Sight, bind, read, at as in_memory}
-use Rattle.tree_meaning.specs.State.{Activation, State, with_local, behind, Next, over, tree_at, ahead, coming, returned, arrived}
+use Rattle.tree_meaning.specs.Values.{bind, read, at as in_memory}
+use Rattle.tree_meaning.specs.State.{Activation, State, with_local, behind, Next, tree_at, ahead, coming, returned, arrived}
 use Rattle.tree_meaning.specs.Deeds.{Pushes, Returns, Puts}
 use Rattle.tree_meaning.specs.Steps.{deed_step, put_in}
 use Rattle.tree_counts.specs.Counted.{is_ahead, tallied, tally, tallies}

@@ -1,5 +1,5 @@
 -- Compiled code takes no more instructions than its source's counted turns and calls allow.
-use Rattle.std.proofs.Common.{◌≡◌, ℕ, ◌+◌, ◌*◌, ◌≤◌, List, length, refl, sym, ap, subst, ◌∙◌, arith}
+use Rattle.std.proofs.Common.{◌≡◌, ℕ, ◌+◌, ◌*◌, ◌≤◌, List, sym, ap, subst, ◌∙◌, arith}
 use Rattle.std.proofs.Math.Nat.{mul-le-mul_left}
 use Rattle.gg_base.specs.declared.run.End.{End}
 use Rattle.gg_base.specs.declared.run.End.TheVariants.{Ended, Trapped, Wild, Deep, Spent, Broken}
@@ -7,7 +7,6 @@ use Rattle.gg_base.specs.Runs.{Outcome, OneEnd}
 use Rattle.tree_core.specs.declared.program.TreeProgram.{TreeProgram}
 use Rattle.tree_counts.specs.Counted.{tree_tally}
 use Rattle.c_program.specs.Programs.{AProgram}
-use Rattle.c_sound.specs.Fits.{AreBytes}
 use Rattle.c_sound.specs.Sound.{IsSound}
 use Rattle.c_sound_texts.proofs.Law.{typed_is_sound}
 use Rattle.c_meaning.specs.Programs.{source}

@@ -1,6 +1,6 @@
 -- A call of a function whose code stands in the code: behind its frame's instructions, which count nothing, the state stands for the trees'
 -- state in which it begins.
-use Rattle.std.proofs.Common.{◌≡◌, ℕ, ◌+◌, ◌-◌, ◌*◌, ◌^◌, ◌<◌, ◌≤◌, List, [], ◌∷◌, length, take, drop, Option, Some, None, refl, sym, ap, subst, ◌∙◌}
+use Rattle.std.proofs.Common.{◌≡◌, ℕ, ◌+◌, ◌-◌, ◌*◌, ◌^◌, ◌<◌, ◌≤◌, List, [], ◌∷◌, length, take, drop, Option, Some, refl, sym, ap, subst, ◌∙◌}
 use Rattle.std.proofs.Common.{arith, get_or-set_same, get_or-set_other, length-set}
 use Rattle.std.proofs.lemmas.List.{length-take-le}
 use Rattle.std.specs.Prelude.{slice_get, slice_set, slice_index}
@@ -9,7 +9,6 @@ use Rattle.gg_base.specs.declared.size.Size.TheVariants.{Long}
 use Rattle.vax_core.specs.declared.register.Reg.TheVariants.{Ap, Fp, Sp}
 use Rattle.vax_core.specs.declared.code.CodeItem.{CodeItem}
 use Rattle.vax_core.specs.declared.code.CodeItem.TheVariants as item_kind
-use Rattle.vax_machine.specs.declared.turn.Stop.{Stop}
 use Rattle.vax_machine.specs.State.{State, reg}
 use Rattle.vax_machine.specs.Labels.{next_item, label_place}
 use Rattle.tree_core.specs.declared.program.Object.{Object}

@@ -1,9 +1,8 @@
 -- Where instructions stand in a code at the machine's place, the machine's steps do what the instructions do by themselves, and count nothing
 -- up to a branch that is taken, a call or a return.
-use Rattle.std.proofs.Common.{◌≡◌, ℕ, suc, ◌+◌, ◌<◌, List, [], ◌∷◌, ◌++◌, length, Option, Some, None, option_to_list, Ok, Err, refl, sym, ap, subst, ◌∙◌, arith}
+use Rattle.std.proofs.Common.{◌≡◌, ℕ, suc, ◌+◌, List, [], ◌∷◌, ◌++◌, length, Option, Some, None, option_to_list, Ok, Err, refl, sym, ap, subst, ◌∙◌, arith}
 use Rattle.std.specs.Prelude.{slice_get}
 use Rattle.vax_core.specs.declared.code.Instr.{Instr}
-use Rattle.vax_core.specs.declared.code.CodeItem.{CodeItem}
 use Rattle.vax_core.specs.declared.code.CodeItem.TheVariants as item_kind
 use Rattle.vax_machine.specs.State.{State}
 use Rattle.vax_machine.specs.Labels.{label_place}
@@ -15,7 +14,7 @@ use Rattle.vax_machine_lists.specs.Runs.{HasInstrs, at_of}
 use Rattle.vax_machine_lists.proofs.Placed.{Where, there, ending_there, performed_there, exec_there}
 use Rattle.vax_machine_lists.proofs.Joining.{act_is, OneStep, IsOneStep, one_performed}
 use Rattle.vax_machine_lists.proofs.Registers.{frames_kept}
-use Rattle.gg_compile_tallies.proofs.Walking.{Walks, Reaches, counted_on, stay, one_walks, walk_further, walk_within}
+use Rattle.gg_compile_tallies.proofs.Walking.{Walks, Reaches, counted_on, stay, one_walks, walk_further}
 
 -- the machine's steps from a state do what a course says, its instructions being so many
 abbrev pub CarriesTo : State → ℕ → List ℕ → Ending → Type 0

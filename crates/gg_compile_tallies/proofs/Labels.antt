@@ -1,8 +1,7 @@
 -- Labels of a function's code: where one stands ahead, and what it counts to pass one.
 use Rattle.std.proofs.Common.{◌≡◌, ℕ, zero, suc, ◌+◌, ◌<◌, ◌≤◌, Bool, true, false, cond, List, [], ◌∷◌, ◌++◌, length, drop, Option, Some, None, refl, sym, ap, subst, ◌∙◌, arith}
-use Rattle.std.proofs.Common.{length-append}
 use Rattle.std.specs.Prelude.{slice_get, nat_lt, ◌||◌, ◌==◌}
-use Rattle.std.proofs.lemmas.Bool.{eqb-true, true≢false, ltb-true, lt-ltb, le-ltb, ltb-false}
+use Rattle.std.proofs.lemmas.Bool.{eqb-true, true≢false, ltb-true, ltb-false}
 use Rattle.std.proofs.lemmas.Option.{same_Some, none-some}
 use Rattle.vax_core.specs.declared.code.CodeItem.{CodeItem}
 use Rattle.vax_core.specs.declared.code.CodeItem.TheVariants as item_kind
@@ -10,18 +9,15 @@ use Rattle.vax_machine.specs.declared.turn.Stop.{Stop}
 use Rattle.vax_machine.specs.State.{State}
 use Rattle.vax_machine.specs.Labels.{skipped, next_item, label_place, double_label}
 use Rattle.vax_machine.specs.Step.{Next, Goes, Writes, Stops, act, at_item, next_of, next_where, step_of}
-use Rattle.tree_core.specs.declared.tree.Leaf.{Leaf}
 use Rattle.tree_core.specs.declared.program.TreeItem.{TreeItem}
-use Rattle.tree_core.specs.declared.program.TreeItem.TheVariants as tree_item
 use Rattle.tree_core.specs.declared.program.TreeFn.{TreeFn}
 use Rattle.tree_core.specs.declared.program.TreeProgram.{TreeProgram}
 use Rattle.tree_core.specs.Names.{label_name}
 use Rattle.tree_counts.specs.Counted.{is_ahead}
-use Rattle.vax_machine_lists.specs.Runs.{Leads}
 use Rattle.vax_frames.specs.Frames.{code_items, end_code}
 use Rattle.vax_frames_law.proofs.Labelling.{first_place}
-use Rattle.vax_bound.specs.Counted.{counted_by, counted_between, counted_step, counted_behind, counted_steps}
-use Rattle.gg_compile_law.specs.Programs.{HasItems, IsSelected, IsBody, nothing, label, root, StandsAt}
+use Rattle.vax_bound.specs.Counted.{counted_by, counted_step, counted_behind, counted_steps}
+use Rattle.gg_compile_law.specs.Programs.{HasItems, IsBody, nothing, label, root, StandsAt}
 use Rattle.gg_compile_law.proofs.Placing.{label_skipped}
 use Rattle.gg_compile_tallies.proofs.Walking.{Walks}
 
