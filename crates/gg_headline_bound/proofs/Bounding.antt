@@ -11,7 +11,7 @@ use Rattle.c_typed_words.proofs.Tokens.{unit_has_tokens}
 use Rattle.c_typed_check.specs.Typed.{IsTypedUnit}
 use Rattle.c_meaning.specs.Programs.{source}
 use Rattle.md_reader.specs.State.{Content}
-use Rattle.sel_parse.specs.Shown.{is_shown}
+use Rattle.sel_parse.specs.Shown.{Refusal, is_shown}
 use Rattle.sel_parse.proofs.EachShown.{rules_shown, lines_shown}
 use Rattle.sel_parse_written.specs.sel_parse_effect.specs.Claims.{IsFit}
 use Rattle.vax_core.specs.declared.code.Code.{Code}
@@ -127,7 +127,7 @@ module _ (by : Passing) (names : Files) (at : Outside) (compiled : IsCompiled by
   fit : IsFit vax of_description
   fit =
       let finds = compiled.finds.description in
-      let shown : is_shown found saved_found of_description ≡ true = ap is_none finds.accepted.shown in
+      let shown : is_shown found saved_found of_description ≡ true = ap (λ (o : Option Refusal). is_none o) finds.accepted.shown in
       record {
         valid = finds.holds.read.reads.valid;
         rules = rules_shown found saved_found of_description shown;
