@@ -14,7 +14,7 @@ class Program:
     """The generated program of a seed, the words that generate it, and an input. Two of three may trap, be wild, be deep or go on."""
 
     def __init__(self, plain, first_seed, turn, chance):
-        self.words = ["gen", str(first_seed + turn)] + (["--free"] if turn % 3 else [])
+        self.words = ["gen", str(first_seed + turn), "--memory-locals"] + (["--free"] if turn % 3 else [])
         self.source = written([plain, *self.words]).decode()
         self.given = bytes(chance.randrange(256) for _ in range(chance.randrange(41)))
 

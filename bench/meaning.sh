@@ -3,7 +3,7 @@
 # which must be equal, and the seconds on a sieve, queens, a sort and a recursive function.
 # Usage: bench/meaning.sh [PROGRAMS [SEED]]; PROGRAMS (default 200) generated programs from the seed SEED (default 1) on.
 # C_REFERENCE names the folder of the plain interpreter, a Cargo project whose commands are `meaning S N INPUT`, `gen SEED` and
-# `genbad SEED`. Where it isn't set or isn't there, nothing is compared.
+# `genbad SEED`, each with the word `--memory-locals`. Where it isn't set or isn't there, nothing is compared.
 set -eu
 . "$(dirname -- "$0")/common.sh"
 programs=${1:-200}
@@ -29,13 +29,13 @@ def ours(path, count, given):
 
 def theirs(path, count, given):
     put(f"{work}/input", given)
-    return answer([plain, "meaning", path, str(count), f"{work}/input"], b"")
+    return answer([plain, "meaning", path, str(count), f"{work}/input", "--memory-locals"], b"")
 
 
 def generate(turn, seed):
     """The words of a program of one of four kinds, and its source."""
     kind, *more = (["gen"], ["gen", "--free"], ["gen"], ["genbad"])[turn % 4]
-    return " ".join([kind, *more]), written([plain, kind, seed, *more])
+    return " ".join([kind, *more]), written([plain, kind, seed, "--memory-locals", *more])
 
 
 SOURCES = {
