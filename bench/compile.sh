@@ -13,8 +13,8 @@
 # The descriptions: the shipped one; the same with two registers, so that values are saved; bench/reloads.gg; and the same with three
 # registers, so that values are reloaded.
 #
-# C_REFERENCE names the folder of a Cargo project whose command `gen SEED --memory-locals [--free]` writes a C program: where it isn't set or isn't there,
-# no generated program is compared. BUILT may name a folder with a `ggvax` that was built before; else it is built here.
+# C_REFERENCE names the folder of a Cargo project whose command `gen SEED --memory-locals [--free]` writes a C program: where it isn't set
+# or isn't there, no generated program is compared. BUILT may name a folder with a `ggvax` that was built before; else it is built here.
 set -eu
 . "$(dirname -- "$0")/common.sh"
 programs=${1:-2000}

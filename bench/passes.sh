@@ -12,9 +12,9 @@
 # pass on long texts: the time behind that of reading and writing a text is told beside the time of reading it.
 #
 # VAX_REFERENCE names the folder of a plain runner, a Cargo project whose commands are `run A N` and `gentext S`, `genwild S`, and whose
-# modules are those that bench/passes_plain.rs names; C_REFERENCE that of a Cargo project whose command `gen SEED --memory-locals [--free]` writes a C
-# program. Where one isn't set or isn't there, nothing is compared with it. BUILT may name a folder with programs that were built before;
-# without `ggvax` there nothing is compiled.
+# modules are those that bench/passes_plain.rs names; C_REFERENCE that of a Cargo project whose command `gen SEED --memory-locals [--free]`
+# writes a C program. Where one isn't set or isn't there, nothing is compared with it. BUILT may name a folder with programs that were
+# built before; without `ggvax` there nothing is compiled.
 set -eu
 . "$(dirname -- "$0")/common.sh"
 texts=${1:-1000}
