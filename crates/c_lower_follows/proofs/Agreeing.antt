@@ -8,7 +8,7 @@ use Rattle.tree_meaning.specs.State.{with_local}
 use Rattle.tree_meaning.specs.Values.{bind, there, address_of}
 use Rattle.tree_meaning.proofs.Values.{there_pure}
 use Rattle.tree_core.specs.declared.program.Object.{Object}
-use Rattle.tree_core.specs.Area.{fetched}
+use Rattle.tree_core.specs.Area.{fetched, opening}
 use Rattle.gg_base.specs.Arithmetic.{neg32, com32}
 use Rattle.gg_base.proofs.Facts.{slice_set_same, slice_set_other}
 use Rattle.c_types.specs.declared.types.Integer.{Integer}
@@ -18,7 +18,7 @@ use Rattle.c_meaning.specs.State.{State, integer_access}
 use Rattle.c_types.specs.declared.typed.ArithmeticOperator.{ArithmeticOperator}
 use Rattle.c_types.specs.declared.typed.ArithmeticOperator.TheVariants as ariths
 use Rattle.c_types.specs.Constants.{apply}
-use Rattle.c_lower_scheme.specs.Trees.{Tree, Num, Gaddr, Loc, Arg, Indir, Conv, Neg, Com, Bin, Item, divides_by, divides, stable}
+use Rattle.c_lower_scheme.specs.Trees.{Tree, Num, Gaddr, Loc, Arg, Indir, Conv, Neg, Com, Bin, Item, divides_by, divides, reads, stable}
 use Rattle.c_sound.specs.Fits.{AreBytes}
 use Rattle.c_lower_follows.proofs.Values.{Ranged, worth, or_zero}
 use Rattle.c_lower_follows.proofs.Steps.{Desk, desk_sight}
@@ -139,6 +139,21 @@ module _ (program : TreeProgram) where
       ap (λ v. bind v (λ x. bind (value b d') (λ y. or_zero (apply op x y)))) (value_stable size u a d d' parts.0 c.0 h)
       ∙ ap (λ v. bind (value a d) (λ x. bind v (λ y. or_zero (apply op x y)))) (value_stable size u b d d' parts.1 c.1 h)
 
+  -- a tree that reads no memory
+  pub value_unread : (w : Tree) (d : Desk) (area : List ℕ) → reads w ≡ false → value w (record d { area = area }) ≡ value w d
+  value_unread (Num n) d area e = refl
+  value_unread (Gaddr n) d area e = refl
+  value_unread (Loc n) d area e = refl
+  value_unread (Arg n) d area e = refl
+  value_unread (Indir i a) d area e = absurd (cc)
+  value_unread (Conv i w) d area e = ap (λ v. bind v (λ x. Number (kept i x))) (value_unread w d area e)
+  value_unread (Neg w) d area e = ap (λ v. bind v (λ x. Number (neg32 x))) (value_unread w d area e)
+  value_unread (Com w) d area e = ap (λ v. bind v (λ x. Number (com32 x))) (value_unread w d area e)
+  value_unread (Bin op a b) d area e =
+      let parts = or_parts (reads a) (reads b) e in
+      ap (λ v. bind v (λ x. bind (value b (record d { area = area })) (λ y. or_zero (apply op x y)))) (value_unread a d area parts.0)
+      ∙ ap (λ v. bind (value a d) (λ x. bind v (λ y. or_zero (apply op x y)))) (value_unread b d area parts.1)
+
   pub value_pure : (w : Tree) (d : Desk) → divides w ≡ false → value w d ≡ ZeroDivisor → ⊥
   value_pure (Num n) d e h = cc
   value_pure (Gaddr n) d e h = address_pure (slice_get program.objects n) h
@@ -153,9 +168,17 @@ module _ (program : TreeProgram) where
       let parts = or_parts (divides a) (divides b) whole.1 in
       bind_pure (value a d) _ (value_pure a d parts.0) (λ x. bind_pure (value b d) _ (value_pure b d parts.1) (λ y. apply_pure op x y whole.0)) h
 
--- The states agree on the locals in scope, on the parameters, the data area and the input; nothing waits to be passed. The local behind the
--- function's own holds the address of its block.
-pub record Agree (size first : ℕ) (scope : ℕ → Type 0) (depth : ℕ) (st : State) (d : Desk) : Type 0 where
+-- the data area holds bytes, and is as long as at the begin of the run
+pub record IsArea (extent : ℕ) (area : List ℕ) : Type 0 where
+  pub bytes : AreBytes area
+  pub long : length area ≡ extent
+
+abbrev pub extent_of : TreeProgram → ℕ
+extent_of program = length (opening program.objects)
+
+-- The states agree on the locals in scope, on the parameters, the data area and the input; nothing waits to be passed. In a function that has
+-- a block the local behind the function's own holds its address.
+pub record Agree (extent size first : ℕ) (scope : ℕ → Type 0) (depth : ℕ) (st : State) (d : Desk) : Type 0 where
   pub local : (x : ℕ) → scope x → d.locals x ≡ slice_get st.call.locals x
   pub count : length st.call.locals ≡ size
   pub arguments : d.arguments ≡ st.call.parameters
@@ -165,7 +188,8 @@ pub record Agree (size first : ℕ) (scope : ℕ → Type 0) (depth : ℕ) (st :
   pub active : st.active ≡ suc depth
   pub ranged : Ranged (desk_sight d)
   pub bytes : AreBytes d.input
-  pub pointer : (b : ℕ) → st.call.block ≡ Some b → (size < first) × (d.locals size ≡ Some b)
+  pub whole : IsArea extent d.area
+  pub pointer : size < first → (b : ℕ) × (st.call.block ≡ Some b) × (d.locals size ≡ Some b)
 
 -- what items that own the temporaries from t up to u leave
 pub record Since (size t u : ℕ) (is : List Item) (st : State) (d : Desk) (st' : State) (d' : Desk) : Type 0 where
@@ -186,9 +210,9 @@ ranged_set d n v lt r = record {
 }
 
 -- a temporary is written
-pub agree_temp : (size first : ℕ) (scope : ℕ → Type 0) (depth : ℕ) → ((x : ℕ) → scope x → x < size) → size ≤ first → (n v : ℕ) (st : State) (d : Desk) → first ≤ n → v < 2 ^ 32 → Agree size first scope depth st d
-    → Agree size first scope depth st (record d { locals = with_local d.locals n v })
-agree_temp size first scope depth within own n v st d le lt h = record {
+pub agree_temp : (extent size first : ℕ) (scope : ℕ → Type 0) (depth : ℕ) → ((x : ℕ) → scope x → x < size) → size ≤ first → (n v : ℕ) (st : State) (d : Desk) → first ≤ n → v < 2 ^ 32
+    → Agree extent size first scope depth st d → Agree extent size first scope depth st (record d { locals = with_local d.locals n v })
+agree_temp extent size first scope depth within own n v st d le lt h = record {
   local = λ x sc. set_other d.locals n v x (λ e. let lt' = within x sc in omega arith) ∙ h.local x sc;
   count = h.count;
   arguments = h.arguments;
@@ -198,5 +222,6 @@ agree_temp size first scope depth within own n v st d le lt h = record {
   active = h.active;
   ranged = ranged_set d n v lt h.ranged;
   bytes = h.bytes;
-  pointer = λ b e. let k = h.pointer b e in (k.0, set_other d.locals n v size (λ q. omega (arith, k.0)) ∙ k.1);
+  whole = h.whole;
+  pointer = λ s. let k = h.pointer s in (k.0, k.1, set_other d.locals n v size (λ q. omega arith) ∙ k.2);
 }

@@ -28,7 +28,8 @@ use Rattle.c_lower_follows.proofs.Placing.{place_on, SmallPlace, PurePlace, Fits
 use Rattle.c_lower_follows.proofs.Storing.{Held, good, go, DoesIt, IsReady, IsPlace, then_at, assign_root, address_by, use_number, hold, waits}
 use Rattle.c_lower_follows.proofs.Doing.{Makes, since_both, save_temp, Maps}
 
-module _ (program : TreeProgram) (code : List TreeItem) (callers : List Activation) (size count first : ℕ) (scope : ℕ → Type 0) (level : ℕ) (within : (x : ℕ) → scope x → x < size) (own : size ≤ first) where
+module _ (program : TreeProgram) (code : List TreeItem) (callers : List Activation) (size count first : ℕ) (scope : ℕ → Type 0) (level : ℕ) (within : (x : ℕ) → scope x → x < size)
+    (own : size ≤ first) where
   abbrev pub agreed : State → Desk → Type 0
   agreed st d = good program code callers size count first scope level within own st d
 
@@ -150,7 +151,7 @@ module _ (program : TreeProgram) (code : List TreeItem) (callers : List Activati
 
   -- a place is read, and then the other side comes to a value
   change : (c : Bool) (s : Where) (ty : CType) (f : Tree → Tree → Tree) (g : ℕ → ℕ → Rest → State → Runs) (t0 u : ℕ) (q : Lowered) (n : Rest → State → Runs) (k : ℕ) → k ≤ level
-      → (is : List Item) (κ : CType → Spot → Rest) (st : State) (d : Desk) → (c ≡ false → q.items ≡ []) → size ≤ t0 → q.temps ≤ u → PurePlace s → SmallPlace s
+      → (is : List Item) (κ : CType → Spot → Rest) (st : State) (d : Desk) → (c ≡ false → q.items ≡ []) → first ≤ t0 → q.temps ≤ u → PurePlace s → SmallPlace s
       → FitsPlace program code callers size count first scope level u s → MakesIt f g → DoesLow q t0 n → Resolves code ((saving c u (read_from ty s) ++ q.items) ++ is) → agreed st d
       → ((st' : State) (d' : Desk) → Held size t0 q.temps u (saving c u (read_from ty s) ++ q.items) st d st' d' → StaysAt s d d')
       → ((st' : State) (d' : Desk) → agreed st' d' → Held size t0 q.temps u (saving c u (read_from ty s) ++ q.items) st d st' d'
@@ -222,7 +223,8 @@ module _ (program : TreeProgram) (code : List TreeItem) (callers : List Activati
         small = does.small;
         below_value = made_below f (g ty) c u (read_from ty s) q.tree made (below_more u (next_if c u) q.tree (next_grows c u) does'.below)
             (λ e. below_read program code callers size count first scope level within own s ty (next_if c u) (omega (arith, does.grows, up)) (more p (next_if c u) up does.fits));
-        small_value = made.small (saved c u (read_from ty s)) q.tree (small_saved c u (read_from ty s) (small_read program code callers size count first scope level within own s ty does.small)) does'.small;
+        small_value =
+            made.small (saved c u (read_from ty s)) q.tree (small_saved c u (read_from ty s) (small_read program code callers size count first scope level within own s ty does.small)) does'.small;
         runs = λ k le is κ res st d ag h.
             let b : List Item = saving c u (read_from ty s) ++ q.items in
             onward k is0 b is d _ (does.runs k le (b ++ is) (λ ty s. read_at ty s (λ x. n ty (λ y. g ty x y (κ ty s)))) (resolves_split code is0 b is res) st d ag
@@ -276,7 +278,8 @@ module _ (program : TreeProgram) (code : List TreeItem) (callers : List Activati
   stays_same : (is : List Item) (a : Tree) (p v u : ℕ) (ty : CType) (st : State) (d : Desk) (st' : State) (d' : Desk) → stays size count is a ≡ true → Below p a
       → Held size p v u (saving (not (is_nil is)) u (read_from ty (InMem a)) ++ is) st d st' d' → p ≤ u → value program a d' ≡ value program a d
   stays_same [] a p v u ty st d st' d' e below s le = ap (value program a) (s.same refl).1
-  stays_same (i ∷ is) a p v u ty st d st' d' e below s le = value_stable program size p a d d' (and_parts (is_leaf a) (stable size a) e).1 below (λ j szj lt. s.keeps j szj (inl lt) (λ e. omega arith))
+  stays_same (i ∷ is) a p v u ty st d st' d' e below s le =
+      value_stable program size p a d d' (and_parts (is_leaf a) (stable size a) e).1 below (λ j szj lt. s.keeps j szj (inl lt) (λ e. omega arith))
 
   update_mem : (b : Bool) (a : Tree) (is0 : List Item) (ty : CType) (p l t : ℕ) (f : Tree → Tree → Tree) (g : CType → ℕ → ℕ → Rest → State → Runs) (q : Lowered) (m : RestAt → State → Runs)
       (n : CType → Rest → State → Runs) → not (stays size count q.items a) ≡ b → first ≤ t → MakesIt f (g ty)
@@ -328,7 +331,7 @@ module _ (program : TreeProgram) (code : List TreeItem) (callers : List Activati
       let d1 : Desk = record d { locals = with_local d.locals o x } in
       let at_x : value program (Loc o) d1 ≡ Number x = ap there (set_same d.locals o x) in
       let run = assign_root program code callers size count first scope level within own (InLoc n) ty (f (Loc o)) k is (κ x) st d1 tt (made.small (Loc o) tt) ag1
-      (λ st2 d2 ag2 kept. h x st2 d2 ag2 (λ j szj ne. kept j szj ∙ set_other d.locals o x j ne) (kept o sz ∙ set_same d.locals o x)) in
+      (λ st2 d2 ag2 kept. h x st2 d2 ag2 (λ j szj ne. kept j szj ∙ set_other d.locals o x j ne) (kept o (omega arith) ∙ set_same d.locals o x)) in
       let one = subst (λ r. Leads k r (gone (i ∷ is) d1)) (made.maps (Loc o) d1 (λ v. store_at ty (Local n) v (λ v. κ x) st)) run in
       subst (λ o. Leads k (on o (λ y. store_at ty (Local n) (g y) (λ v. κ x) st)) (gone (i ∷ is) d1)) at_x one))
   post_at (InArg n) ty f g o k is κ st d sz made pure small fit ag h =
@@ -339,7 +342,7 @@ module _ (program : TreeProgram) (code : List TreeItem) (callers : List Activati
       let d1 : Desk = record d { locals = with_local d.locals o x } in
       let at_x : value program (Loc o) d1 ≡ Number x = ap there (set_same d.locals o x) in
       let run = assign_root program code callers size count first scope level within own (InArg n) ty (f (Loc o)) k is (κ x) st d1 tt (made.small (Loc o) tt) ag1
-      (λ st2 d2 ag2 kept. h x st2 d2 ag2 (λ j szj ne. kept j szj ∙ set_other d.locals o x j ne) (kept o sz ∙ set_same d.locals o x)) in
+      (λ st2 d2 ag2 kept. h x st2 d2 ag2 (λ j szj ne. kept j szj ∙ set_other d.locals o x j ne) (kept o (omega arith) ∙ set_same d.locals o x)) in
       let one = subst (λ r. Leads k r (gone (i ∷ is) d1)) (made.maps (Loc o) d1 (λ v. store_at ty (Parameter n) v (λ v. κ x) st)) run in
       subst (λ o. Leads k (on o (λ y. store_at ty (Parameter n) (g y) (λ v. κ x) st)) (gone (i ∷ is) d1)) at_x one))
   post_at (InMem a) ty f g o k is κ st d sz made pure small fit ag h =
@@ -357,7 +360,7 @@ module _ (program : TreeProgram) (code : List TreeItem) (callers : List Activati
       let at_x : value program (Loc o) d1 ≡ Number x = ap there (set_same d.locals o x) in
       let at_p : value program a d1 ≡ Number p = value_alike program o a d d1 fit (alike_set o o x d (omega arith)) ∙ ep in
       let run = assign_root program code callers size count first scope level within own (InMem a) ty (f (Loc o)) k is (κ x) st d1 small (made.small (Loc o) tt) ag1
-      (λ st2 d2 ag2 kept. h x st2 d2 ag2 (λ j szj ne. kept j szj ∙ set_other d.locals o x j ne) (kept o sz ∙ set_same d.locals o x)) in
+      (λ st2 d2 ag2 kept. h x st2 d2 ag2 (λ j szj ne. kept j szj ∙ set_other d.locals o x j ne) (kept o (omega arith) ∙ set_same d.locals o x)) in
       let one = subst (λ o'. Leads k (on o' (λ z. on (value program (f (Loc o)) d1) (λ v. store_at ty (Memory z) v (λ v. κ x) st))) (gone (i ∷ is) d1)) at_p run in
       let two = subst (λ r. Leads k r (gone (i ∷ is) d1)) (made.maps (Loc o) d1 (λ v. store_at ty (Memory p) v (λ v. κ x) st)) one in
       subst (λ o. Leads k (on o (λ y. store_at ty (Memory p) (g y) (λ v. κ x) st)) (gone (i ∷ is) d1)) at_x two))))

@@ -11,17 +11,18 @@ use Rattle.tree_meaning.specs.declared.value.Value.TheVariants.{Number, ZeroDivi
 use Rattle.tree_meaning.specs.State.{Activation, with_local, arrived}
 use Rattle.tree_meaning.specs.Values.{there}
 use Rattle.c_meaning.specs.State.{State}
-use Rattle.c_meaning.specs.Values.{RestAll, Behind, Next, Body, Rest}
-use Rattle.c_lower_scheme.specs.Trees.{Push, Call, Save, Tree, Loc, Item, AssignLoc, divides, reads, breaks, stable}
+use Rattle.c_meaning.specs.Values.{RestAll, Behind, Next, Rest}
+use Rattle.c_lower_scheme.specs.Trees.{Push, Call, Save, Tree, Num, Loc, Item, AssignLoc, divides, reads, breaks, stable}
 use Rattle.c_lower_scheme.specs.Spelling.{spelled_all}
-use Rattle.c_lower_scheme.specs.Parts.{Passing, Lowered, is_nil, Destination, InLocal, AsResult}
+use Rattle.c_lower_scheme.specs.Parts.{Passing, Lowered, Emitted, is_nil, Destination, InLocal, AsResult, Releasing, due, delivered}
 use Rattle.c_lower_scheme.specs.Calls.{pushes, called_drop, called_low, must_pass_by, must_pass, pass_on, pass_so, no_arguments, callee_number, called_deliver}
 use Rattle.c_lower_scheme.specs.Assignments.{stays}
 use Rattle.c_sound.specs.Fits.{AreBytes}
 use Rattle.c_lower_follows.proofs.Values.{SmallTree, Ranged, Small, worth_small}
 use Rattle.c_lower_follows.proofs.Leads.{Leads, leads_deep, leads_none, leads_below, leads_counted, leads_quiet, leads_emit}
 use Rattle.c_lower_follows.proofs.Steps.{moves, Desk, desk_sight, on, Resolves, resolves_back, state, lost, push_step, call_counts, save_step, resolves_split}
-use Rattle.c_lower_follows.proofs.Agreeing.{Below, below_more, Alike, value, value_alike, value_stable, value_pure, Since, agree_temp, set_same, set_other, not_nil, front_nil, back_nil}
+use Rattle.c_lower_follows.proofs.Agreeing.{Below, below_more, Alike, value, value_alike, value_stable, value_pure, IsArea}
+use Rattle.c_lower_follows.proofs.Agreeing.{extent_of, Since, agree_temp, set_same, set_other, not_nil, front_nil, back_nil}
 use Rattle.c_lower_follows.proofs.Storing.{use_number}
 use Rattle.c_lower_follows.proofs.Doing.{Drops, Delivers, delivered_does, assoc, save_temp}
 use Rattle.std.specs.Prelude.{if◌then◌else◌}
@@ -37,9 +38,13 @@ use Rattle.c_types.specs.declared.typed.Callee.TheVariants as callees
 use Rattle.gg_base.specs.Runs.{emit}
 use Rattle.c_lower_follows.proofs.Carried.{called as called_tree, entered_is}
 use Rattle.std.proofs.lemmas.Option.{slice_get_past}
-use Rattle.c_meaning.specs.Calls.{put_char, got, call, answer, back, begun as begun_source, entered}
+use Rattle.c_meaning.specs.Calls.{put_char, got, call, answer, back, begun as begun_source, performed, entered}
 use Rattle.c_meaning.specs.Calls.{called as called_source}
-use Rattle.c_lower_scheme.specs.Programs.{body_of, items_of}
+use Rattle.c_lower_scheme.specs.Flow.{done_by}
+use Rattle.c_lower_scheme.specs.Statements.{lower_row}
+use Rattle.c_lower_scheme.specs.Programs.{first_temporary, way_in, way_out, body_of}
+use Rattle.c_program.specs.Statements.{SomeActions}
+use Rattle.c_meaning.specs.Blocks.{pointer_number}
 use Rattle.c_lower_scheme.proofs.Facts.{stable_inert, pushes_append}
 use Rattle.c_lower_follows.proofs.Assigning.{agreed, gone, DoesLow}
 
@@ -87,7 +92,8 @@ nil_from : (a : List Item) → is_nil a ≡ true → a ≡ []
 nil_from [] e = refl
 nil_from (i ∷ is) e = absurd (cc)
 
-module _ (program : TreeProgram) (code : List TreeItem) (callers : List Activation) (size count first : ℕ) (scope : ℕ → Type 0) (level : ℕ) (within : (x : ℕ) → scope x → x < size) (own : size ≤ first) where
+module _ (program : TreeProgram) (code : List TreeItem) (callers : List Activation) (size count first : ℕ) (scope : ℕ → Type 0) (level : ℕ) (within : (x : ℕ) → scope x → x < size)
+    (own : size ≤ first) where
   abbrev pub well : State → Desk → Type 0
   well st d = agreed program code callers size count first scope level within own st d
 
@@ -265,25 +271,32 @@ module _ (program : TreeProgram) (code : List TreeItem) (callers : List Activati
       (λ v e. h (v ∷ []) (omega arith) (subst Small e (worth_small program.objects (desk_sight d) r w small.0), tt))
   pushes_step (w ∷ x ∷ ws) k is κ d small pure r h = first_push w x ws k is κ d small.0 pure.0 r h (value program w d) refl (λ κ' g. pushes_step (x ∷ ws) k (Push w ∷ is) κ' d small.1 pure.1 r g)
 
+-- a function's items, by the bytes of its block
+abbrev pub items_by : ℕ → ℕ → ℕ → SomeActions → ℕ → ℕ → Emitted
+items_by size count pointer body label block =
+    done_by (way_in size (first_temporary size block) pointer block label) (λ m. done_by (lower_row size count (first_temporary size block) (way_out pointer size block) body 0 0 m)
+    (λ n. delivered (way_out pointer size block) (due (Num 0) (first_temporary size block) n)))
+
 -- a function's items, and that each label stands where a jump to it goes
-pub record CodeOf (count : ℕ) (g : ARoutine) (code : List TreeItem) : Type 0 where
+pub record CodeOf (pointer count : ℕ) (g : ARoutine) (code : List TreeItem) : Type 0 where
   pub label : ℕ
-  pub is : code ≡ spelled_all (items_of (body_of count g label))
-  pub resolves : Resolves code (items_of (body_of count g label))
+  pub is : code ≡ spelled_all (body_of pointer count g label).items
+  pub resolves : Resolves code (body_of pointer count g label).items
 
 -- where callers go on
 pub record Backed (program : TreeProgram) (k : ℕ) (κ : Behind) (cs : List Activation) : Type 0 where
-  pub goes : (w : Flow) (st : State) → answer w < 2 ^ 32 → AreBytes st.area → AreBytes st.input → Leads k (κ w st) (runs program (returned (answer w) cs st.area st.input))
+  pub goes : (w : Flow) (st : State) → answer w < 2 ^ 32 → IsArea (extent_of program) st.area → AreBytes st.input → Leads k (κ w st) (runs program (returned (answer w) cs st.area st.input))
 
 -- bodies are followed, whatever waits for them
 pub record Calls (program : TreeProgram) (count : ℕ) (p : AProgram) (next : Next) (level : ℕ) : Type 0 where
-  pub runs_body : (k : ℕ) → suc k ≤ level → (f : ℕ) (g : ARoutine) → slice_get p.routines f ≡ Some g → (tf : TreeFn) → CodeOf count g tf.items → (vs : List ℕ) → AllSmall vs
-      → (κ : Behind) (cs : List Activation) → Backed program k κ cs → (st : State) → st.active ≡ length cs → AreBytes st.area → AreBytes st.input
-      → Leads k (next (Body g.body) κ (begun_source g vs st)) (runs program (arrived (record { running = begun_tree tf vs; callers = cs; area = st.area; input = st.input })))
+  pub runs_body : (k : ℕ) → suc k ≤ level → (f : ℕ) (g : ARoutine) → slice_get p.routines f ≡ Some g → (tf : TreeFn) → CodeOf (pointer_number p.objects) count g tf.items → (vs : List ℕ) → AllSmall vs
+      → (κ : Behind) (cs : List Activation) → Backed program k κ cs → (st : State) → st.active ≡ length cs → IsArea (extent_of program) st.area → AreBytes st.input
+      → Leads k (performed p.objects next g κ (begun_source g vs st)) (runs program (arrived (record { running = begun_tree tf vs; callers = cs; area = st.area; input = st.input })))
 
-module _ (program : TreeProgram) (code : List TreeItem) (callers : List Activation) (size count first : ℕ) (scope : ℕ → Type 0) (level : ℕ) (within : (x : ℕ) → scope x → x < size) (own : size ≤ first) (p : AProgram)
+module _ (program : TreeProgram) (code : List TreeItem) (callers : List Activation) (size count first : ℕ) (scope : ℕ → Type 0) (level : ℕ) (within : (x : ℕ) → scope x → x < size)
+    (own : size ≤ first) (p : AProgram)
     (next : Next) (counts_all : length program.functions ≡ count)
-    (lowers : (f : ℕ) (g : ARoutine) → slice_get p.routines f ≡ Some g → (tf : TreeFn) × (slice_get program.functions f ≡ Some tf) × CodeOf count g tf.items)
+    (lowers : (f : ℕ) (g : ARoutine) → slice_get p.routines f ≡ Some g → (tf : TreeFn) × (slice_get program.functions f ≡ Some tf) × CodeOf (pointer_number p.objects) count g tf.items)
     (calls : Calls program count p next level) where
   abbrev fine : State → Desk → Type 0
   fine st d = well program code callers size count first scope level within own st d
@@ -303,7 +316,7 @@ module _ (program : TreeProgram) (code : List TreeItem) (callers : List Activati
   abbrev told : Desk → ℕ → State → Desk
   told d v st = record { locals = d.locals; arguments = d.arguments; pushed = d.pushed; result = v; area = st.area; input = st.input }
 
-  told_agrees : (st st' : State) (d : Desk) (v : ℕ) → fine st d → AreBytes st'.area → AreBytes st'.input → fine (record st' { call = st.call; active = st.active }) (told d v st')
+  told_agrees : (st st' : State) (d : Desk) (v : ℕ) → fine st d → IsArea (extent_of program) st'.area → AreBytes st'.input → fine (record st' { call = st.call; active = st.active }) (told d v st')
   told_agrees st st' d v ag area input = record {
     local = ag.local;
     count = ag.count;
@@ -312,15 +325,17 @@ module _ (program : TreeProgram) (code : List TreeItem) (callers : List Activati
     input = refl;
     pushed = ag.pushed;
     active = ag.active;
-    ranged = record { local = ag.ranged.local; argument = ag.ranged.argument; area = area };
+    ranged = record { local = ag.ranged.local; argument = ag.ranged.argument; area = area.bytes };
     bytes = input;
+    whole = area;
+    pointer = ag.pointer;
   }
 
-  enter_at : (b : Bool) (k f : ℕ) → suc k ≤ level → (g : ARoutine) → slice_get p.routines f ≡ Some g → (tf : TreeFn) → CodeOf count g tf.items → (vs : List ℕ) → AllSmall vs
+  enter_at : (b : Bool) (k f : ℕ) → suc k ≤ level → (g : ARoutine) → slice_get p.routines f ≡ Some g → (tf : TreeFn) → CodeOf (pointer_number p.objects) count g tf.items → (vs : List ℕ) → AllSmall vs
       → (κ : Rest) (st : State) (d : Desk) (is : List Item) → fine st d
       → ((v : ℕ) (st' : State) → v < 2 ^ 32 → fine (record st' { call = st.call; active = st.active }) (told d v st')
       → Leads k (κ v (record st' { call = st.call; active = st.active })) (going is (told d v st')))
-      → Leads k (if b then next (Body g.body) (back κ st) (begun_source g vs st) else stop ends.Deep)
+      → Leads k (if b then performed p.objects next g (back κ st) (begun_source g vs st) else stop ends.Deep)
       (λ m. cond b (run_tree program m (arrived (record {
         running = begun_tree tf vs;
         callers = (state program code callers (spelled_all is) d).running ∷ callers;
@@ -330,19 +345,19 @@ module _ (program : TreeProgram) (code : List TreeItem) (callers : List Activati
   enter_at true k f le g at_f tf own vs small κ st d is ag h =
       let cs : List Activation = (state program code callers (spelled_all is) d).running ∷ callers in
       let backed : Backed program k (back κ st) cs = record { goes = λ w st' lt area input. h (answer w) st' lt (told_agrees st st' d (answer w) ag area input) } in
-      let bytes : AreBytes st.area = subst AreBytes ag.area ag.ranged.area in
+      let bytes : IsArea (extent_of program) st.area = subst (IsArea (extent_of program)) ag.area ag.whole in
       let ins : AreBytes st.input = subst AreBytes ag.input ag.bytes in
       let done = calls.runs_body k le f g at_f tf own vs small (back κ st) cs backed st ag.active bytes ins in
-      subst (λ a. Leads k (next (Body g.body) (back κ st) (begun_source g vs st)) (runs program (arrived (record { running = begun_tree tf vs; callers = cs; area = a; input = d.input }))))
+      subst (λ a. Leads k (performed p.objects next g (back κ st) (begun_source g vs st)) (runs program (arrived (record { running = begun_tree tf vs; callers = cs; area = a; input = d.input }))))
       (sym ag.area)
-      (subst (λ i. Leads k (next (Body g.body) (back κ st) (begun_source g vs st))
+      (subst (λ i. Leads k (performed p.objects next g (back κ st) (begun_source g vs st))
       (runs program (arrived (record { running = begun_tree tf vs; callers = cs; area = st.area; input = i })))) (sym ag.input) done)
   enter_at false k f le g at_f tf own vs small κ st d is ag h = leads_deep k (λ m. ended_tree ends.Deep) refl
 
   called_by : (f n k : ℕ) → k ≤ level → (g : ARoutine) → slice_get p.routines f ≡ Some g → (vs : List ℕ) → length vs ≡ n → AllSmall vs → (κ : Rest) (st : State) (d : Desk) (is : List Item)
       → fine st d → ((v : ℕ) (st' : State) → v < 2 ^ 32 → fine (record st' { call = st.call; active = st.active }) (told d v st')
       → Leads k (κ v (record st' { call = st.call; active = st.active })) (going is (told d v st')))
-      → Leads k (counted (entered next g vs κ st)) (going (Call f n ∷ is) (record d { pushed = vs ++ d.pushed }))
+      → Leads k (counted (entered p.objects next g vs κ st)) (going (Call f n ∷ is) (record d { pushed = vs ++ d.pushed }))
   called_by f n zero le g at_f vs len small κ st d is ag h = leads_none _ _
   called_by f n (suc k) le g at_f vs len small κ st d is ag h =
       let own = lowers f g at_f in
@@ -350,20 +365,20 @@ module _ (program : TreeProgram) (code : List TreeItem) (callers : List Activati
       (arrived (record { running = begun_tree own.0 vs; callers = (state program code callers (spelled_all is) d).running ∷ callers; area = d.area; input = d.input })))
       (ended_tree ends.Deep) in
       let deep : 1 + length callers ≡ st.active = omega (arith, ag.active) in
-      call_counts program code callers (suc k) f n is (counted (entered next g vs κ st)) q (record d { pushed = vs ++ d.pushed })
+      call_counts program code callers (suc k) f n is (counted (entered p.objects next g vs κ st)) q (record d { pushed = vs ++ d.pushed })
       (λ m. called_is (run_tree program m) (spelled_all is) d f n vs len
       ∙ ap (λ o. carried (run_tree program m) (called_as (state program code callers (spelled_all is) d) o (f - length program.functions) vs)) own.1
       ∙ entered_is program m (state program code callers (spelled_all is) d) own.0 vs
       ∙ ap (λ a. cond (nat_lt a 1024) (run_tree program m (arrived (record
       { running = begun_tree own.0 vs; callers = (state program code callers (spelled_all is) d).running ∷ callers; area = d.area; input = d.input }))) (ended_tree ends.Deep)) deep)
-      (leads_counted k (entered next g vs κ st) q (enter_at (nat_lt st.active 1024) k f le g at_f own.0 own.2 vs small κ st d is ag
+      (leads_counted k (entered p.objects next g vs κ st) q (enter_at (nat_lt st.active 1024) k f le g at_f own.0 own.2 vs small κ st d is ag
       (λ v st' lt ag'. leads_below k (suc k) _ _ (omega arith) (h v st' lt ag'))))
 
   called_to : (f n k : ℕ) → k ≤ level → (o : Option ARoutine) → slice_get p.routines f ≡ o → (vs : List ℕ) → length vs ≡ n → AllSmall vs
       → (κ : Rest) (st : State) (d : Desk) (is : List Item) → fine st d
       → ((v : ℕ) (st' : State) → v < 2 ^ 32 → fine (record st' { call = st.call; active = st.active }) (told d v st')
       → Leads k (κ v (record st' { call = st.call; active = st.active })) (going is (told d v st')))
-      → Leads k (called_source o next vs κ st) (going (Call f n ∷ is) (record d { pushed = vs ++ d.pushed }))
+      → Leads k (called_source p.objects o next vs κ st) (going (Call f n ∷ is) (record d { pushed = vs ++ d.pushed }))
   called_to f n k le None e vs len small κ st d is ag h = lost program code callers k (spelled_all (Call f n ∷ is)) _
   called_to f n k le (Some g) e vs len small κ st d is ag h = called_by f n k le g e vs len small κ st d is ag h
 
@@ -388,14 +403,14 @@ module _ (program : TreeProgram) (code : List TreeItem) (callers : List Activati
       → Leads k (κ v (record st' { call = st.call; active = st.active })) (going is (told d v st')))
       → Leads k (got i κ st) (λ m. carried (run_tree program m) (got_step (state program code callers (spelled_all is) d) i))
   get_by n k vs len κ st d is [] e ag h =
-      let area : AreBytes st.area = subst AreBytes ag.area ag.ranged.area in
+      let area : IsArea (extent_of program) st.area = subst (IsArea (extent_of program)) ag.area ag.whole in
       let input : AreBytes st.input = subst AreBytes ag.input ag.bytes in
       let run = h (2 ^ 32 - 1) st (omega arith) (told_agrees st st d (2 ^ 32 - 1) ag area input) in
       subst (λ a. Leads k (κ (2 ^ 32 - 1) st) (going is (record { locals = d.locals; arguments = d.arguments; pushed = d.pushed; result = 2 ^ 32 - 1; area = a; input = d.input }))) (sym ag.area)
       (subst (λ i. Leads k (κ (2 ^ 32 - 1) st) (going is (record { locals = d.locals; arguments = d.arguments; pushed = d.pushed; result = 2 ^ 32 - 1; area = st.area; input = i })))
       (sym ag.input) run)
   get_by n k vs len κ st d is (b ∷ bs) e ag h =
-      let area : AreBytes st.area = subst AreBytes ag.area ag.ranged.area in
+      let area : IsArea (extent_of program) st.area = subst (IsArea (extent_of program)) ag.area ag.whole in
       let input : AreBytes (b ∷ bs) = subst AreBytes e ag.bytes in
       let st' : State = record st { input = bs } in
       let run = h b st' (omega (arith, input.0)) (told_agrees st st' d b ag area input.1) in
@@ -422,7 +437,7 @@ module _ (program : TreeProgram) (code : List TreeItem) (callers : List Activati
   call_step callees.Putchar n k le vs len small κ st d is ag h =
       put_step n k vs len κ st d is
       (λ v lt.
-      let area : AreBytes st.area = subst AreBytes ag.area ag.ranged.area in
+      let area : IsArea (extent_of program) st.area = subst (IsArea (extent_of program)) ag.area ag.whole in
       let input : AreBytes st.input = subst AreBytes ag.input ag.bytes in
       let run = h v st lt (told_agrees st st d v ag area input) in
       subst (λ a. Leads k (κ v st) (going is (record { locals = d.locals; arguments = d.arguments; pushed = d.pushed; result = v; area = a; input = d.input }))) (sym ag.area)
@@ -452,7 +467,7 @@ module _ (program : TreeProgram) (code : List TreeItem) (callers : List Activati
         let d3 : Desk = record d2 { locals = with_local d1.locals u v } in
         save_step program code callers k u is (κ v st2) d2
         (use_number program code callers size count first scope level within own k (d3.locals u) v is κ st2 d3 (set_same d1.locals u v)
-        (h st2 d3 (agree_temp size first scope (length callers) within own u v st2 d2 (omega (arith, does.grows)) lt ag') (record {
+        (h st2 d3 (agree_temp (extent_of program) size first scope (length callers) within own u v st2 d2 (omega (arith, does.grows)) lt ag') (record {
           keeps = λ j szj o. set_other d1.locals u v j (λ e. ⊎_elim (λ lt. omega (arith, does.grows)) (λ ge. omega arith) o) ∙ s1.keeps j szj (⊎_elim (λ lt. inl lt) (λ ge. inr (omega arith)) o);
           same = λ e. absurd (append_some q.items tail (pushes_some q.trees c (Save u ∷ [])) e);
         }))))))));
@@ -481,6 +496,14 @@ module _ (program : TreeProgram) (code : List TreeItem) (callers : List Activati
         }))))));
   }
 
+  -- a value that leaves the function is made first
+  leaving_does : (to : Destination) (f : Callee) (q : Passing) (t : ℕ) (m : RestAll → State → Runs) → first ≤ t → DoesAll program code callers size count first scope level within own q t m
+      → Delivers program code callers size count first scope level to (delivered to (called_low (callee_number count f) q)) t (λ κ. m (λ vs. call p next f vs κ))
+  leaving_does to f q t m sz does =
+      let low = called_low_does f q t m sz does in
+      delivered_does program code callers size count first scope level within own to (called_low (callee_number count f) q) t (λ κ. m (λ vs. call p next f vs κ)) sz
+      (record { grows = low.grows; below = low.below; small = low.small; runs = λ k le is κ res st d ag h. low.runs k le is κ res st d ag h })
+
   pub called_deliver_does : (to : Destination) (f : Callee) (q : Passing) (t : ℕ) (m : RestAll → State → Runs) → first ≤ t → DoesAll program code callers size count first scope level within own q t m
       → Delivers program code callers size count first scope level to (called_deliver to (callee_number count f) q) t (λ κ. m (λ vs. call p next f vs κ))
   called_deliver_does (InLocal x) f q t m sz does = record {
@@ -502,7 +525,5 @@ module _ (program : TreeProgram) (code : List TreeItem) (callers : List Activati
         let d2 : Desk = told d1 v st' in
         save_step program code callers k x is (κ v st2) d2 (h v st2 d2 lt ag' (λ j szj o. s1.keeps j szj o)))))));
   }
-  called_deliver_does AsResult f q t m sz does =
-      let low = called_low_does f q t m sz does in
-      delivered_does program code callers size count first scope level within own AsResult (called_low (callee_number count f) q) t (λ κ. m (λ vs. call p next f vs κ))
-      (record { grows = low.grows; below = low.below; small = low.small; runs = λ k le is κ res st d ag h. low.runs k le is κ res st d ag h })
+  called_deliver_does AsResult f q t m sz does = leaving_does AsResult f q t m sz does
+  called_deliver_does (Releasing pointer n) f q t m sz does = leaving_does (Releasing pointer n) f q t m sz does

@@ -11,8 +11,8 @@ use Rattle.c_meaning.specs.State.{State}
 use Rattle.c_meaning.specs.Values.{Rest, chosen, logical}
 use Rattle.c_lower_scheme.specs.Trees.{Jump, Num, Item, Label, AssignLoc, Cbr, sensed, opposite}
 use Rattle.c_lower_scheme.specs.Spelling.{spelled_all}
-use Rattle.c_lower_scheme.specs.Parts.{with_done, then_done, Lowered, Pair, Emitted, Lowering, Destination, InLocal, AsResult}
-use Rattle.c_lower_scheme.specs.Conditions.{truth_of, compare, conditional, chain, chain_drop, drop_two, choose_low, choose_drop, choose, comma, choose_deliver}
+use Rattle.c_lower_scheme.specs.Parts.{with_done, then_done, Lowered, Pair, Emitted, Lowering, Destination, InLocal, AsResult, Releasing}
+use Rattle.c_lower_scheme.specs.Conditions.{truth_of, compare, conditional, chain, chain_drop, drop_two, choose_low, choose_drop, choose_leave, choose, comma, choose_deliver}
 use Rattle.c_lower_scheme.specs.Values.{relation, joined}
 use Rattle.c_lower_follows.proofs.Leads.{Leads, leads_quiet}
 use Rattle.c_lower_follows.proofs.Steps.{label_step, label_counts, jump_step, Desk, Resolves, resolves_back, at_items, moves, cbr_step, resolves_split}
@@ -23,7 +23,7 @@ use Rattle.gg_base.specs.Numbers.{truth}
 use Rattle.c_types.specs.Constants.{apply_unary}
 use Rattle.c_types.specs.declared.typed.UnaryOperator.TheVariants as unaries
 use Rattle.c_lower_follows.proofs.Doing.{either_way, Agrees, here, Does, DoesTwo, Drops, Asks, Delivers, DoesWay, assoc, save_temp, since_both, since_more, two_does}
-use Rattle.c_lower_follows.proofs.Doing.{test_asks, delivered_does, arrives_behind}
+use Rattle.c_lower_follows.proofs.Doing.{test_asks, delivered_does, Arrives, arrives_behind}
 use Rattle.c_lower_follows.proofs.Storing.{use_number}
 
 chosen_truth : (b : Bool) (κ : Rest) (st : State) → κ (truth b) st ≡ chosen (truth b) (κ 1 st) (κ 0 st)
@@ -85,7 +85,8 @@ pick true false met unmet = unmet
 pick false true met unmet = unmet
 pick false false met unmet = met
 
-module _ (program : TreeProgram) (code : List TreeItem) (callers : List Activation) (size count first : ℕ) (scope : ℕ → Type 0) (level : ℕ) (within : (x : ℕ) → scope x → x < size) (own : size ≤ first) where
+module _ (program : TreeProgram) (code : List TreeItem) (callers : List Activation) (size count first : ℕ) (scope : ℕ → Type 0) (level : ℕ) (within : (x : ℕ) → scope x → x < size)
+    (own : size ≤ first) where
   abbrev sure : State → Desk → Type 0
   sure st d = Agrees program code callers size count first scope level st d
 
@@ -134,7 +135,7 @@ module _ (program : TreeProgram) (code : List TreeItem) (callers : List Activati
         subst (λ r. Leads k r (going ((b.items ++ T) ++ is) d0)) (sym (logic κ st))
         (bind_up k b.items T is d0 _ (asks.runs k le (T ++ is) (κ 1) (κ 0) res1 st d0 ag0
         (λ st1 d1 ag1 s1. leads_quiet k _ _ (moves program code callers k (behind code l) (spelled_all is) d1 _ end_at
-        (use_number program code callers size count first scope level within own k (d1.locals t) 0 is κ st1 d1 (s1.keeps t sz (inl (omega arith)) ∙ set_same d.locals t v ∙ ap Some (sym z))
+        (use_number program code callers size count first scope level within own k (d1.locals t) 0 is κ st1 d1 (s1.keeps t (omega arith) (inl (omega arith)) ∙ set_same d.locals t v ∙ ap Some (sym z))
         (h st1 d1 ag1 (since 0 st1 d1 (outside st1 d1 s1))))))
         (λ st1 d1 ag1 s1. leads_quiet k _ _ (save_temp program code callers size count first scope level within own k t (Num 1) (Label l ∷ is) (λ v. κ 1 st1) st1 d1 sz (omega arith) ag1
         (λ w lt' e' ag2.
@@ -151,7 +152,7 @@ module _ (program : TreeProgram) (code : List TreeItem) (callers : List Activati
     low = λ t l sz. truth_does t l (f false l (suc t) (suc l)) m sz logic (asks false l (suc t) (suc l) (omega arith));
     branch = asks;
     drop = drops;
-    deliver = λ to t l sz. delivered_does program code callers size count first scope level within own to (truth_of t l (f false l (suc t) (suc l))) t m
+    deliver = λ to t l sz. delivered_does program code callers size count first scope level within own to (truth_of t l (f false l (suc t) (suc l))) t m sz
         (truth_does t l (f false l (suc t) (suc l)) m sz logic (asks false l (suc t) (suc l) (omega arith)));
   }
 
@@ -163,7 +164,8 @@ module _ (program : TreeProgram) (code : List TreeItem) (callers : List Activati
         let res1 = resolves_split code p.items q.items is res in
         bind_up k p.items q.items is d _ (drops.runs k le (q.items ++ is) (n (λ v. κ)) res1 st d ag
         (λ st1 d1 ag1 s1. drops'.runs k le is κ (resolves_back code p.items (q.items ++ is) res1) st1 d1 ag1
-        (λ st2 d2 ag2 s2. h st2 d2 ag2 (since_both program code callers size count first scope level within own t p.temps q.temps p.items q.items st st1 st2 d d1 d2 drops.grows drops'.grows s1 s2))));
+        (λ st2 d2 ag2 s2. h st2 d2 ag2 (since_both program code callers size count first scope level within own t p.temps q.temps p.items q.items st st1 st2 d d1 d2 drops.grows drops'.grows s1
+        s2))));
   }
 
   compare_by : (sense : Bool) (r : Rel) (x y : ℕ) (b : Bool) (met unmet : Runs) → holds (sensed sense r) x y ≡ b → chosen (truth (holds r x y)) met unmet ≡ pick b sense met unmet
@@ -202,13 +204,13 @@ module _ (program : TreeProgram) (code : List TreeItem) (callers : List Activati
       conditional_does (λ sense to t l. compare (sensed sense r) to (joined size count a b t l)) (drop_two a b) (λ κ. m (λ x. n (λ y. κ (truth (holds r x y)))))
       (λ κ st j. m (λ x. n (λ y st. chosen_truth (holds r x y) κ st j)) st)
       (λ sense to t l sz.
-      let first = does.low t l sz in
+      let one = does.low t l sz in
       relation_asks sense r to (joined size count a b t l) t (λ κ. m (λ x. n (κ x)))
-      (two_does program code callers size count first scope level within own (a.low t l) (b.low (a.low t l).temps (a.low t l).labels) t m n sz first
-      (does'.low (a.low t l).temps (a.low t l).labels (omega (arith, first.grows)))))
+      (two_does program code callers size count first scope level within own (a.low t l) (b.low (a.low t l).temps (a.low t l).labels) t m n sz one
+      (does'.low (a.low t l).temps (a.low t l).labels (omega (arith, one.grows)))))
       (λ t l sz.
-      let first = does.drop t l sz in
-      let both = then_drops (a.drop t l) (b.drop (a.drop t l).temps (a.drop t l).labels) t m n first (does'.drop (a.drop t l).temps (a.drop t l).labels (omega (arith, first.grows))) in
+      let one = does.drop t l sz in
+      let both = then_drops (a.drop t l) (b.drop (a.drop t l).temps (a.drop t l).labels) t m n one (does'.drop (a.drop t l).temps (a.drop t l).labels (omega (arith, one.grows))) in
       record { grows = both.grows; runs = λ k le is κ res st d ag h. both.runs k le is κ res st d ag h })
 
   -- the truth of `!e`
@@ -254,7 +256,8 @@ module _ (program : TreeProgram) (code : List TreeItem) (callers : List Activati
         (λ st1 d1 ag1 s1. leads_quiet k _ _ (subst (λ κ. Leads k (n κ st1) (going (q.items ++ is) d1)) (λ j y st. sym (logical_chosen y (met st) (unmet st)) j)
         (asks'.runs k le is met unmet (resolves_back code p.items (q.items ++ is) res1) st1 d1 ag1
         (λ st2 d2 ag2 s2. taken st2 d2 ag2 (since_both program code callers size count first scope level within own t p.temps q.temps p.items q.items st st1 st2 d d1 d2 asks.grows asks'.grows s1 s2))
-        (λ st2 d2 ag2 s2. falls st2 d2 ag2 (since_both program code callers size count first scope level within own t p.temps q.temps p.items q.items st st1 st2 d d1 d2 asks.grows asks'.grows s1 s2))))));
+        (λ st2 d2 ag2 s2. falls st2 d2 ag2 (since_both program code callers size count first scope level within own t p.temps q.temps p.items q.items st st1 st2 d d1 d2 asks.grows asks'.grows s1
+        s2))))));
   }
   chain_direct false to p q t m n asks asks' = record {
     grows = omega (arith, asks.grows, asks'.grows);
@@ -266,7 +269,8 @@ module _ (program : TreeProgram) (code : List TreeItem) (callers : List Activati
         (λ st1 d1 ag1 s1. leads_quiet k _ _ (subst (λ κ. Leads k (n κ st1) (going (q.items ++ is) d1)) (λ j y st. sym (logical_chosen y (met st) (unmet st)) j)
         (asks'.runs k le is met unmet (resolves_back code p.items (q.items ++ is) res1) st1 d1 ag1
         (λ st2 d2 ag2 s2. taken st2 d2 ag2 (since_both program code callers size count first scope level within own t p.temps q.temps p.items q.items st st1 st2 d d1 d2 asks.grows asks'.grows s1 s2))
-        (λ st2 d2 ag2 s2. falls st2 d2 ag2 (since_both program code callers size count first scope level within own t p.temps q.temps p.items q.items st st1 st2 d d1 d2 asks.grows asks'.grows s1 s2))))));
+        (λ st2 d2 ag2 s2. falls st2 d2 ag2 (since_both program code callers size count first scope level within own t p.temps q.temps p.items q.items st st1 st2 d d1 d2 asks.grows asks'.grows s1
+        s2))))));
   }
 
   chain_inner_true : (to l : ℕ) (p q : Emitted) (t : ℕ) (m n : Rest → State → Runs) → AsksIt p true l t m → AsksIt q false to p.temps n
@@ -320,20 +324,20 @@ module _ (program : TreeProgram) (code : List TreeItem) (callers : List Activati
   chain_asks : (stop sense : Bool) (a b : Lowering) (to t l : ℕ) (m n : Rest → State → Runs) → first ≤ t → WayIt a m → WayIt b n → AsksIt (chain stop a b sense to t l) sense to t (Chained stop m n)
   chain_asks true true a b to t l m n sz does does' =
       let p = a.branch true to t (suc l) in
-      let first = does.branch true to t (suc l) sz in
-      chain_direct true to p (b.branch true to p.temps p.labels) t m n first (does'.branch true to p.temps p.labels (omega (arith, first.grows)))
+      let one = does.branch true to t (suc l) sz in
+      chain_direct true to p (b.branch true to p.temps p.labels) t m n one (does'.branch true to p.temps p.labels (omega (arith, one.grows)))
   chain_asks true false a b to t l m n sz does does' =
       let p = a.branch true l t (suc l) in
-      let first = does.branch true l t (suc l) sz in
-      chain_inner_true to l p (b.branch false to p.temps p.labels) t m n first (does'.branch false to p.temps p.labels (omega (arith, first.grows)))
+      let one = does.branch true l t (suc l) sz in
+      chain_inner_true to l p (b.branch false to p.temps p.labels) t m n one (does'.branch false to p.temps p.labels (omega (arith, one.grows)))
   chain_asks false true a b to t l m n sz does does' =
       let p = a.branch false l t (suc l) in
-      let first = does.branch false l t (suc l) sz in
-      chain_inner_false to l p (b.branch true to p.temps p.labels) t m n first (does'.branch true to p.temps p.labels (omega (arith, first.grows)))
+      let one = does.branch false l t (suc l) sz in
+      chain_inner_false to l p (b.branch true to p.temps p.labels) t m n one (does'.branch true to p.temps p.labels (omega (arith, one.grows)))
   chain_asks false false a b to t l m n sz does does' =
       let p = a.branch false to t (suc l) in
-      let first = does.branch false to t (suc l) sz in
-      chain_direct false to p (b.branch false to p.temps p.labels) t m n first (does'.branch false to p.temps p.labels (omega (arith, first.grows)))
+      let one = does.branch false to t (suc l) sz in
+      chain_direct false to p (b.branch false to p.temps p.labels) t m n one (does'.branch false to p.temps p.labels (omega (arith, one.grows)))
 
   chain_logic : (stop : Bool) (m n : Rest → State → Runs) (κ : Rest) (st : State) → Chained stop m n κ st ≡ Chained stop m n (λ v st. chosen v (κ 1 st) (κ 0 st)) st
   chain_logic true m n κ st = λ j. m (λ x st. chosen x (κ 1 st) (n (λ y st. (logical_value y κ st ∙ sym (logical_chosen y (κ 1 st) (κ 0 st))) j) st)) st
@@ -376,8 +380,8 @@ module _ (program : TreeProgram) (code : List TreeItem) (callers : List Activati
       (λ sense to t l sz. chain_asks stop sense a b to t l m n sz does does')
       (λ t l sz.
       let p = a.branch stop l t (suc l) in
-      let first = does.branch stop l t (suc l) sz in
-      chain_drops_by stop l p (b.drop p.temps p.labels) t m n first (does'.drop p.temps p.labels (omega (arith, first.grows))))
+      let one = does.branch stop l t (suc l) sz in
+      chain_drops_by stop l p (b.drop p.temps p.labels) t m n one (does'.drop p.temps p.labels (omega (arith, one.grows))))
 
   -- one of two values
   abbrev pub Chosen : (Rest → State → Runs) → (Rest → State → Runs) → (Rest → State → Runs) → Rest → State → Runs
@@ -482,10 +486,14 @@ module _ (program : TreeProgram) (code : List TreeItem) (callers : List Activati
         ∙ s1.keeps j szj (⊎_elim (λ lt. inl lt) (λ ge. inr (omega (arith, does.grows, does'.grows))) o)))))))));
   }
 
-  choose_deliver_does : (to : Destination) (t l : ℕ) (p q r : Emitted) (m n o : Rest → State → Runs) → AsksIt p false l t m → DeliversIt to q p.temps n → DeliversIt to r q.temps o
-      → DeliversIt to (choose_deliver to l p q r) t (Chosen m n o)
-  choose_deliver_does (InLocal x) t l p q r m n o asks does does' = choose_into_does x t l p q r m n o asks does does'
-  choose_deliver_does AsResult t l p q r m n o asks does does' = record {
+  -- where the function is left no jump stands behind the first value
+  abbrev LeavesIt : Destination → Type 0
+  LeavesIt to = (k t u t' u' : ℕ) (is js : List Item) (d d' : Desk) (κ : Rest) → Arrives program code callers size count first scope level to k t u is d κ
+      → Arrives program code callers size count first scope level to k t' u' js d' κ
+
+  choose_leave_does : (to : Destination) → LeavesIt to → (t l : ℕ) (p q r : Emitted) (m n o : Rest → State → Runs) → AsksIt p false l t m → DeliversIt to q p.temps n → DeliversIt to r q.temps o
+      → DeliversIt to (choose_leave l p q r) t (Chosen m n o)
+  choose_leave_does to leaves t l p q r m n o asks does does' = record {
     grows = omega (arith, asks.grows, does.grows, does'.grows);
     some = λ e. not_nil q.items (Label l) r.items (back_nil p.items (q.items ++ (Label l ∷ r.items)) e);
     runs = λ k le is κ res st d ag h.
@@ -496,35 +504,42 @@ module _ (program : TreeProgram) (code : List TreeItem) (callers : List Activati
         let res2 = resolves_back code q.items (T2 ++ is) res1 in
         let else_at : behind code l ≡ spelled_all (r.items ++ is) = res2.0 in
         bind_up k p.items T1 is d _ (asks.runs k le (T1 ++ is) (n κ) (o κ) res0 st d ag
-        (λ st1 d1 ag1 s1. leads_quiet k _ _ (moves program code callers k (behind code l) (spelled_all (r.items ++ is)) d1 _ else_at (does'.runs k le is κ res2.1 st1 d1 ag1 h)))
-        (λ st1 d1 ag1 s1. leads_quiet k _ _ (bind_up k q.items T2 is d1 _ (does.runs k le (T2 ++ is) κ res1 st1 d1 ag1 h))));
+        (λ st1 d1 ag1 s1. leads_quiet k _ _ (moves program code callers k (behind code l) (spelled_all (r.items ++ is)) d1 _ else_at
+        (does'.runs k le is κ res2.1 st1 d1 ag1 (leaves k t r.temps q.temps r.temps is is d d1 κ h))))
+        (λ st1 d1 ag1 s1. leads_quiet k _ _ (bind_up k q.items T2 is d1 _ (does.runs k le (T2 ++ is) κ res1 st1 d1 ag1 (leaves k t r.temps p.temps q.temps is (T2 ++ is) d d1 κ h)))));
   }
 
+  choose_deliver_does : (to : Destination) (t l : ℕ) (p q r : Emitted) (m n o : Rest → State → Runs) → AsksIt p false l t m → DeliversIt to q p.temps n → DeliversIt to r q.temps o
+      → DeliversIt to (choose_deliver to l p q r) t (Chosen m n o)
+  choose_deliver_does (InLocal x) t l p q r m n o asks does does' = choose_into_does x t l p q r m n o asks does does'
+  choose_deliver_does AsResult t l p q r m n o asks does does' = choose_leave_does AsResult (λ k t u t' u' is js d d' κ h. h) t l p q r m n o asks does does'
+  choose_deliver_does (Releasing pointer x) t l p q r m n o asks does does' = choose_leave_does (Releasing pointer x) (λ k t u t' u' is js d d' κ h. h) t l p q r m n o asks does does'
+
   choice_does : (c a b : Lowering) (m n o : Rest → State → Runs) → WayIt c m → WayIt a n → WayIt b o → (t l : ℕ) → first ≤ t → LowIt ((choose c a b).low t l) t (Chosen m n o)
-  choice_does c a b m n o first second third t l sz =
+  choice_does c a b m n o one two three t l sz =
       let p = c.branch false l (suc t) (suc (suc l)) in
-      let f = first.branch false l (suc t) (suc (suc l)) (omega arith) in
+      let f = one.branch false l (suc t) (suc (suc l)) (omega arith) in
       let q = a.low p.temps p.labels in
-      let g = second.low p.temps p.labels (omega (arith, f.grows)) in
-      choose_low_does t l p q (b.low q.temps q.labels) m n o sz f g (third.low q.temps q.labels (omega (arith, f.grows, g.grows)))
+      let g = two.low p.temps p.labels (omega (arith, f.grows)) in
+      choose_low_does t l p q (b.low q.temps q.labels) m n o sz f g (three.low q.temps q.labels (omega (arith, f.grows, g.grows)))
 
   pub choose_does : (c a b : Lowering) (m n o : Rest → State → Runs) → WayIt c m → WayIt a n → WayIt b o → WayIt (choose c a b) (Chosen m n o)
-  choose_does c a b m n o first second third = record {
-    low = choice_does c a b m n o first second third;
+  choose_does c a b m n o one two three = record {
+    low = choice_does c a b m n o one two three;
     branch = λ sense to t l sz. test_asks program code callers size count first scope level within own sense to ((choose c a b).low t l) t (Chosen m n o)
-        (choice_does c a b m n o first second third t l sz);
+        (choice_does c a b m n o one two three t l sz);
     drop = λ t l sz.
         let p = c.branch false l t (suc (suc l)) in
-        let f = first.branch false l t (suc (suc l)) sz in
+        let f = one.branch false l t (suc (suc l)) sz in
         let q = a.drop p.temps p.labels in
-        let g = second.drop p.temps p.labels (omega (arith, f.grows)) in
-        choose_drop_does t l p q (b.drop q.temps q.labels) m n o f g (third.drop q.temps q.labels (omega (arith, f.grows, g.grows)));
+        let g = two.drop p.temps p.labels (omega (arith, f.grows)) in
+        choose_drop_does t l p q (b.drop q.temps q.labels) m n o f g (three.drop q.temps q.labels (omega (arith, f.grows, g.grows)));
     deliver = λ to t l sz.
         let p = c.branch false l t (suc (suc l)) in
-        let f = first.branch false l t (suc (suc l)) sz in
+        let f = one.branch false l t (suc (suc l)) sz in
         let q = a.deliver to p.temps p.labels in
-        let g = second.deliver to p.temps p.labels (omega (arith, f.grows)) in
-        choose_deliver_does to t l p q (b.deliver to q.temps q.labels) m n o f g (third.deliver to q.temps q.labels (omega (arith, f.grows, g.grows)));
+        let g = two.deliver to p.temps p.labels (omega (arith, f.grows)) in
+        choose_deliver_does to t l p q (b.deliver to q.temps q.labels) m n o f g (three.deliver to q.temps q.labels (omega (arith, f.grows, g.grows)));
   }
 
   comma_low : (p : Emitted) (q : Lowered) (t : ℕ) (m n : Rest → State → Runs) → DropsIt p t m → LowIt q p.temps n → LowIt (with_done p q) t (λ κ. m (λ x. n κ))
@@ -547,7 +562,8 @@ module _ (program : TreeProgram) (code : List TreeItem) (callers : List Activati
         bind_up k p.items q.items is d _ (drops.runs k le (q.items ++ is) (n (λ v st. chosen v (met st) (unmet st))) res1 st d ag
         (λ st1 d1 ag1 s1. asks.runs k le is met unmet (resolves_back code p.items (q.items ++ is) res1) st1 d1 ag1
         (λ st2 d2 ag2 s2. taken st2 d2 ag2 (since_both program code callers size count first scope level within own t p.temps q.temps p.items q.items st st1 st2 d d1 d2 drops.grows asks.grows s1 s2))
-        (λ st2 d2 ag2 s2. falls st2 d2 ag2 (since_both program code callers size count first scope level within own t p.temps q.temps p.items q.items st st1 st2 d d1 d2 drops.grows asks.grows s1 s2))));
+        (λ st2 d2 ag2 s2. falls st2 d2 ag2 (since_both program code callers size count first scope level within own t p.temps q.temps p.items q.items st st1 st2 d d1 d2 drops.grows asks.grows s1
+        s2))));
   }
 
   comma_delivers : (to : Destination) (p q : Emitted) (t : ℕ) (m n : Rest → State → Runs) → DropsIt p t m → DeliversIt to q p.temps n → DeliversIt to (then_done p q) t (λ κ. m (λ x. n κ))

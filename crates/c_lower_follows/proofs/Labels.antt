@@ -16,12 +16,13 @@ use Rattle.c_types.specs.Constants.{scale, constant_of}
 use Rattle.c_types.specs.Typed.{APlace, VariableAt, PointedBy, ElementBy, AnExpression, Constant, LiteralAt, ArrayAt, ReadOf, SizeOfExpression, SizeOf, AddressOf, CallOf, StepOf}
 use Rattle.c_types.specs.Typed.{UnaryOf, CastTo, ConvertTo, ArithmeticOf, CompareOf, BothOf, EitherOf, AdvanceOf, AdvanceByOf, RetreatOf, DistanceOf, ChoiceOf, AssignTo}
 use Rattle.c_types.specs.Typed.{ArithmeticAssignTo, AdvanceAssignTo, RetreatAssignTo, CommaOf, SomeExpressions, NoExpressions, MoreExpressions}
-use Rattle.c_program.specs.Statements.{ADeclaration, KeepOf, ClearOf, BeginOf, AnAction, SomeActions, NoActions, MoreActions, DeclareOf, BlockOf, EvaluateOf, BreakOf, ContinueOf}
+use Rattle.c_program.specs.Statements.{ADeclaration, KeepOf, ClearOf, BeginOf, StoreOf, ZerosOf, AnAction, SomeActions, NoActions, MoreActions, DeclareOf, BlockOf, EvaluateOf, BreakOf, ContinueOf}
 use Rattle.c_program.specs.Statements.{ReturnOf, IfOf, IfElseOf, WhileOf, DoOf, ForOf}
 use Rattle.c_program.specs.Programs.{ARoutine}
-use Rattle.c_lower_scheme.specs.Trees.{Tree, Num, Loc, Neg, Com, Bin, Item, Label, AssignLoc, AssignArg, AssignMem, Cbr, Jump, Push, Call, Save, Ret, breaks}
+use Rattle.c_lower_scheme.specs.Trees.{Tree, Num, Gaddr, Loc, Neg, Com, Bin, Item, Label, AssignLoc, AssignArg, AssignMem, Cbr, Jump, Push, Call, Save, Ret, reads, breaks}
 use Rattle.c_lower_scheme.specs.Spelling.{spelled, spelled_all}
 use Rattle.c_lower_scheme.specs.Parts
+use Rattle.c_lower_scheme.specs.Saving
 use Rattle.c_lower_scheme.specs.Places
 use Rattle.c_lower_scheme.specs.Conditions
 use Rattle.c_lower_scheme.specs.Values
@@ -32,10 +33,10 @@ use Rattle.c_lower_scheme.specs.Mentions
 use Rattle.c_lower_scheme.specs.Zeros
 use Rattle.c_lower_scheme.specs.Flow
 use Rattle.c_lower_scheme.specs.Statements
-use Rattle.c_lower_scheme.specs.Programs.{body_of, items_of, function_of, lower_all}
+use Rattle.c_lower_scheme.specs.Programs.{body_of, function_of, lower_all}
 use Rattle.c_lower_scheme.proofs.Labels.{at, tag_by, tag, stands, stands_append}
 use Rattle.c_lower_follows.proofs.Steps.{Resolves, Goes}
-use Rattle.c_lower_follows.proofs.Calling.{CodeOf}
+use Rattle.c_lower_follows.proofs.Calling.{CodeOf, items_by}
 
 same_tag : (l : ℕ) → at l l ≡ 1
 same_tag l = ap (λ b. cond b 1 0) (eq-eqb l l refl)
@@ -124,7 +125,7 @@ once_front l u js is z h = once_same l u is (js ++ is) h (λ m. omega (arith, st
 once_wider : (l k u : ℕ) (is : List Item) → l ≤ k → Once k u is → Once l u is
 once_wider l k u is le h = record { grows = omega (arith, h.grows); once = h.once; inside = λ m o. h.inside m (⊎_elim (λ lt. inl (omega arith)) (λ ge. inr ge) o) }
 
-none_saving : (b : Bool) (u : ℕ) (w : Tree) (m : ℕ) → stands m (Places.saving b u w) ≡ 0
+none_saving : (b : Bool) (u : ℕ) (w : Tree) (m : ℕ) → stands m (Saving.saving b u w) ≡ 0
 none_saving true u w m = refl
 none_saving false u w m = refl
 
@@ -152,6 +153,11 @@ pub record OnceWay (w : Parts.Lowering) : Type 0 where
 once_delivered : (to : Parts.Destination) (p : Parts.Lowered) (l : ℕ) → Once l p.labels p.items → Once l (Parts.delivered to p).labels (Parts.delivered to p).items
 once_delivered (Parts.InLocal n) p l h = once_plain l p.labels p.items _ h (λ m. refl)
 once_delivered Parts.AsResult p l h = once_plain l p.labels p.items _ h (λ m. refl)
+once_delivered (Parts.Releasing pointer n) p l h = once_plain l p.labels p.items _ h (λ m. omega (
+  arith,
+  stands_append m (Saving.saving (reads p.tree) p.temps p.tree) (AssignMem ints.Int (Gaddr pointer) (Loc n) ∷ Ret (Saving.saved (reads p.tree) p.temps p.tree) ∷ []),
+  none_saving (reads p.tree) p.temps p.tree m,
+))
 
 once_valued : (f : ℕ → ℕ → Parts.Lowered) → ((t l : ℕ) → Once l (f t l).labels (f t l).items) → OnceWay (Conditions.valued f)
 once_valued f h = record {
@@ -177,8 +183,8 @@ once_conditional f g h h' = record { low = truth; branch = h; drop = h'; deliver
     truth : (t l : ℕ) → Once l (Conditions.truth_of t l (f false l (suc t) (suc l))).labels (Conditions.truth_of t l (f false l (suc t) (suc l))).items
     truth t l = let b = f false l (suc t) (suc l) in once_count l b.labels b.items _ (h false l (suc t) (suc l)) (λ m. omega (arith, stands_append m b.items (AssignLoc t (Num 1) ∷ Label l ∷ [])))
 
-once_two : (u : ℕ) (b : Bool) (w : Tree) (l p q : ℕ) (a c : List Item) → Once l p a → Once p q c → Once l q (a ++ (Places.saving b u w ++ c))
-once_two u b w l p q a c h g = once_append l p q a (Places.saving b u w ++ c) h (once_front p q (Places.saving b u w) c (none_saving b u w) g)
+once_two : (u : ℕ) (b : Bool) (w : Tree) (l p q : ℕ) (a c : List Item) → Once l p a → Once p q c → Once l q (a ++ (Saving.saving b u w ++ c))
+once_two u b w l p q a c h g = once_append l p q a (Saving.saving b u w ++ c) h (once_front p q (Saving.saving b u w) c (none_saving b u w) g)
 
 once_inner : (l p q : ℕ) (a c : List Item) → Once (suc l) p a → Once p q c → Once l q (a ++ (c ++ (Label l ∷ [])))
 once_inner l p q a c h g = once_count l q (a ++ c) (a ++ (c ++ (Label l ∷ []))) (once_append (suc l) p q a c h g)
@@ -238,6 +244,7 @@ once_choose_deliver : (to : Parts.Destination) (l : ℕ) (p q r : Parts.Emitted)
     → Once l (Conditions.choose_deliver to l p q r).labels (Conditions.choose_deliver to l p q r).items
 once_choose_deliver (Parts.InLocal n) l p q r h f g = once_choose_drop l p q r h f g
 once_choose_deliver Parts.AsResult l p q r h f g = once_apart l p.labels q.labels r.labels p.items q.items r.items h f g
+once_choose_deliver (Parts.Releasing pointer n) l p q r h f g = once_apart l p.labels q.labels r.labels p.items q.items r.items h f g
 
 once_choice : (c a b : Parts.Lowering) → OnceWay c → OnceWay a → OnceWay b → (t l : ℕ) → Once l ((Conditions.choose c a b).low t l).labels ((Conditions.choose c a b).low t l).items
 once_choice c a b h f g t l =
@@ -273,8 +280,8 @@ once_ready : (b : Bool) (u : ℕ) (s : Parts.Where) (l p q : ℕ) (a c : List It
 once_ready b u s l p q a c h g = once_append l p q a _ h (once_front p q (Places.holding b u s) c (none_holding b u s) g)
 
 once_update : (b : Bool) (u : ℕ) (s : Parts.Where) (c : Bool) (v : ℕ) (w : Tree) (l p q : ℕ) (a d : List Item) → Once l p a → Once p q d
-    → Once l q (a ++ (Places.holding b u s ++ (Places.saving c v w ++ d)))
-once_update b u s c v w l p q a d h g = once_ready b u s l p q a (Places.saving c v w ++ d) h (once_front p q (Places.saving c v w) d (none_saving c v w) g)
+    → Once l q (a ++ (Places.holding b u s ++ (Saving.saving c v w ++ d)))
+once_update b u s c v w l p q a d h g = once_ready b u s l p q a (Saving.saving c v w ++ d) h (once_front p q (Saving.saving c v w) d (none_saving c v w) g)
 
 once_post : (b : Bool) (u : ℕ) (s : Parts.Where) (n : ℕ) (w : Tree) (ty : CType) (s' : Parts.Where) (w' : Tree) (l p : ℕ) (a : List Item) → Once l p a
     → Once l p (a ++ (Places.holding b u s ++ (AssignLoc n w ∷ Places.assign_to ty s' w' ∷ [])))
@@ -290,6 +297,7 @@ once_call_drop f q l h = once_plain l q.labels q.items _ h (λ m. stands_pushes 
 once_call_deliver : (to : Parts.Destination) (f : ℕ) (q : Parts.Passing) (l : ℕ) → Once l q.labels q.items → Once l (Calls.called_deliver to f q).labels (Calls.called_deliver to f q).items
 once_call_deliver (Parts.InLocal n) f q l h = once_plain l q.labels q.items _ h (λ m. stands_pushes m q.trees _)
 once_call_deliver Parts.AsResult f q l h = once_delivered Parts.AsResult (Calls.called_low f q) l (once_call f q l h)
+once_call_deliver (Parts.Releasing pointer n) f q l h = once_delivered (Parts.Releasing pointer n) (Calls.called_low f q) l (once_call f q l h)
 
 once_deliver_as : (i : Integer) (e : Parts.Lowering) → OnceWay e → (to : Parts.Destination) (t l : ℕ) → Once l (Conditions.deliver_as i e to t l).labels (Conditions.deliver_as i e to t l).items
 once_deliver_as ints.Char e h to t l = once_delivered to (Parts.over (Places.conv ints.Char) (e.low t l)) l (h.low t l)
@@ -338,7 +346,7 @@ module _ (size count : ℕ) where
 
   once_step : (m : Moment) (by : Direction) (p : Parts.Located) (l : ℕ) → Once l p.labels p.items
       → Once l (Assignments.step_low size count m by p).labels (Assignments.step_low size count m by p).items
-  once_step moments.Before by p l h = once_post _ _ _ _ _ p.type _ (Values.step by (Loc (Places.next_if (Assignments.must_keep size count [] p.place) p.temps))
+  once_step moments.Before by p l h = once_post _ _ _ _ _ p.type _ (Values.step by (Loc (Saving.next_if (Assignments.must_keep size count [] p.place) p.temps))
       (Num (scale p.type))) l p.labels _ h
   once_step moments.After by p l h = let r = Assignments.step_ready size count by p in once_store_low r.place r l (once_ready _ _ _ l p.labels p.labels _ [] h (once_nil p.labels))
 
@@ -401,27 +409,33 @@ module _ (size count : ℕ) where
     once_pass NoExpressions to t l = once_nil l
     once_pass (MoreExpressions e es) to t l = once_two _ _ _ l ((Expressions.way size count e).low t l).labels _ _ _ ((once_way e).low t l) (once_pass es (Calls.others to) _ _)
 
-  once_effect : (e : Option AnExpression) (l : ℕ) → Once l (Statements.effect size count e l).labels (Statements.effect size count e l).items
+module _ (size count first : ℕ) (out : Parts.Destination) where
+  once_effect : (e : Option AnExpression) (l : ℕ) → Once l (Statements.effect size count first out e l).labels (Statements.effect size count first out e l).items
   once_effect None l = once_nil l
-  once_effect (Some e) l = (once_way e).drop size l
+  once_effect (Some e) l = (once_way size count e).drop first l
 
-  once_returning : (e : Option AnExpression) (l : ℕ) → Once l (Statements.returning size count e l).labels (Statements.returning size count e l).items
-  once_returning None l = once_same l l [] _ (once_nil l) (λ m. refl)
-  once_returning (Some e) l = (once_way e).deliver Parts.AsResult size l
+  once_returning : (e : Option AnExpression) (l : ℕ) → Once l (Statements.returning size count first out e l).labels (Statements.returning size count first out e l).items
+  once_returning None l = once_delivered out (Parts.due (Num 0) first l) l (once_nil l)
+  once_returning (Some e) l = (once_way size count e).deliver out first l
 
   none_clearing : (b : Bool) (n m : ℕ) → stands m (Flow.clearing b n) ≡ 0
   none_clearing true n m = refl
   none_clearing false n m = refl
 
-  once_declare : (ds : List ADeclaration) (rest : SomeActions) (l : ℕ) → Once l (Statements.declare size count ds rest l).labels (Statements.declare size count ds rest l).items
+  once_declare : (ds : List ADeclaration) (rest : SomeActions) (l : ℕ) → Once l (Statements.declare size count first out ds rest l).labels (Statements.declare size count first out ds rest l).items
   once_declare [] rest l = once_nil l
   once_declare (KeepOf object ∷ ds) rest l = once_declare ds rest l
   once_declare (ClearOf n ∷ ds) rest l =
       once_front l _ (Flow.clearing (Zeros.is_zeroed n ds rest) n) _ (none_clearing (Zeros.is_zeroed n ds rest) n) (once_declare ds rest l)
   once_declare (BeginOf n e ∷ ds) rest l =
-      let q = (Expressions.way size count e).deliver (Parts.InLocal n) size l in
+      let q = (Expressions.way size count e).deliver (Parts.InLocal n) first l in
       let b = Mentions.mentions n e in
-      once_append l q.labels _ _ _ (once_front l q.labels (Flow.clearing b n) q.items (none_clearing b n) ((once_way e).deliver (Parts.InLocal n) size l)) (once_declare ds rest q.labels)
+      once_append l q.labels _ _ _ (once_front l q.labels (Flow.clearing b n) q.items (none_clearing b n) ((once_way size count e).deliver (Parts.InLocal n) first l)) (once_declare ds rest q.labels)
+  once_declare (StoreOf t o e ∷ ds) rest l =
+      let q = (Expressions.way size count e).low first l in
+      once_append l q.labels _ _ _ (once_plain l q.labels q.items _ ((once_way size count e).low first l) (λ m. refl)) (once_declare ds rest q.labels)
+  once_declare (ZerosOf t o n ∷ ds) rest l =
+      once_append l (suc l) _ _ _ (once_count l (suc l) [] (Flow.zeros_in_block size first t o n l).items (once_nil (suc l)) (λ m. omega arith)) (once_declare ds rest (suc l))
 
   once_while : (l p q : ℕ) (a b : List Item) → Once (suc (suc l)) p a → Once p q b → Once l q (Label l ∷ (a ++ (b ++ (Jump l ∷ Label (suc l) ∷ []))))
   once_while l p q a b h g =
@@ -473,68 +487,83 @@ module _ (size count : ℕ) where
       (λ m. omega (arith, stands_append m a T1, stands_append m b T2, stands_append m c T3, stands_append m a (b ++ c), stands_append m b c))
 
   once_if_by : (o : Option ℕ) (c : AnExpression) (f : ℕ → Parts.Emitted) (l : ℕ) → ((m : ℕ) → Once m (f m).labels (f m).items)
-      → Once l (Statements.if_by size count o c f l).labels (Statements.if_by size count o c f l).items
-  once_if_by (Some to) c f l h = (once_way c).branch true to size l
-  once_if_by None c f l h = let q = Statements.unless size count c l (suc l) in once_inner l q.labels _ q.items _ ((once_way c).branch false l size (suc l)) (h q.labels)
+      → Once l (Statements.if_by size count first out o c f l).labels (Statements.if_by size count first out o c f l).items
+  once_if_by (Some to) c f l h = (once_way size count c).branch true to first l
+  once_if_by None c f l h = let q = Statements.unless size count first out c l (suc l) in once_inner l q.labels _ q.items _ ((once_way size count c).branch false l first (suc l)) (h q.labels)
 
   once_while_by : (o : Option ℕ) (c : AnExpression) (f : ℕ → ℕ → ℕ → Parts.Emitted) (l : ℕ) → ((lb lc m : ℕ) → Once m (f lb lc m).labels (f lb lc m).items)
-      → Once l (Statements.while_by size count o c f l).labels (Statements.while_by size count o c f l).items
+      → Once l (Statements.while_by size count first out o c f l).labels (Statements.while_by size count first out o c f l).items
   once_while_by (Some v) c f l h =
-      let q = Statements.unless size count c (suc l) (suc (suc l)) in
-      once_while l q.labels _ q.items _ ((once_way c).branch false (suc l) size (suc (suc l))) (h (suc l) l q.labels)
+      let q = Statements.unless size count first out c (suc l) (suc (suc l)) in
+      once_while l q.labels _ q.items _ ((once_way size count c).branch false (suc l) first (suc (suc l))) (h (suc l) l q.labels)
   once_while_by None c f l h =
       let x = f (suc (suc l)) (suc l) (suc (suc (suc l))) in
-      once_loop (suc l) l x.labels _ x.items _ (h (suc (suc l)) (suc l) (suc (suc (suc l)))) ((once_way c).branch true l size x.labels)
+      once_loop (suc l) l x.labels _ x.items _ (h (suc (suc l)) (suc l) (suc (suc (suc l)))) ((once_way size count c).branch true l first x.labels)
 
   once_tested : (o : Option ℕ) (c : AnExpression) (e : Option AnExpression) (l : ℕ) (f : ℕ → Parts.Emitted) → ((m : ℕ) → Once m (f m).labels (f m).items)
-      → Once l (Statements.for_tested size count o l c e f).labels (Statements.for_tested size count o l c e f).items
+      → Once l (Statements.for_tested size count first out o l c e f).labels (Statements.for_tested size count first out o l c e f).items
   once_tested (Some v) c e l f h =
-      let q = Statements.unless size count c (suc (suc l)) (suc (suc (suc l))) in
+      let q = Statements.unless size count first out c (suc (suc l)) (suc (suc (suc l))) in
       let b = f q.labels in
-      once_for l q.labels b.labels _ q.items b.items _ ((once_way c).branch false (suc (suc l)) size (suc (suc (suc l)))) (h q.labels) (once_effect e b.labels)
+      once_for l q.labels b.labels _ q.items b.items _ ((once_way size count c).branch false (suc (suc l)) first (suc (suc (suc l)))) (h q.labels) (once_effect e b.labels)
   once_tested None c e l f h =
       let b = f (suc (suc (suc (suc l)))) in
-      let s = Statements.effect size count e b.labels in
-      once_turns l b.labels s.labels _ b.items s.items _ (h (suc (suc (suc (suc l))))) (once_effect e b.labels) ((once_way c).branch true l size s.labels)
+      let s = Statements.effect size count first out e b.labels in
+      once_turns l b.labels s.labels _ b.items s.items _ (h (suc (suc (suc (suc l))))) (once_effect e b.labels) ((once_way size count c).branch true l first s.labels)
 
   once_fors : (c e : Option AnExpression) (l : ℕ) (f : ℕ → Parts.Emitted) → ((m : ℕ) → Once m (f m).labels (f m).items)
-      → Once l (Statements.for_of size count l c e f).labels (Statements.for_of size count l c e f).items
+      → Once l (Statements.for_of size count first out l c e f).labels (Statements.for_of size count first out l c e f).items
   once_fors None e l f h = let b = f (suc (suc (suc l))) in once_ever l b.labels _ b.items _ (h (suc (suc (suc l)))) (once_effect e b.labels)
   once_fors (Some c) e l f h = once_tested (constant_of c) c e l f h
 
   mutual
-    once_act : (a : AnAction) (rest : SomeActions) (lb lc l : ℕ) → Once l (Statements.lower size count a rest lb lc l).labels (Statements.lower size count a rest lb lc l).items
+    once_act : (a : AnAction) (rest : SomeActions) (lb lc l : ℕ) → Once l (Statements.lower size count first out a rest lb lc l).labels (Statements.lower size count first out a rest lb lc l).items
     once_act (DeclareOf ds) rest lb lc l = once_declare ds rest l
     once_act (BlockOf row) rest lb lc l = once_row row lb lc l
-    once_act (EvaluateOf e) rest lb lc l = (once_way e).drop size l
+    once_act (EvaluateOf e) rest lb lc l = (once_way size count e).drop first l
     once_act BreakOf rest lb lc l = once_same l l [] _ (once_nil l) (λ m. refl)
     once_act ContinueOf rest lb lc l = once_same l l [] _ (once_nil l) (λ m. refl)
     once_act (ReturnOf e) rest lb lc l = once_returning e l
-    once_act (IfOf c a) rest lb lc l = once_if_by (Statements.going a lb lc) c (Statements.lower size count a NoActions lb lc) l (λ m. once_act a NoActions lb lc m)
+    once_act (IfOf c a) rest lb lc l = once_if_by (Statements.going a lb lc) c (Statements.lower size count first out a NoActions lb lc) l (λ m. once_act a NoActions lb lc m)
     once_act (IfElseOf c a b) rest lb lc l =
-        let q = Statements.unless size count c l (suc (suc l)) in
-        let x = Statements.lower size count a NoActions lb lc q.labels in
-        once_fork l q.labels x.labels _ q.items x.items _ [] [] (λ m. refl) (λ m. refl) ((once_way c).branch false l size (suc (suc l))) (once_act a NoActions lb lc q.labels)
+        let q = Statements.unless size count first out c l (suc (suc l)) in
+        let x = Statements.lower size count first out a NoActions lb lc q.labels in
+        once_fork l q.labels x.labels _ q.items x.items _ [] [] (λ m. refl) (λ m. refl) ((once_way size count c).branch false l first (suc (suc l))) (once_act a NoActions lb lc q.labels)
         (once_act b NoActions lb lc x.labels)
-    once_act (WhileOf c a) rest lb lc l = once_while_by (constant_of c) c (Statements.lower size count a NoActions) l (λ x y m. once_act a NoActions x y m)
-    once_act (DoOf a c) rest lb lc l = let x = Statements.lower size count a NoActions (suc (suc l)) (suc l) (suc (suc (suc l))) in
-        once_loop l l x.labels _ x.items _ (once_act a NoActions (suc (suc l)) (suc l) (suc (suc (suc l)))) ((once_way c).branch true l size x.labels)
-    once_act (ForOf i c e a) rest lb lc l = let x = Statements.effect size count i l in
+    once_act (WhileOf c a) rest lb lc l = once_while_by (constant_of c) c (Statements.lower size count first out a NoActions) l (λ x y m. once_act a NoActions x y m)
+    once_act (DoOf a c) rest lb lc l = let x = Statements.lower size count first out a NoActions (suc (suc l)) (suc l) (suc (suc (suc l))) in
+        once_loop l l x.labels _ x.items _ (once_act a NoActions (suc (suc l)) (suc l) (suc (suc (suc l)))) ((once_way size count c).branch true l first x.labels)
+    once_act (ForOf i c e a) rest lb lc l = let x = Statements.effect size count first out i l in
         once_append l x.labels _ x.items _ (once_effect i l)
-        (once_fors c e x.labels (Statements.lower size count a NoActions (suc (suc x.labels)) (suc x.labels)) (λ m. once_act a NoActions (suc (suc x.labels)) (suc x.labels) m))
+        (once_fors c e x.labels (Statements.lower size count first out a NoActions (suc (suc x.labels)) (suc x.labels)) (λ m. once_act a NoActions (suc (suc x.labels)) (suc x.labels) m))
 
-    pub once_row : (row : SomeActions) (lb lc l : ℕ) → Once l (Statements.lower_row size count row lb lc l).labels (Statements.lower_row size count row lb lc l).items
+    pub once_row : (row : SomeActions) (lb lc l : ℕ) → Once l (Statements.lower_row size count first out row lb lc l).labels (Statements.lower_row size count first out row lb lc l).items
     once_row NoActions lb lc l = once_nil l
-    once_row (MoreActions a row) lb lc l = let x = Statements.lower size count a row lb lc l in once_append l x.labels _ x.items _ (once_act a row lb lc l) (once_row row lb lc x.labels)
+    once_row (MoreActions a row) lb lc l = let x = Statements.lower size count first out a row lb lc l in once_append l x.labels _ x.items _ (once_act a row lb lc l) (once_row row lb lc x.labels)
+
+-- a function's items, by the bytes of its block
+once_items : (size count pointer : ℕ) (body : SomeActions) (l block : ℕ) → Once l (items_by size count pointer body l block).labels (items_by size count pointer body l block).items
+once_items size count pointer body l zero =
+    let row = Statements.lower_row size count size Parts.AsResult body 0 0 l in
+    once_append l row.labels _ row.items _ (once_row size count size Parts.AsResult body 0 0 l) (once_delivered Parts.AsResult (Parts.due (Num 0) size row.labels) row.labels (once_nil row.labels))
+once_items size count pointer body l (suc n) =
+    let out : Parts.Destination = Parts.Releasing pointer size in
+    let row = Statements.lower_row size count (suc size) out body 0 0 (suc l) in
+    once_append l (suc l) _ (Flow.claimed size (suc size) pointer (suc n) l).items _
+    (once_count l (suc l) [] (Flow.claimed size (suc size) pointer (suc n) l).items (once_nil (suc l)) (λ m. omega arith))
+    (once_append (suc l) row.labels _ row.items _ (once_row size count (suc size) out body 0 0 (suc l)) (once_delivered out (Parts.due (Num 0) (suc size) row.labels) row.labels
+    (once_nil row.labels)))
 
 -- each function's code
-pub code_of : (count : ℕ) (g : ARoutine) (l : ℕ) → CodeOf count g (function_of g (body_of count g l)).items
-code_of count g l =
-    let q = body_of count g l in
-    let once = once_plain l q.labels q.items (Ret (Num 0) ∷ []) (once_row (length g.locals) count g.body 0 0 l) (λ m. refl) in
-    record { label = l; is = refl; resolves = resolves_from (items_of q) [] (items_of q) refl once.once }
+pub code_of : (pointer count : ℕ) (g : ARoutine) (l : ℕ) → CodeOf pointer count g (function_of g (body_of pointer count g l)).items
+code_of pointer count g l =
+    let q = body_of pointer count g l in
+    let once = once_items (length g.locals) count pointer g.body l g.block in
+    record { label = l; is = refl; resolves = resolves_from q.items [] q.items refl once.once }
 
-pub all_code : (count : ℕ) (gs : List ARoutine) (l f : ℕ) (g : ARoutine) → slice_get gs f ≡ Some g → (tf : TreeFn) × (slice_get (lower_all count gs l) f ≡ Some tf) × CodeOf count g tf.items
-all_code count [] l f g e = absurd (cc)
-all_code count (h ∷ gs) l zero g e = let same : h ≡ g = cc in (function_of h (body_of count h l), refl, subst (λ x. CodeOf count x (function_of h (body_of count h l)).items) same (code_of count h l))
-all_code count (h ∷ gs) l (suc f) g e = all_code count gs (body_of count h l).labels f g e
+pub all_code : (pointer count : ℕ) (gs : List ARoutine) (l f : ℕ) (g : ARoutine) → slice_get gs f ≡ Some g
+    → (tf : TreeFn) × (slice_get (lower_all pointer count gs l) f ≡ Some tf) × CodeOf pointer count g tf.items
+all_code pointer count [] l f g e = absurd (cc)
+all_code pointer count (h ∷ gs) l zero g e = let same : h ≡ g = cc in
+    (function_of h (body_of pointer count h l), refl, subst (λ x. CodeOf pointer count x (function_of h (body_of pointer count h l)).items) same (code_of pointer count h l))
+all_code pointer count (h ∷ gs) l (suc f) g e = all_code pointer count gs (body_of pointer count h l).labels f g e

@@ -11,6 +11,7 @@ use Rattle.tree_core.specs.Area.{bytes_from}
 use Rattle.tree_meaning.specs.Meaning.{runs, main_at, main_of as main_of_trees, tree_run}
 use Rattle.tree_meaning.proofs.Law.{tree_run_lasts}
 use Rattle.c_program.specs.Programs.{ARoutine, AProgram}
+use Rattle.c_meaning.specs.Blocks.{pointer_number}
 use Rattle.c_meaning.specs.Programs.{finished, means, at_first, main_of}
 use Rattle.c_meaning.proofs.Law.{means_is}
 use Rattle.c_lower_scheme.specs.Programs.{body_of, function_of, lower_all, lowered}
@@ -34,29 +35,33 @@ abbrev is_main : TreeFn → Bool
 is_main f = bytes_eq f.name (codes "main")
 
 -- the only function called main is found
-find_main : (count : ℕ) (gs : List ARoutine) (l n : ℕ) (g : ARoutine) → slice_get gs n ≡ Some g → IsMain g.name → ((f : ℕ) (h : ARoutine) → slice_get gs f ≡ Some h → IsMain h.name → f ≡ n)
-    → find is_main (lower_all count gs l) ≡ slice_get (lower_all count gs l) n
-find_main count [] l n g e main only = absurd (cc)
-find_main count (h ∷ gs) l zero g e main only = let same : h ≡ g = cc in
-    ap (λ b. cond b (Some (function_of h (body_of count h l))) (find is_main (lower_all count gs (body_of count h l).labels))) (subst (λ (x : ARoutine). IsMain x.name) (sym same) main)
-find_main count (h ∷ gs) l (suc n) g e main only =
+find_main : (pointer count : ℕ) (gs : List ARoutine) (l n : ℕ) (g : ARoutine) → slice_get gs n ≡ Some g → IsMain g.name → ((f : ℕ) (h : ARoutine) → slice_get gs f ≡ Some h → IsMain h.name → f ≡ n)
+    → find is_main (lower_all pointer count gs l) ≡ slice_get (lower_all pointer count gs l) n
+find_main pointer count [] l n g e main only = absurd (cc)
+find_main pointer count (h ∷ gs) l zero g e main only = let same : h ≡ g = cc in
+    ap (λ b. cond b (Some (function_of h (body_of pointer count h l))) (find is_main (lower_all pointer count gs (body_of pointer count h l).labels))) (subst (λ (x : ARoutine). IsMain x.name)
+    (sym same) main)
+find_main pointer count (h ∷ gs) l (suc n) g e main only =
     let other : bytes_eq h.name (codes "main") ≡ false = not_main (bytes_eq h.name (codes "main")) refl in
-    ap (λ b. cond b (Some (function_of h (body_of count h l))) (find is_main (lower_all count gs (body_of count h l).labels))) other
-    ∙ find_main count gs (body_of count h l).labels n g e main (λ f x ex mx. let r = only (suc f) x ex mx in omega (arith, r))
+    ap (λ b. cond b (Some (function_of h (body_of pointer count h l))) (find is_main (lower_all pointer count gs (body_of pointer count h l).labels))) other
+    ∙ find_main pointer count gs (body_of pointer count h l).labels n g e main (λ f x ex mx. let r = only (suc f) x ex mx in omega (arith, r))
   where
     not_main : (b : Bool) → bytes_eq h.name (codes "main") ≡ b → bytes_eq h.name (codes "main") ≡ false
     not_main true eb = absurd (let r = only 0 h refl eb in omega (arith, r))
     not_main false eb = eb
 
-main_leads : (p : AProgram) (input : List ℕ) → IsSound p → AreBytes input → (g : ARoutine) → slice_get p.routines p.main ≡ Some g → (tf : TreeFn) → CodeOf (length p.routines) g tf.items
+main_leads : (p : AProgram) (input : List ℕ) → IsSound p → AreBytes input → (g : ARoutine) → slice_get p.routines p.main ≡ Some g → (tf : TreeFn)
+    → CodeOf (pointer_number p.objects) (length p.routines) g tf.items
     → (k : ℕ) → Leads k (main_of (Some g) p input) (runs (lowered p) (main_at (lowered p) (Some tf) input))
 main_leads p input sound bytes g at_main tf own k =
     let backed : Backed (lowered p) k finished [] = record { goes = λ w st lt area i. leads_ended k _ } in
-    let calls = calls_at (lowered p) (length p.routines) p (means p) (all_lowered (length p.routines) p.routines 0) (λ f h e. all_code (length p.routines) p.routines 0 f h e) refl
-    sound.addresses (λ t κ st. means_is p t κ st) sound.fits (suc k) in
-    calls.runs_body k (omega arith) p.main g at_main tf own [] tt finished [] backed (at_first p input) refl (opening_bytes 65536 p.objects sound.contents) bytes
+    let calls = calls_at (lowered p) (length p.routines) p (means p) (all_lowered (pointer_number p.objects) (length p.routines) p.routines 0) (λ f h e. all_code (pointer_number p.objects)
+    (length p.routines) p.routines 0 f h e) refl
+    sound.addresses (λ t κ st. means_is p t κ st) sound.fits sound.stands sound.blocks (suc k) in
+    calls.runs_body k (omega arith) p.main g at_main tf own [] tt finished [] backed (at_first p input) refl (record { bytes = opening_bytes 65536 p.objects sound.contents; long = refl }) bytes
 
-main_follows : (p : AProgram) (input : List ℕ) → IsSound p → AreBytes input → (g : ARoutine) → slice_get p.routines p.main ≡ Some g → (tf : TreeFn) → CodeOf (length p.routines) g tf.items
+main_follows : (p : AProgram) (input : List ℕ) → IsSound p → AreBytes input → (g : ARoutine) → slice_get p.routines p.main ≡ Some g → (tf : TreeFn)
+    → CodeOf (pointer_number p.objects) (length p.routines) g tf.items
     → main_of_trees (lowered p).functions ≡ Some tf → Follows (main_of (Some g) p input) (tree_run (lowered p) input)
 main_follows p input sound bytes g at_main tf own found =
     let to_tree : (k : ℕ) → Leads k (main_of (Some g) p input) (tree_run (lowered p) input) = λ k.
@@ -66,6 +71,6 @@ main_follows p input sound bytes g at_main tf own found =
 pub lowering_follows : LoweringFollows
 lowering_follows p sound input bytes =
     let main = sound.main in
-    let own = all_code (length p.routines) p.routines 0 p.main main.0 main.1 in
-    let found = find_main (length p.routines) p.routines 0 p.main main.0 main.1 main.2 sound.only_main ∙ own.1 in
+    let own = all_code (pointer_number p.objects) (length p.routines) p.routines 0 p.main main.0 main.1 in
+    let found = find_main (pointer_number p.objects) (length p.routines) p.routines 0 p.main main.0 main.1 main.2 sound.only_main ∙ own.1 in
     subst (λ o. Follows (main_of o p input) (tree_run (lowered p) input)) (sym main.1) (main_follows p input sound bytes main.0 main.1 own.0 own.2 found)

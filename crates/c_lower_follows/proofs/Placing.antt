@@ -1,7 +1,7 @@
 -- What the items of places and assignments do.
-use Rattle.std.proofs.Common.{◌≡◌, ℕ, zero, suc, ◌+◌, ◌≤◌, ◌<◌, ◌^◌, ◌%◌, List, [], ◌∷◌, ◌++◌, length, Option, Some, None, refl, ap, arith, sym, ◌∙◌, subst, ⊎_elim}
+use Rattle.std.proofs.Common.{◌≡◌, ℕ, ◌+◌, ◌≤◌, ◌<◌, ◌^◌, ◌%◌, List, [], ◌++◌, length, Option, Some, None, refl, ap, arith, sym, ◌∙◌, subst, ⊎_elim}
 use Rattle.std.specs.Prelude.{Bool, true, false, cond, slice_get, slice_set, nat_lt, take, drop, ◌-◌}
-use Rattle.std.specs.Int.{w16, w32, to_le_bytes}
+use Rattle.std.specs.Int.{w16, to_le_bytes}
 use Rattle.std.specs.Option.{option_map}
 use Rattle.std.proofs.lemmas.Bool.{cases_eq, ltb-true}
 use Rattle.std.proofs.lemmas.List.{length-set}
@@ -11,7 +11,6 @@ use Rattle.gg_base.specs.declared.size.Size.{Size}
 use Rattle.gg_base.specs.declared.size.Size.TheVariants as sizes
 use Rattle.gg_base.specs.Arithmetic.{sext8, sext16, zext8, zext16}
 use Rattle.gg_base.specs.Runs.{Runs, stop}
-use Rattle.gg_base.specs.LittleEndian.{with_number}
 use Rattle.gg_base.proofs.Facts.{slice_set_same, slice_set_other}
 use Rattle.tree_core.specs.declared.program.TreeItem.{TreeItem}
 use Rattle.tree_core.specs.declared.program.TreeProgram.{TreeProgram}
@@ -34,33 +33,12 @@ use Rattle.c_lower_scheme.specs.Trees.{Tree, Indir, Item, divides}
 use Rattle.c_lower_scheme.specs.Spelling.{spelled_all}
 use Rattle.c_lower_scheme.specs.Parts.{Where, InLoc, InArg, InMem, Located, Assignable}
 use Rattle.c_lower_scheme.specs.Places.{integer_of, conv, fitted, read_from, address_tree, read_low, address_low}
-use Rattle.c_sound.specs.Fits.{AreBytes}
-use Rattle.c_sound.proofs.Bytes.{bytes_joined, bytes_drop}
-use Rattle.c_lower_follows.proofs.Values.{bytes_take, SmallTree}
+use Rattle.c_lower_follows.proofs.Values.{SmallTree}
+use Rattle.c_lower_follows.proofs.Areas.{stored_bytes, stored_long}
 use Rattle.c_lower_follows.proofs.Leads.{Leads, leads_wild}
 use Rattle.c_lower_follows.proofs.Steps.{Desk, on, Resolves, state, silent, narrowed, written_at}
-use Rattle.c_lower_follows.proofs.Agreeing.{Below, value, ranged_set, set_both}
+use Rattle.c_lower_follows.proofs.Agreeing.{Below, value, ranged_set, set_both, set_other}
 use Rattle.c_lower_follows.proofs.Doing.{on_bind, Agrees, here, Onto, Does, Maps}
-
--- writing to memory keeps bytes
-pub bytes_set : (xs : List ℕ) (n v : ℕ) → v < 256 → AreBytes xs → AreBytes (slice_set xs n v)
-bytes_set [] n v lt h = tt
-bytes_set (x ∷ xs) zero v lt h = (lt, h.1)
-bytes_set (x ∷ xs) (suc n) v lt h = (h.0, bytes_set xs n v lt h.1)
-
-number_bytes : (z : Size) (area : List ℕ) (x v : ℕ) → AreBytes area → AreBytes (with_number z area x v)
-number_bytes sizes.Byte area x v h = bytes_set area x (v % 2 ^ 8) (omega arith) h
-number_bytes sizes.Word area x v h = bytes_joined (take x area) _ (bytes_take x area h)
-    (bytes_joined (to_le_bytes w16 (v % 2 ^ 16)) (drop (x + 2) area) (omega arith, (omega arith, tt)) (bytes_drop (x + 2) area h))
-number_bytes sizes.Long area x v h = bytes_joined (take x area) _ (bytes_take x area h)
-    (bytes_joined (to_le_bytes w32 v) (drop (x + 4) area) (omega arith, (omega arith, (omega arith, (omega arith, tt)))) (bytes_drop (x + 4) area h))
-
-stored_by : (b : Bool) (xs ys : List ℕ) → cond b (Some xs) None ≡ Some ys → xs ≡ ys
-stored_by true xs ys e = cc
-stored_by false xs ys e = absurd (cc)
-
-stored_bytes : (z : Size) (area : List ℕ) (x v : ℕ) (area' : List ℕ) → AreBytes area → stored z area x v ≡ Some area' → AreBytes area'
-stored_bytes z area x v area' h e = subst AreBytes (stored_by (is_inside z area x) (with_number z area (x - 65536) v) area' e) (number_bytes z area (x - 65536) v h)
 
 -- memory takes the low bits
 stored_zext8 : (area : List ℕ) (x v w : ℕ) → v % 2 ^ 8 ≡ w % 2 ^ 8 → stored sizes.Byte area x v ≡ stored sizes.Byte area x w
@@ -149,7 +127,8 @@ module _ (program : TreeProgram) (code : List TreeItem) (callers : List Activati
     pub fits : FitsPlace p.temps p.place
     pub small : SmallPlace p.place
     pub runs : (k : ℕ) → k ≤ level → (is : List Item) (κ : RestAt) → Resolves code (p.items ++ is) → (st : State) (d : Desk) → ok st d
-        → Onto program code callers size count first scope level k t p.temps p.items is st d (λ st' d'. place_on program p.place d' (λ s. κ p.type s st')) → Leads k (m κ st) (run_at (p.items ++ is) d)
+        → Onto program code callers size count first scope level k t p.temps p.items is st d (λ st' d'. place_on program p.place d' (λ s. κ p.type s st'))
+        → Leads k (m κ st) (run_at (p.items ++ is) d)
 
   -- a place and a value for it
   pub record DoesReady (r : Assignable) (t : ℕ) (m : (CType → Spot → Rest) → State → Runs) : Type 0 where
@@ -213,7 +192,8 @@ module _ (program : TreeProgram) (code : List TreeItem) (callers : List Activati
     small_read (InArg n) ty h = tt
     small_read (InMem a) ty h = h
 
-    pub read_does : (p : Located) (t : ℕ) (m : RestAt → State → Runs) → first ≤ t → DoesPlace p t m → Does program code callers size count first scope level (read_low p) t (λ κ. m (λ ty s. read_at ty s κ))
+    pub read_does : (p : Located) (t : ℕ) (m : RestAt → State → Runs) → first ≤ t → DoesPlace p t m
+        → Does program code callers size count first scope level (read_low p) t (λ κ. m (λ ty s. read_at ty s κ))
     read_does p t m sz does = record {
       grows = does.grows;
       below = below_read p.place p.type p.temps (omega (arith, does.grows)) does.fits;
@@ -298,6 +278,8 @@ module _ (program : TreeProgram) (code : List TreeItem) (callers : List Activati
           active = ag.active;
           ranged = ranged_set d n u lt ag.ranged;
           bytes = ag.bytes;
+          whole = ag.whole;
+          pointer = λ s. let k = ag.pointer s in (k.0, k.1, set_other d.locals n u size (λ q. omega (arith, ag.count)) ∙ k.2);
         })
 
     pub put_local_step : (n u k : ℕ) (is : List Item) (κ : Rest) (st : State) (d : Desk) → u < 2 ^ 32 → ok st d
@@ -331,6 +313,8 @@ module _ (program : TreeProgram) (code : List TreeItem) (callers : List Activati
           active = ag.active;
           ranged = record { local = ag.ranged.local; argument = λ m v e. get_set d.arguments n u m v lt ag.ranged.argument inside' e; area = ag.ranged.area };
           bytes = ag.bytes;
+          whole = ag.whole;
+          pointer = ag.pointer;
         })
 
     pub put_argument_step : (n u k : ℕ) (is : List Item) (κ : Rest) (st : State) (d : Desk) → u < 2 ^ 32 → ok st d
@@ -354,6 +338,8 @@ module _ (program : TreeProgram) (code : List TreeItem) (callers : List Activati
       active = ag.active;
       ranged = record { local = ag.ranged.local; argument = ag.ranged.argument; area = stored_bytes z d.area x v area ag.ranged.area e };
       bytes = ag.bytes;
+      whole = record { bytes = stored_bytes z d.area x v area ag.whole.bytes e; long = stored_long z d.area x v area e ∙ ag.whole.long };
+      pointer = ag.pointer;
     })
 
     -- what is written is the value, converted or narrowed

@@ -1,6 +1,6 @@
 -- Scopes: what fits them, and what they become.
 use Rattle.std.proofs.Common.{◌≡◌, ℕ, ◌<◌, List, [], ◌∷◌, refl, sym, subst, arith, ◌⊎◌, inl, inr, ⊎_elim}
-use Rattle.std.specs.Prelude.{Bool, true, false, ◌||◌}
+use Rattle.std.specs.Prelude.{Bool, false, ◌||◌}
 use Rattle.std.proofs.lemmas.Bool.{cases_eq, eqb-false, or_parts}
 use Rattle.c_types.specs.declared.types.CType.{CType}
 use Rattle.c_types.specs.declared.typed.Variable.{Variable}
@@ -8,7 +8,8 @@ use Rattle.c_types.specs.declared.typed.Variable.TheVariants as variables
 use Rattle.c_types.specs.Typed.{APlace, VariableAt, PointedBy, ElementBy, AnExpression, Constant, LiteralAt, ArrayAt, ReadOf, SizeOfExpression, SizeOf, AddressOf, CallOf, StepOf}
 use Rattle.c_types.specs.Typed.{UnaryOf, CastTo, ConvertTo, ArithmeticOf, CompareOf, BothOf, EitherOf, AdvanceOf, AdvanceByOf, RetreatOf, DistanceOf, ChoiceOf, AssignTo}
 use Rattle.c_types.specs.Typed.{ArithmeticAssignTo, AdvanceAssignTo, RetreatAssignTo, CommaOf, SomeExpressions, NoExpressions, MoreExpressions}
-use Rattle.c_program.specs.Statements.{ADeclaration, KeepOf, ClearOf, BeginOf, AnAction, DeclareOf, BlockOf, EvaluateOf, BreakOf, ContinueOf, ReturnOf, IfOf, IfElseOf, WhileOf, DoOf, ForOf}
+use Rattle.c_program.specs.Statements.{ADeclaration, KeepOf, ClearOf, BeginOf, StoreOf, ZerosOf, AnAction, DeclareOf, BlockOf}
+use Rattle.c_program.specs.Statements.{EvaluateOf, BreakOf, ContinueOf, ReturnOf, IfOf, IfElseOf, WhileOf, DoOf, ForOf}
 use Rattle.c_meaning.specs.State.{State}
 use Rattle.c_lower_scheme.specs.Mentions.{is_local, place_mentions, mentions, any_mentions}
 use Rattle.c_sound.specs.Fits.{StandsIn, FitsAt, Fits, FitsAll, more, declaring, behind_act, FitsDeclared, FitsAct}
@@ -102,6 +103,8 @@ declaring_more scope [] x h = h
 declaring_more scope (KeepOf object ∷ ds) x h = declaring_more scope ds x h
 declaring_more scope (ClearOf n ∷ ds) x h = declaring_more (more scope n) ds x (inl h)
 declaring_more scope (BeginOf n e ∷ ds) x h = declaring_more (more scope n) ds x (inl h)
+declaring_more scope (StoreOf t o e ∷ ds) x h = declaring_more scope ds x h
+declaring_more scope (ZerosOf t o count ∷ ds) x h = declaring_more scope ds x h
 
 pub behind_more : (scope : ℕ → Type 0) (a : AnAction) (x : ℕ) → scope x → behind_act scope a x
 behind_more scope (DeclareOf ds) x h = declaring_more scope ds x h
@@ -125,6 +128,8 @@ declaring_within size scope [] fit within x h = within x h
 declaring_within size scope (KeepOf object ∷ ds) fit within x h = declaring_within size scope ds fit within x h
 declaring_within size scope (ClearOf n ∷ ds) fit within x h = declaring_within size (more scope n) ds fit.1 (more_within size scope n fit.0 within) x h
 declaring_within size scope (BeginOf n e ∷ ds) fit within x h = declaring_within size (more scope n) ds fit.2 (more_within size scope n fit.0 within) x h
+declaring_within size scope (StoreOf t o e ∷ ds) fit within x h = declaring_within size scope ds fit.2 within x h
+declaring_within size scope (ZerosOf t o count ∷ ds) fit within x h = declaring_within size scope ds fit.2 within x h
 
 pub behind_within : (size : ℕ) (scope : ℕ → Type 0) (inside : Bool) (a : AnAction) → FitsAct size scope inside a → ((x : ℕ) → scope x → x < size) → (x : ℕ) → behind_act scope a x → x < size
 behind_within size scope inside (DeclareOf ds) fit within x h = declaring_within size scope ds fit within x h
@@ -139,8 +144,9 @@ behind_within size scope inside (WhileOf c a) fit within x h = within x h
 behind_within size scope inside (DoOf a c) fit within x h = within x h
 behind_within size scope inside (ForOf i c e a) fit within x h = within x h
 
-pub agree_less : (size depth : ℕ) (less scope : ℕ → Type 0) (st : State) (d : Desk) → ((x : ℕ) → less x → scope x) → Agree size first scope depth st d → Agree size less depth st d
-agree_less size depth less scope st d sub h = record {
+pub agree_less : (extent size first depth : ℕ) (less scope : ℕ → Type 0) (st : State) (d : Desk) → ((x : ℕ) → less x → scope x) → Agree extent size first scope depth st d
+    → Agree extent size first less depth st d
+agree_less extent size first depth less scope st d sub h = record {
   local = λ x l. h.local x (sub x l);
   count = h.count;
   arguments = h.arguments;
@@ -150,4 +156,6 @@ agree_less size depth less scope st d sub h = record {
   active = h.active;
   ranged = h.ranged;
   bytes = h.bytes;
+  whole = h.whole;
+  pointer = h.pointer;
 }

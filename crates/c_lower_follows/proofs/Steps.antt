@@ -308,7 +308,8 @@ module _ (program : TreeProgram) (code : List TreeItem) (callers : List Activati
   coming_same (Some r) is js d x = refl
 
   pub label_step : (k l : ℕ) (is : List Item) (d : Desk) (r : Runs) → Leads k r (at is d) → Leads k r (at (Label l ∷ is) d)
-  label_step k l is d r h = subst (λ x. Leads k r (runs program x)) (coming_same (ahead (spelled_all is)) (spelled_all is) (tree_item.Label l ∷ spelled_all is) d (returned 0 callers d.area d.input)) h
+  label_step k l is d r h =
+      subst (λ x. Leads k r (runs program x)) (coming_same (ahead (spelled_all is)) (spelled_all is) (tree_item.Label l ∷ spelled_all is) d (returned 0 callers d.area d.input)) h
 
   pub label_counts : (k l : ℕ) (is : List Item) (d : Desk) (r : Runs) → Leads k r (counted (at is d)) → Leads k r (counted (at (Label l ∷ is) d))
   label_counts k l is d r h = subst (λ x. Leads k r (counted (runs program x)))

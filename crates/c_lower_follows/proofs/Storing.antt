@@ -39,7 +39,8 @@ pub record Held (size t0 v u : ℕ) (items : List Item) (st : State) (d : Desk) 
   pub keeps : (j : ℕ) → size ≤ j → (j < t0) ⊎ (v ≤ j) → (j ≡ u → ⊥) → d'.locals j ≡ d.locals j
   pub same : items ≡ [] → (st' ≡ st) × (d' ≡ d)
 
-module _ (program : TreeProgram) (code : List TreeItem) (callers : List Activation) (size count first : ℕ) (scope : ℕ → Type 0) (level : ℕ) (within : (x : ℕ) → scope x → x < size) (own : size ≤ first) where
+module _ (program : TreeProgram) (code : List TreeItem) (callers : List Activation) (size count first : ℕ) (scope : ℕ → Type 0) (level : ℕ) (within : (x : ℕ) → scope x → x < size)
+    (own : size ≤ first) where
   abbrev pub good : State → Desk → Type 0
   good st d = ok program code callers size count first scope level st d
 
@@ -200,7 +201,7 @@ module _ (program : TreeProgram) (code : List TreeItem) (callers : List Activati
   store_low_does r t m sz pure does = store_low_by r.place r.items r.type r.value r.temps r.labels t m sz pure does
 
   -- a part that may be saved, and then another part: where its tree stays, nothing changes it
-  pub hold : (b : Bool) (w : Tree) (t0 u : ℕ) (q : Lowered) (n : Rest → State → Runs) (k : ℕ) → k ≤ level → (is : List Item) (κ : ℕ → Rest) (st : State) (d : Desk) → size ≤ t0
+  pub hold : (b : Bool) (w : Tree) (t0 u : ℕ) (q : Lowered) (n : Rest → State → Runs) (k : ℕ) → k ≤ level → (is : List Item) (κ : ℕ → Rest) (st : State) (d : Desk) → first ≤ t0
       → q.temps ≤ u → SmallTree w → DoesIt q t0 n → Resolves code ((saving b u w ++ q.items) ++ is) → (b ≡ false → (q.items ≡ []) ⊎ ((stable size w ≡ true) × Below t0 w)) → good st d
       → ((st' : State) (d' : Desk) → good st' d' → Held size t0 q.temps u (saving b u w ++ q.items) st d st' d'
       → Leads k (on (value program (saved b u w) d') (λ x. on (value program q.tree d') (λ y. κ x y st'))) (go is d'))
@@ -240,7 +241,7 @@ module _ (program : TreeProgram) (code : List TreeItem) (callers : List Activati
           subst (λ o. Leads k (on o (λ x. on (value program q.tree d2) (λ y. κ x y st2))) (go is d2)) same (h st2 d2 ag2 (leave st2 d2 s2)))
 
   -- the same, with the frame of the second part alone
-  pub waits : (w : Tree) (t0 : ℕ) (q : Lowered) (n : Rest → State → Runs) (k : ℕ) → k ≤ level → (is : List Item) (κ : ℕ → Rest) (st : State) (d : Desk) → size ≤ t0 → SmallTree w
+  pub waits : (w : Tree) (t0 : ℕ) (q : Lowered) (n : Rest → State → Runs) (k : ℕ) → k ≤ level → (is : List Item) (κ : ℕ → Rest) (st : State) (d : Desk) → first ≤ t0 → SmallTree w
       → Below t0 w → DoesIt q t0 n → Resolves code (q.items ++ is) → (q.items ≡ []) ⊎ (stable size w ≡ true) → good st d
       → ((st' : State) (d' : Desk) → good st' d' → Since size t0 q.temps q.items st d st' d' → Leads k (on (value program w d') (λ x. on (value program q.tree d') (λ y. κ x y st'))) (go is d'))
       → Leads k (on (value program w d) (λ x. n (κ x) st)) (go (q.items ++ is) d)

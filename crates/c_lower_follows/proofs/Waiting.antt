@@ -1,13 +1,13 @@
 -- Locals whose zero is not written: until they are assigned to, the states need not agree on them.
-use Rattle.std.proofs.Common.{◌≡◌, ℕ, zero, suc, List, [], ◌∷◌, Option, Some, None, refl, sym, subst, ◌⊎◌, inl, inr, ⊎_elim}
-use Rattle.std.specs.Prelude.{Bool, true, false, not, ◌==◌, ◌&&◌, ◌||◌}
-use Rattle.std.proofs.lemmas.Bool.{cases_eq, eqb-true, eqb-false, or_parts, or_cases, and_parts, not-true, not-false}
+use Rattle.std.proofs.Common.{◌≡◌, ℕ, zero, suc, List, [], ◌∷◌, Option, Some, refl, sym, subst, ◌⊎◌, inl, inr, ⊎_elim}
+use Rattle.std.specs.Prelude.{true, false, not, ◌==◌, ◌&&◌, ◌||◌}
+use Rattle.std.proofs.lemmas.Bool.{cases_eq, eqb-true, or_parts, or_cases, and_parts, not-true, not-false}
 use Rattle.c_types.specs.declared.types.CType.{CType}
 use Rattle.c_types.specs.declared.typed.Variable.TheVariants as variables
 use Rattle.c_types.specs.Typed.{VariableAt, PointedBy, ElementBy, AnExpression, Constant, LiteralAt, ArrayAt, ReadOf, SizeOfExpression, SizeOf, AddressOf, CallOf, StepOf}
 use Rattle.c_types.specs.Typed.{UnaryOf, CastTo, ConvertTo, ArithmeticOf, CompareOf, BothOf, EitherOf, AdvanceOf, AdvanceByOf, RetreatOf, DistanceOf, ChoiceOf, AssignTo}
 use Rattle.c_types.specs.Typed.{ArithmeticAssignTo, AdvanceAssignTo, RetreatAssignTo, CommaOf}
-use Rattle.c_program.specs.Statements.{ADeclaration, KeepOf, ClearOf, BeginOf, AnAction, SomeActions, MoreActions, DeclareOf, BlockOf, EvaluateOf, ForOf}
+use Rattle.c_program.specs.Statements.{ADeclaration, KeepOf, ClearOf, BeginOf, StoreOf, ZerosOf, AnAction, SomeActions, MoreActions, DeclareOf, BlockOf, EvaluateOf, ForOf}
 use Rattle.c_lower_scheme.specs.Mentions.{mentions}
 use Rattle.c_lower_scheme.specs.Zeros.{sets, maybe_sets, is_overwritten, is_zeroed}
 use Rattle.c_sound.specs.Fits.{Fits, more}
@@ -128,6 +128,24 @@ module _ (live scope : ℕ → Type 0) (row : SomeActions) where
       by : (x k : ℕ) → is_overwritten k x (BeginOf n e ∷ ds) row ≡ true → mentions x e ≡ false
       by x zero f = absurd (cc)
       by x (suc k) f = not-true (mentions x e) (and_parts (not (mentions x e)) (n == x || is_overwritten k x ds row) f).0
+
+  -- a value that is stored in the block, and zeros
+  store_parts : (t : CType) (o : ℕ) (e : AnExpression) (ds : List ADeclaration) (k x : ℕ) → is_overwritten (suc k) x (StoreOf t o e ∷ ds) row ≡ true
+      → (mentions x e ≡ false) × (is_overwritten k x ds row ≡ true)
+  store_parts t o e ds k x f = let q = and_parts (not (mentions x e)) (is_overwritten k x ds row) f in (not-true (mentions x e) q.0, q.1)
+
+  pub past_store : (t : CType) (o : ℕ) (e : AnExpression) (ds : List ADeclaration) → Partly live scope (StoreOf t o e ∷ ds) row → Partly live scope ds row
+  past_store t o e ds h = further live live scope scope (StoreOf t o e ∷ ds) ds row row h.inside (λ x s. inr s) (λ x l. inl l) (λ k x f. inr (store_parts t o e ds k x f).1) h
+
+  pub store_fits : (t : CType) (o : ℕ) (e : AnExpression) (ds : List ADeclaration) → Partly live scope (StoreOf t o e ∷ ds) row → Fits scope e → Fits live e
+  store_fits t o e ds h fit = fits_where live scope e (λ x s. ⊎_elim (λ l. inl l) (λ w. inr (by x w.ahead w.found)) (h.each x s)) fit
+    where
+      by : (x k : ℕ) → is_overwritten k x (StoreOf t o e ∷ ds) row ≡ true → mentions x e ≡ false
+      by x zero f = absurd (cc)
+      by x (suc k) f = (store_parts t o e ds k x f).0
+
+  pub past_zeros : (t : CType) (o count : ℕ) (ds : List ADeclaration) → Partly live scope (ZerosOf t o count ∷ ds) row → Partly live scope ds row
+  past_zeros t o count ds h = further live live scope scope (ZerosOf t o count ∷ ds) ds row row h.inside (λ x s. inr s) (λ x l. inl l) (λ k x e. inr e) h
 
   pub past_declare : (ds : List ADeclaration) → Partly live scope [] (MoreActions (DeclareOf ds) row) → Partly live scope ds row
   past_declare ds h = further live live scope scope [] ds (MoreActions (DeclareOf ds) row) row h.inside (λ x s. inr s) (λ x l. inl l) (λ k x e. inr e) h

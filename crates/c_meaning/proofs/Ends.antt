@@ -7,10 +7,9 @@ use Rattle.gg_base.specs.Runs.{Runs, OneEnd}
 use Rattle.gg_base.specs.Lasting.{Grows, Lasts}
 use Rattle.gg_base.proofs.Lasting.{lasts_none, lasts_stop, lasts_emit, lasts_counted, one_end_of}
 use Rattle.c_program.specs.Programs.{ARoutine, AProgram}
-use Rattle.c_meaning.specs.Values.{Body}
 use Rattle.c_meaning.specs.Calls.{answer, begun}
 use Rattle.c_meaning.specs.Programs.{finished, at_first, main_of, source}
-use Rattle.c_meaning.proofs.Law.{IsStop, Kept, Same, means_kept}
+use Rattle.c_meaning.proofs.Law.{IsStop, Kept, Same, performs_kept}
 
 not_spent : (e : End) → IsStop e → e ≡ Spent → ⊥
 not_spent (Ended v) h is = cc
@@ -39,7 +38,7 @@ lasts_looks k r r' q q' same other h = record {
 main_lasts : (o : Option ARoutine) (p : AProgram) (input : List ℕ) (k : ℕ) → Lasts k (main_of o p input)
 main_lasts None p input k = lasts_kept.stops k Wild tt
 main_lasts (Some g) p input k =
-    means_kept (λ k r q. Lasts k r) lasts_kept lasts_looks p k (Body g.body) finished finished (λ w st. lasts_kept.stops k (Ended (answer w)) tt) (begun g [] (at_first p input))
+    performs_kept (λ k r q. Lasts k r) lasts_kept lasts_looks p g k finished finished (λ w st. lasts_kept.stops k (Ended (answer w)) tt) (begun g [] (at_first p input))
 
 pub one_end : (p : AProgram) (input : List ℕ) → OneEnd (source p input)
 one_end p input = one_end_of (source p input) (main_lasts (slice_get p.routines p.main) p input)

@@ -1,9 +1,11 @@
 -- A relation between runs that is kept by stops, bytes and counts is kept by every phrase and every task.
 use Rattle.std.proofs.Common.{◌≡◌, ℕ, zero, suc, ◌<◌, ◌≤◌, List, [], ◌∷◌, Option, Some, None, refl, ap, arith}
 use Rattle.std.specs.Prelude.{slice_get, nat_lt, Bool, true, false, if◌then◌else◌}
+use Rattle.gg_base.specs.Arithmetic.{add32}
 use Rattle.gg_base.specs.declared.run.End.{End}
 use Rattle.gg_base.specs.declared.run.End.TheVariants.{Ended, Trapped, Wild, Deep, Spent, Broken}
 use Rattle.gg_base.specs.Runs.{Runs, stop, byte_first, emit, one_first, counted}
+use Rattle.tree_core.specs.declared.program.Object.{Object}
 use Rattle.c_types.specs.declared.types.CType.{CType}
 use Rattle.c_types.specs.declared.typed.Callee.{Callee}
 use Rattle.c_types.specs.declared.typed.Callee.TheVariants as callees
@@ -13,18 +15,19 @@ use Rattle.c_types.specs.Constants.{converted, apply, distance}
 use Rattle.c_types.specs.Typed.{APlace, VariableAt, PointedBy, ElementBy, AnExpression, Constant, LiteralAt, ArrayAt, ReadOf, SizeOfExpression, SizeOf, AddressOf, CallOf, StepOf}
 use Rattle.c_types.specs.Typed.{UnaryOf, CastTo, ConvertTo, ArithmeticOf, CompareOf, BothOf, EitherOf, AdvanceOf, AdvanceByOf, RetreatOf, DistanceOf, ChoiceOf, AssignTo}
 use Rattle.c_types.specs.Typed.{ArithmeticAssignTo, AdvanceAssignTo, RetreatAssignTo, CommaOf, SomeExpressions, NoExpressions, MoreExpressions}
-use Rattle.c_program.specs.Statements.{ADeclaration, KeepOf, ClearOf, BeginOf, AnAction, SomeActions, NoActions, MoreActions, DeclareOf, BlockOf, EvaluateOf, BreakOf, ContinueOf}
+use Rattle.c_program.specs.Statements.{ADeclaration, KeepOf, ClearOf, BeginOf, StoreOf, ZerosOf, AnAction, SomeActions, NoActions, MoreActions, DeclareOf, BlockOf, EvaluateOf, BreakOf, ContinueOf}
 use Rattle.c_program.specs.Statements.{ReturnOf, IfOf, IfElseOf, WhileOf, DoOf, ForOf}
 use Rattle.c_program.specs.Programs.{ARoutine, AProgram}
 use Rattle.c_meaning.specs.declared.store.Spot.{Spot}
-use Rattle.c_meaning.specs.declared.store.Spot.TheVariants.{Local, Parameter, Memory}
+use Rattle.c_meaning.specs.declared.store.Spot.TheVariants.{Local, Parameter, Memory, InBlock}
 use Rattle.c_meaning.specs.declared.flow.Flow.{Flow}
 use Rattle.c_meaning.specs.declared.flow.Flow.TheVariants.{Onward, Broke, Continued, Returned}
-use Rattle.c_meaning.specs.State.{State, address, spot_of, held, put_local, put}
+use Rattle.c_meaning.specs.State.{State, address, spot_of, block_address, held, put_local, put, put_zeros}
 use Rattle.c_meaning.specs.Values.{Rest, RestAll, RestAt, Behind, ALoop, plain_loop, for_loop, Task, Look, Body, Next}
 use Rattle.c_meaning.specs.Values.{chosen, or_wild, or_trap, written, read_at, store_at, stepped, of_moment, step_at}
 use Rattle.c_meaning.specs.Values.{address_of, located}
-use Rattle.c_meaning.specs.Calls.{passed, put_char, got, back, begun, called, call}
+use Rattle.c_meaning.specs.Blocks.{int, pointer_number, area_number, beginning, with_block, claimed, released, block_set, zeros_set}
+use Rattle.c_meaning.specs.Calls.{passed, put_char, got, back, begun, performed, called, call}
 use Rattle.c_meaning.specs.Meaning.{expr, place, arguments, dropped, tested, turned, turn_by, look_by, returned}
 use Rattle.c_meaning.specs.Meaning.{local_set, declared, followed, stmt, stmts, task}
 use Rattle.c_meaning.specs.Programs.{task_at, means}
@@ -97,6 +100,7 @@ module _ (R : ℕ → Runs → Runs → Type 0) (kept : Kept R) where
   address_kept k (Local n) κ μ h st = kept.stops k Wild tt
   address_kept k (Parameter n) κ μ h st = kept.stops k Wild tt
   address_kept k (Memory a) κ μ h st = h a st
+  address_kept k (InBlock o) κ μ h st = wild_kept k (block_address st.call o) κ μ h st
 
   located_kept : (k : ℕ) (o : Option Spot) (κ μ : Spot → State → Runs) → ((s : Spot) (st : State) → R k (κ s st) (μ s st)) → OnState R k (located o κ) (located o μ)
   located_kept k None κ μ h st = kept.stops k Wild tt
@@ -118,6 +122,24 @@ module _ (R : ℕ → Runs → Runs → Type 0) (kept : Kept R) where
   set_kept : (p : AProgram) (f g : Next) (k n v : ℕ) (κ μ : State → Runs) → OnState R k κ μ → OnState R k (local_set p f n v κ) (local_set p g n v μ)
   set_kept p f g k n v κ μ h st = written_kept k (put_local n v st) v (λ v. κ) (λ v. μ) (λ v. h)
 
+  stored_kept : (k : ℕ) (t : CType) (o v : ℕ) (κ μ : State → Runs) → OnState R k κ μ → OnState R k (block_set t o v κ) (block_set t o v μ)
+  stored_kept k t o v κ μ h st = written_kept k (put t (InBlock o) v st) v (λ v. κ) (λ v. μ) (λ v. h)
+
+  zeros_kept : (k : ℕ) (t : CType) (o count : ℕ) (κ μ : State → Runs) → OnState R k κ μ → OnState R k (zeros_set t o count κ) (zeros_set t o count μ)
+  zeros_kept k t o count κ μ h st = written_kept k (put_zeros t o count (Some st)) 0 (λ v. κ) (λ v. μ) (λ v. h)
+
+  -- a block is taken, and given back
+  claimed_kept : (k : ℕ) (objects : List Object) (block : ℕ) (κ μ : State → Runs) → OnState R k κ μ → OnState R k (claimed objects block κ) (claimed objects block μ)
+  claimed_kept k objects zero κ μ h = h
+  claimed_kept k objects (suc n) κ μ h = wild_kept k (address objects (pointer_number objects)) _ _
+      (λ pointer. read_kept k int (Memory pointer) _ _ (λ p. wild_kept k (address objects (area_number objects)) _ _
+      (λ area. trap_kept k (beginning area (suc n) p) _ _ (λ b. store_kept k int (Memory pointer) (add32 b (suc n)) _ _ (λ v st. h (with_block b st))))))
+
+  released_kept : (k : ℕ) (objects : List Object) (block : ℕ) (κ μ : Behind) → OnBehind R k κ μ → OnBehind R k (released objects block κ) (released objects block μ)
+  released_kept k objects zero κ μ h w = h w
+  released_kept k objects (suc n) κ μ h w = λ st. wild_kept k st.call.block _ _
+      (λ b. wild_kept k (address objects (pointer_number objects)) _ _ (λ pointer. store_kept k int (Memory pointer) b _ _ (λ v. h w))) st
+
   followed_kept : (p : AProgram) (f g : Next) (k : ℕ) (κ μ : Behind) (go ho : State → Runs) → OnBehind R k κ μ → OnState R k go ho → OnBehind R k (followed p f κ go) (followed p g μ ho)
   followed_kept p f g k κ μ go ho h i Onward st = i st
   followed_kept p f g k κ μ go ho h i Broke st = h Broke st
@@ -131,12 +153,16 @@ module _ (R : ℕ → Runs → Runs → Type 0) (kept : Kept R) where
   turned_kept p f g k κ μ go ho h i (Returned v) st = h (Returned v) st
 
   module _ (p : AProgram) (n : ℕ) (f g : Next) (close : (k : ℕ) → k ≤ n → OnNext R k f g) where
+    performed_kept : (k : ℕ) → k ≤ n → (h : ARoutine) (κ μ : Behind) → OnBehind R k κ μ → OnState R k (performed p.objects f h κ) (performed p.objects g h μ)
+    performed_kept k le h κ μ s = claimed_kept k p.objects h.block (f (Body h.body) (released p.objects h.block κ)) (g (Body h.body) (released p.objects h.block μ))
+        (close k le (Body h.body) (released p.objects h.block κ) (released p.objects h.block μ) (released_kept k p.objects h.block κ μ s))
+
     entered_kept : (k : ℕ) → k ≤ n → (b : Bool) (h : ARoutine) (vs : List ℕ) (κ μ : Rest) → OnRest R k κ μ → (st : State)
-        → R k (if b then f (Body h.body) (back κ st) (begun h vs st) else stop Deep) (if b then g (Body h.body) (back μ st) (begun h vs st) else stop Deep)
-    entered_kept k le true h vs κ μ s st = close k le (Body h.body) (back κ st) (back μ st) (λ w st'. s _ _) (begun h vs st)
+        → R k (if b then performed p.objects f h (back κ st) (begun h vs st) else stop Deep) (if b then performed p.objects g h (back μ st) (begun h vs st) else stop Deep)
+    entered_kept k le true h vs κ μ s st = performed_kept k le h (back κ st) (back μ st) (λ w st'. s _ _) (begun h vs st)
     entered_kept k le false h vs κ μ s st = kept.stops k Deep tt
 
-    called_kept : (k : ℕ) → k ≤ suc n → (o : Option ARoutine) (vs : List ℕ) (κ μ : Rest) → OnRest R k κ μ → OnState R k (called o f vs κ) (called o g vs μ)
+    called_kept : (k : ℕ) → k ≤ suc n → (o : Option ARoutine) (vs : List ℕ) (κ μ : Rest) → OnRest R k κ μ → OnState R k (called p.objects o f vs κ) (called p.objects o g vs μ)
     called_kept k le None vs κ μ s st = kept.stops k Wild tt
     called_kept k le (Some h) vs κ μ s st =
         counted_kept k _ _ (λ j lt. entered_kept j (omega arith) (nat_lt st.active 1024) h vs κ μ (λ v st'. kept.weakens j k _ _ (omega arith) (s v st')) st)
@@ -215,6 +241,8 @@ module _ (R : ℕ → Runs → Runs → Type 0) (kept : Kept R) where
     declared_kept (KeepOf object ∷ ds) k le κ μ h = declared_kept ds k le κ μ h
     declared_kept (ClearOf x ∷ ds) k le κ μ h = set_kept p f g k x 0 _ _ (declared_kept ds k le κ μ h)
     declared_kept (BeginOf x e ∷ ds) k le κ μ h = set_kept p f g k x 0 _ _ (expr_kept e k le _ _ (λ v. set_kept p f g k x v _ _ (declared_kept ds k le κ μ h)))
+    declared_kept (StoreOf t o e ∷ ds) k le κ μ h = expr_kept e k le _ _ (λ v. stored_kept k t o v _ _ (declared_kept ds k le κ μ h))
+    declared_kept (ZerosOf t o count ∷ ds) k le κ μ h = zeros_kept k t o count _ _ (declared_kept ds k le κ μ h)
 
     mutual
       pub stmt_kept : (a : AnAction) (k : ℕ) → k ≤ suc n → (κ μ : Behind) → OnBehind R k κ μ → OnState R k (stmt p f a κ) (stmt p g a μ)
@@ -281,3 +309,10 @@ pub means_kept : (R : ℕ → Runs → Runs → Type 0) → Kept R → ((k : ℕ
 means_kept R kept looks p k t κ μ h st =
     looks k (task_at p k t κ st) (means p t κ st) (task_at p k t μ st) (means p t μ st) (means_close p k k (omega arith) t κ κ (λ w st' i lt. refl) st)
     (means_close p k k (omega arith) t μ μ (λ w st' i lt. refl) st) (deep_kept R kept p k k k (omega arith) (omega arith) t κ μ h st)
+
+-- and so it is by a function's body, round which its block is taken and given back
+pub performs_kept : (R : ℕ → Runs → Runs → Type 0) → Kept R → ((k : ℕ) (r r' q q' : Runs) → Same k r r' → Same k q q' → R k r q → R k r' q') → (p : AProgram) (g : ARoutine) (k : ℕ) (κ μ : Behind)
+    → OnBehind R k κ μ → OnState R k (performed p.objects (means p) g κ) (performed p.objects (means p) g μ)
+performs_kept R kept looks p g k κ μ h =
+    claimed_kept R kept k p.objects g.block (means p (Body g.body) (released p.objects g.block κ)) (means p (Body g.body) (released p.objects g.block μ))
+    (means_kept R kept looks p k (Body g.body) (released p.objects g.block κ) (released p.objects g.block μ) (released_kept R kept k p.objects g.block κ μ h))

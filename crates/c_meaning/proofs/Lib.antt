@@ -3,6 +3,8 @@ pub mod Law
 pub mod Ends
 pub mod Steps
 pub mod Runs
+pub mod Zeros
+pub mod Taking
 pub mod Begin
 pub mod Unbroken
 pub mod Coming

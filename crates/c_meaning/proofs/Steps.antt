@@ -2,11 +2,12 @@
 use Rattle.std.proofs.Common.{◌≡◌, ℕ, zero, suc, ◌+◌, ◌<◌, ◌≤◌, List, [], ◌∷◌, ◌++◌, Some, None, Option, refl, sym, ap, ◌∙◌, subst, arith, length, get_or, false, append_assoc}
 use Rattle.std.proofs.Common.{lt-ltb, le-ltb, ltb-false, replicate}
 use Rattle.std.proofs.lemmas.Option.{slice_get_read, slice_get_past, slice_get-map}
-use Rattle.std.specs.Prelude.{slice_get, nat_lt, map, is_some, unwrap_or, true, if◌then◌else◌}
+use Rattle.std.specs.Prelude.{slice_get, nat_lt, map, is_some, unwrap_or, IfSome, true, if◌then◌else◌}
 use Rattle.std.specs.Option.{option_map, option_copied}
 use Rattle.std.specs.Global.{Vec}
 use Rattle.std.specs.Borrow.{Bor}
 use Rattle.gg_base.specs.Runs.{Runs, stop, counted}
+use Rattle.tree_core.specs.declared.program.Object.{Object}
 use Rattle.c_types.specs.declared.typed.Expression.{Expression}
 use Rattle.c_types.specs.declared.types.CType.{CType}
 use Rattle.c_types.specs.declared.typed.Callee.{Callee}
@@ -19,6 +20,7 @@ use Rattle.c_program.specs.declared.program.Routine.{Routine}
 use Rattle.c_program.specs.Programs.{AProgram, routine}
 use Rattle.c_meaning.specs.declared.flow.Flow.{Flow}
 use Rattle.c_meaning.specs.declared.flow.Flow.TheVariants.{Onward}
+use Rattle.gg_base.specs.declared.run.Finish.{Finish}
 use Rattle.gg_base.specs.declared.run.Finish.TheVariants as finish
 use Rattle.c_meaning.specs.declared.store.Activation.{Activation}
 use Rattle.c_meaning.specs.declared.store.Store.{Store}
@@ -35,15 +37,16 @@ use Rattle.c_meaning.specs.declared.frame.Control.TheVariants as controls
 use Rattle.c_meaning.specs.declared.machine.Machine.{Machine}
 use Rattle.c_meaning.specs.State.{State}
 use Rattle.c_meaning.specs.declared.frame.Loop.{Loop}
-use Rattle.c_meaning.specs.Values.{Rest, RestAll, Look, Body, chosen}
+use Rattle.c_meaning.specs.Values.{Rest, RestAll, Behind, Look, Body, chosen}
 use Rattle.c_meaning.specs.Meaning.{dropped, look_at, turn_at, arguments, expr, stmts}
 use Rattle.c_meaning.specs.Programs.{means}
-use Rattle.c_meaning.specs.Calls.{passed, call, called, back, begun}
+use Rattle.c_meaning.specs.Blocks.{claimed, released}
+use Rattle.c_meaning.specs.Calls.{passed, call, called, answer, back, begun, performed}
 use Rattle.c_meaning.proofs.Law.{means_is}
 use Rattle.gg_base.specs.Turns.{end_of}
 use Rattle.c_meaning.specs.Pending.{program_of, tasks_of, with_value, with_flow, Signal, Valued, Leaves, Then, waits, to_come}
 use Rattle.c_meaning.specs.Pending.{stack, bottom, before, going}
-use Rattle.c_meaning.specs.Parts.{loop_of, maybe_bor, state}
+use Rattle.c_meaning.specs.Parts.{loop_of, maybe_bor, activation, state}
 use Rattle.c_meaning.specs.Work.{arguments_work}
 use Rattle.c_meaning.specs.FrameWork.{value_work, flow_work, frame_work, frames_work}
 use Rattle.c_meaning.specs.Runner.{Progress, Makes, Does, Steps, Goes, Waiting, Counts, Resumes, Reaches}
@@ -124,6 +127,7 @@ value_work_pos (waiting.Assign t s) = omega arith
 value_work_pos (waiting.Change t s op x) = omega arith
 value_work_pos waiting.Forget = omega arith
 value_work_pos (waiting.Begin n ds) = omega arith
+value_work_pos (waiting.Store t o ds) = omega arith
 value_work_pos (waiting.If a) = omega arith
 value_work_pos (waiting.IfElse a b) = omega arith
 value_work_pos waiting.Return = omega arith
@@ -138,7 +142,7 @@ frame_work_pos : (f : Frame) → 0 < frame_work f
 frame_work_pos (ForValue f) = value_work_pos f
 frame_work_pos (ForArgument c done ts es) = omega arith
 frame_work_pos (ForFlow f) = flow_work_pos f
-frame_work_pos (ForCall c active) = omega arith
+frame_work_pos (ForCall c active block) = omega arith
 
 pub passed_value : (m : Machine) (v : Vec Frame) (f : Frame) (x : ℕ) {event : Event} {new : Machine} → m.frames.items ≡ v.items ++ f ∷ []
     → before (program_of m) f (waits (record m { frames = v })) (Valued x) ≡ waits (record m { frames = v }) (Valued x)
@@ -170,6 +174,15 @@ missing all l f same test = slice_get-map routine all f ∙ ap (option_map routi
 pub state_some : (o : Option State) (st st' : State) → true ≡ is_some o → st' ≡ unwrap_or o st → o ≡ Some st'
 state_some None st st' h e = absurd (cc)
 state_some (Some x) st st' h e = ap Some (sym e)
+
+-- zeros are put into elements of the block
+pub zeros_some : (o : Option State) (st' : State) → true ≡ is_some o → IfSome o (λ st. st' ≡ st) → o ≡ Some st'
+zeros_some None st' h e = absurd (cc)
+zeros_some (Some x) st' h e = ap Some (sym e)
+
+pub none_there : (o : Option State) → false ≡ is_some o → o ≡ None
+none_there None h = refl
+none_there (Some x) h = absurd (cc)
 
 pub chosen_some : (v : ℕ) (a b : Runs) → (v ≡ 0 → ⊥) → chosen v a b ≡ a
 chosen_some zero a b h = absurd (h refl)
@@ -221,30 +234,63 @@ passes {new} {event} m f done more x v t ts all es is kept pushed w =
     ∙ ap (λ l. arguments p (means p) es ts (λ vs. call p (means p) f (l ++ vs) κ) st) (sym pushed)
     ) (omega arith)
 
--- a call of a function begins, or would be one too many
-pub call_begins : {new : Machine} {event : Event} (body : Vec Action) (m : Machine) (s : Store) (g : Routine) (vs locals : List ℕ) (caller : Activation) → m.store.active < 1024 → body
-    ≡ g.body → state s ≡ record (state m.store) { call = record { locals = locals; parameters = vs }; active = m.store.active + 1 } → locals ≡ replicate (length g.locals) 0 → caller
-    ≡ m.store.call → Makes (record m { store = s }) (λ κ st. counted (stmts (program_of m) (tasks_of m) (acts body.items)
-    (with_flow (before (program_of m) (ForCall caller m.store.active) κ)) st)) 0 event new
-    → Makes m (λ κ. called (Some (routine g)) (tasks_of m) vs (with_value κ)) 2 event new
-call_begins {new} {event} body m s g vs locals caller lt same at zeros back_to w =
+-- a call is left, and its caller goes on
+pub call_ends : {new : Machine} {event : Event} (m : Machine) (given left : Store) (caller : Activation) (active block v : ℕ) (w : Flow) (objects : List Object) → objects ≡ m.program.now.objects
+    → ((κ : Behind) (w : Flow) → released objects block κ w (state m.store) ≡ κ w (state given)) → state left ≡ record (state given) { call = activation caller; active = active } → v ≡ answer w
+    → Goes (record m { store = left }) (controls.Value v) event new → Makes m (λ κ. before (program_of m) (ForCall caller active block) κ (Leaves w)) 2 event new
+call_ends {new} {event} m given left caller active block v w objects same gives goes answers h =
+    let κ : Behind = λ w st. waits m (Valued (answer w)) (record st { call = activation caller; active = active }) in
+    over h (
+    sym (ap (λ (os : List Object). released os block κ w (state m.store)) same)
+    ∙ gives κ w
+    ∙ ap (λ x. waits m (Valued x) (record (state given) { call = activation caller; active = active })) (sym answers)
+    ∙ ap (λ st. waits m (Valued v) st) (sym goes)
+    ) (omega arith)
+
+-- a call of a function begins: its block is taken, or it has none
+pub call_begins : {new : Machine} {event : Event} (body : Vec Action) (m : Machine) (s taken : Store) (g : Routine) (vs locals : List ℕ) (caller : Activation) → m.store.active < 1024 → body
+    ≡ g.body → state s ≡ record (state m.store) { call = record { locals = locals; parameters = vs; block = None }; active = m.store.active + 1 } → locals ≡ replicate (length g.locals) 0 → caller
+    ≡ m.store.call → ((κ : State → Runs) → claimed m.program.now.objects g.block κ (state s) ≡ κ (state taken))
+    → Makes (record m { store = taken }) (λ κ st. counted (stmts (program_of m) (tasks_of m) (acts body.items)
+    (with_flow (before (program_of m) (ForCall caller m.store.active g.block) κ)) st)) 0 event new
+    → Makes m (λ κ. called m.program.now.objects (Some (routine g)) (tasks_of m) vs (with_value κ)) 2 event new
+call_begins {new} {event} body m s taken g vs locals caller lt same at zeros back_to claims w =
     let p = program_of m in
     let κ : Rest = with_value (waits m) in
     let st = state m.store in
-    let first : state s ≡ begun (routine g) vs st = at ∙ (λ i. record st { call = record { locals = zeros i; parameters = vs }; active = m.store.active + 1 }) in
+    let first : state s ≡ begun (routine g) vs st = at ∙ (λ i. record st { call = record { locals = zeros i; parameters = vs; block = None }; active = m.store.active + 1 }) in
+    let end : Behind = released p.objects g.block (back κ st) in
     over w (
-    ap (λ x. counted (if x then means p (Body (routine g).body) (back κ st) (begun (routine g) vs st) else stop Deep)) (lt-ltb m.store.active 1024 lt)
+    ap (λ x. counted (if x then performed p.objects (means p) (routine g) (back κ st) (begun (routine g) vs st) else stop Deep)) (lt-ltb m.store.active 1024 lt)
     ∙ ap counted (
-    means_is p (Body (routine g).body) (back κ st) (begun (routine g) vs st)
-    ∙ ap (λ (v : Vec Action). stmts p (means p) (acts v.items) (back κ st) (begun (routine g) vs st)) (sym same)
-    ∙ ap (λ z. stmts p (means p) (acts body.items) (back κ st) z) (sym first)
-    ∙ ap (λ c. stmts p (means p) (acts body.items) (with_flow (before p (ForCall c m.store.active) (waits m))) (state s)) (sym back_to))
+    ap (λ z. claimed p.objects g.block (means p (Body (routine g).body) end) z) (sym first)
+    ∙ claims (means p (Body (routine g).body) end)
+    ∙ means_is p (Body (routine g).body) end (state taken)
+    ∙ ap (λ (v : Vec Action). stmts p (means p) (acts v.items) end (state taken)) (sym same)
+    ∙ ap (λ c. stmts p (means p) (acts body.items) (with_flow (before p (ForCall c m.store.active g.block) (waits m))) (state taken)) (sym back_to))
     ) (omega arith)
 
+-- or there is no room for its block
+pub call_refused : {new : Machine} {event : Event} (m : Machine) (s : Store) (g : Routine) (vs locals : List ℕ) (e : Finish) (kept : Store) → m.store.active < 1024 → state s
+    ≡ record (state m.store) { call = record { locals = locals; parameters = vs; block = None }; active = m.store.active + 1 } → locals ≡ replicate (length g.locals) 0
+    → ((κ : State → Runs) → claimed m.program.now.objects g.block κ (state s) ≡ stop (end_of e)) → Makes (record m { store = kept }) (λ κ st. counted (stop (end_of e))) 0 event new
+    → Makes m (λ κ. called m.program.now.objects (Some (routine g)) (tasks_of m) vs (with_value κ)) 2 event new
+call_refused {new} {event} m s g vs locals e kept lt at zeros claims w =
+    let p = program_of m in
+    let κ : Rest = with_value (waits m) in
+    let st = state m.store in
+    let first : state s ≡ begun (routine g) vs st = at ∙ (λ i. record st { call = record { locals = zeros i; parameters = vs; block = None }; active = m.store.active + 1 }) in
+    let end : Behind = released p.objects g.block (back κ st) in
+    over w (
+    ap (λ x. counted (if x then performed p.objects (means p) (routine g) (back κ st) (begun (routine g) vs st) else stop Deep)) (lt-ltb m.store.active 1024 lt)
+    ∙ ap counted (ap (λ z. claimed p.objects g.block (means p (Body (routine g).body) end) z) (sym first) ∙ claims (means p (Body (routine g).body) end))
+    ) (omega arith)
+
+-- or the call would be one too many
 pub call_deep : {new : Machine} {event : Event} (m : Machine) (g : Routine) (vs : List ℕ) → 1024 ≤ m.store.active → Makes m (λ κ st. counted (stop (end_of finish.Deep))) 0 event new
-    → Makes m (λ κ. called (Some (routine g)) (tasks_of m) vs (with_value κ)) 2 event new
+    → Makes m (λ κ. called m.program.now.objects (Some (routine g)) (tasks_of m) vs (with_value κ)) 2 event new
 call_deep {new} {event} m g vs le w =
     let p = program_of m in
     let κ : Rest = with_value (waits m) in
     let st = state m.store in
-    over w (ap (λ x. counted (if x then means p (Body (routine g).body) (back κ st) (begun (routine g) vs st) else stop Deep)) (le-ltb m.store.active 1024 le)) (omega arith)
+    over w (ap (λ x. counted (if x then performed p.objects (means p) (routine g) (back κ st) (begun (routine g) vs st) else stop Deep)) (le-ltb m.store.active 1024 le)) (omega arith)

@@ -6,10 +6,9 @@ use Rattle.gg_base.specs.declared.run.End.{End}
 use Rattle.gg_base.specs.declared.run.End.TheVariants.{Ended, Trapped, Wild, Deep, Spent, Broken}
 use Rattle.gg_base.specs.Runs.{Runs, counted}
 use Rattle.c_program.specs.Programs.{ARoutine, AProgram}
-use Rattle.c_meaning.specs.Values.{Body}
 use Rattle.c_meaning.specs.Calls.{answer, begun}
 use Rattle.c_meaning.specs.Programs.{finished, at_first, main_of, source}
-use Rattle.c_meaning.proofs.Law.{IsStop, Kept, Same, means_kept}
+use Rattle.c_meaning.proofs.Law.{IsStop, Kept, Same, performs_kept}
 
 -- with fewer than k counted turns and calls the run does not break
 abbrev Whole : ℕ → Runs → Runs → Type 0
@@ -42,7 +41,7 @@ whole_looks k r r' q q' same other h n lt kind = subst (λ o. o.end ≡ Broken k
 main_whole : (o : Option ARoutine) (p : AProgram) (input : List ℕ) (k : ℕ) → Whole k (main_of o p input) (main_of o p input)
 main_whole None p input k = whole_kept.stops k Wild tt
 main_whole (Some g) p input k =
-    means_kept Whole whole_kept whole_looks p k (Body g.body) finished finished (λ w st. whole_kept.stops k (Ended (answer w)) tt) (begun g [] (at_first p input))
+    performs_kept Whole whole_kept whole_looks p g k finished finished (λ w st. whole_kept.stops k (Ended (answer w)) tt) (begun g [] (at_first p input))
 
 pub unbroken : (p : AProgram) (input : List ℕ) (n : ℕ) (kind : Break) → (source p input n).end ≡ Broken kind → ⊥
 unbroken p input n = main_whole (slice_get p.routines p.main) p input (suc n) n (omega arith)

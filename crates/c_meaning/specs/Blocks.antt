@@ -11,7 +11,7 @@ use Rattle.c_meaning.specs.declared.store.Spot.TheVariants.{Memory, InBlock}
 use Rattle.c_meaning.specs.State.{State, address, put, put_zeros}
 use Rattle.c_meaning.specs.Values.{Behind, or_wild, or_trap, written, read_at, store_at}
 
-abbrev int : CType
+abbrev pub int : CType
 int = types.Integer ints.Int
 
 -- the numbers of the stack's pointer and of its area
@@ -21,8 +21,8 @@ pointer_number objects = length objects - 2
 abbrev pub area_number : List Object → ℕ
 area_number objects = pointer_number objects + 1
 
--- Where a block of n bytes begins: where the pointer points to. The stack has room for it if its end less that address, without sign, is n or
--- more.
+-- Where a block of n bytes begins: where the pointer points to. The stack has room for it if its end less that address, without sign,
+-- is n or more.
 abbrev pub beginning : ℕ → ℕ → ℕ → Option ℕ
 beginning area n b = if nat_lt (sub32 (add32 area 262144) b) n then None else Some b
 

@@ -100,10 +100,8 @@ impl<'a> Machine<'a> {
                 parameters: values,
                 block: None,
             });
-            match self
-                .store
-                .claim(self.program.objects.as_slice(), function.block)
-            {
+            let program = self.program;
+            match self.store.claim(program.objects.as_slice(), function.block) {
                 Ok(()) => self.count(
                     Frame::ForCall(caller, active, function.block),
                     Control::Block(&function.body),

@@ -98,7 +98,10 @@ impl<'a> Machine<'a> {
             Spot::Local(_) => self.stop(Finish::Wild),
             Spot::Parameter(_) => self.stop(Finish::Wild),
             Spot::Memory(address) => self.give(address),
-            Spot::InBlock(offset) => self.value_or_wild(self.store.block_address(offset)),
+            Spot::InBlock(offset) => {
+                let address = self.store.block_address(offset);
+                self.value_or_wild(address)
+            }
         }
     }
 

@@ -49,17 +49,23 @@ impl<'a> Machine<'a> {
             }),
             Some(main) => {
                 let locals = zeros(alloc, main.locals.as_slice().len())?;
+                let mut frames = Vec::new(alloc);
+                frames.push(Frame::ForCall(Activation::empty(alloc), 0, main.block))?;
                 let mut store = Store::begin(alloc, locals, area, input);
-                let control = match store.claim(program.objects.as_slice(), main.block) {
-                    Ok(()) => Control::Block(&main.body),
-                    Err(finish) => Control::Stop(finish),
-                };
-                Ok(Machine {
-                    program,
-                    control: Current::of(control),
-                    frames: Vec::new(alloc),
-                    store,
-                })
+                match store.claim(program.objects.as_slice(), main.block) {
+                    Ok(()) => Ok(Machine {
+                        program,
+                        control: Current::of(Control::Block(&main.body)),
+                        frames,
+                        store,
+                    }),
+                    Err(finish) => Ok(Machine {
+                        program,
+                        control: Current::of(Control::Stop(finish)),
+                        frames,
+                        store,
+                    }),
+                }
             }
         }
     }
@@ -123,13 +129,16 @@ impl<'a> Machine<'a> {
 
     // A call with a block of so many bytes is left so, and its caller goes on.
     fn end_call(&mut self, caller: Activation, active: u32, block: u32, flow: Flow) -> Event
-        ensures { Makes self.old (λ κ. before (program_of self.old) (frames.ForCall caller active block) κ (Leaves flow)) 1 result self.new }
+        ensures { Makes self.old (λ κ. before (program_of self.old)
+            (frames.ForCall caller active block) κ (Leaves flow)) 2 result self.new }
     {
-        if !self.store.release(self.program.objects.as_slice(), block) {
-            return self.stop(Finish::Wild);
+        let program = self.program;
+        if self.store.release(program.objects.as_slice(), block) {
+            self.store.leave(caller, active);
+            self.give(flow.answer())
+        } else {
+            self.stop(Finish::Wild)
         }
-        self.store.leave(caller, active);
-        self.give(flow.answer())
     }
 
     /// This is done next.

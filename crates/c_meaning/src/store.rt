@@ -32,6 +32,17 @@ pub(crate) struct Activation {
     pub(crate) block: Option<u32>,
 }
 
+impl Activation {
+    /// That of no call.
+    pub(crate) fn empty(alloc: Global) -> Activation {
+        Activation {
+            locals: Vec::new(alloc),
+            parameters: Vec::new(alloc),
+            block: None,
+        }
+    }
+}
+
 /// What a program reads and changes: the call that runs, the data area, the input that is left, and how many calls are
 /// active.
 #[derive(Drop)]
@@ -208,7 +219,7 @@ impl<'a> Store<'a> {
             if !self.put(of, Spot::InBlock(next), 0) {
                 return false;
             }
-            next = next.wrapping_add(of.size());
+            next = w32::add(next, of.size());
         }
         true
     }

@@ -13,3 +13,9 @@ returns-then-put_local c =
     let first = c.in-Some-Begin-default.field-0-0-is in
     let put = state_some _ _ _ c.if-put_local.ensures.done c.if-put_local.ensures.new in
     IfOk-weaker _ _ _ (λ event w. over w (rw (more, first, put) refl) (rw (more, first) (omega arith))) c.wait.ensures
+
+pub returns-in-Some-Store-default : goal.returns-in-Some-Store-default
+returns-in-Some-Store-default c =
+    let more = c.in-Some-Store-default.ensures.cases.0 in
+    let first = c.in-Some-Store-default.field-0-0-is in
+    IfOk-weaker _ _ _ (λ event w. over w (rw (more, first) refl) (rw (more, first) (omega arith))) c.wait-in-Some-Store-default.ensures

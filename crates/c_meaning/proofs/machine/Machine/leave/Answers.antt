@@ -22,5 +22,5 @@ returns c =
 pub returns-in-Some-ForCall : goal.returns-in-Some-ForCall
 returns-in-Some-ForCall c =
     let pop = rw c.in-Some-ForCall.field-0-is at c.in-Some-ForCall.ensures.items in
-    popped_flow c.args.self.now c.pop.new.self (ForCall c.in-Some-ForCall.caller c.in-Some-ForCall.active) c.args.flow pop
-    (over c.give.ensures (rw (c.answer-in-Some-ForCall.ensures, c.leave.ensures) refl) (omega arith))
+    popped_flow c.args.self.now c.pop.new.self (ForCall c.in-Some-ForCall.caller c.in-Some-ForCall.active c.in-Some-ForCall.block) c.args.flow pop
+    (over c.end_call.ensures refl (omega arith))

@@ -20,5 +20,5 @@ returns-in-Some-ForFlow c = passed_value c.args.self.now c.pop.new.self (ForFlow
     (rw c.in-Some-ForFlow.field-0-is at c.in-Some-ForFlow.ensures.items) refl c.give.ensures
 
 pub returns : goal.returns
-returns c = passed_value c.args.self.now c.pop.new.self (ForCall c.in-Some-ForCall.field-0-0 c.in-Some-ForCall.field-0-1) c.args.value
+returns c = passed_value c.args.self.now c.pop.new.self (ForCall c.in-Some-ForCall.field-0-0 c.in-Some-ForCall.field-0-1 c.in-Some-ForCall.field-0-2) c.args.value
     (rw c.in-Some-ForCall.field-0-is at c.in-Some-ForCall.ensures.items) refl c.give-in-Some-ForCall.ensures
