@@ -1,6 +1,6 @@
 // The block of a function's memory locals, while its declarations are read.
-ghost use Rattle.std.specs.Prelude.{◌≡◌, ◌≤◌, OnOk};
-ghost use Rattle.c_types.specs.Types.{size_of};
+ghost use Rattle.std.specs.Prelude.{◌≡◌, ◌≤◌, true, OnOk, IfOk};
+ghost use Rattle.c_types.specs.Types.{size_of, is_scalar};
 ghost use Rattle.c_types.specs.Answers.{Gives};
 ghost use Rattle.c_typed_addressed.specs.Views.{marks};
 ghost use Rattle.c_typed_definition.specs.Rooms.{room_for, is_next_addressed, is_parameter_addressed, one_declared, offset_in, taking};
@@ -84,9 +84,11 @@ impl Room {
     }
 
     /// A parameter lies in the block, where it is stored when a call begins: its offset.
+    #[tactic(auto, using(crate::proofs::Limits::scalar_some))]
     pub fn take_parameter(&mut self, of: CType, number: u32) -> Result<u32, AllocError>
-        requires { (1 ≤ size_of of) × (size_of of ≤ 4) }
-        ensures { OnOk result (room self.new ≡ with_parameter_in of number (room self.old)) }
+        requires { is_scalar of ≡ true }
+        ensures offset { IfOk result (λ n. n ≡ offset_in (size_of of) (room self.old)) }
+        ensures stored { OnOk result (room self.new ≡ with_parameter_in of number (room self.old)) }
     {
         let offset = self.take(of.size(), of.size());
         let value = Expression::Read(Place::Variable(of, Variable::Parameter(number)));
