@@ -10,11 +10,11 @@ use Rattle.c_program.specs.Programs.{ARoutine}
 use Rattle.c_lower_scheme.specs.Trees.{Item}
 use Rattle.c_lower_scheme.specs.Parts.{Emitted, Destination, AsResult}
 use Rattle.c_lower_scheme.specs.Statements.{unless, when, effect, going, if_by, while_by, for_tested, for_of, lower, lower_row}
-use Rattle.c_lower_scheme.specs.Programs.{first_temporary, way_in, way_out, body_of, function_of, lower_all}
+use Rattle.c_lower_scheme.specs.Programs.{way_in, way_out, body_of, function_of, lower_all}
 use Rattle.c_lower_calm.specs.Claim.{SpellsCalm, IsPlainOne, Returns, Stores}
 use Rattle.c_lower_calm.proofs.Plain.{plain_is_one_tree}
 use Rattle.c_lower_laid.specs.Laid.{IsTest, IsEffect, Lies, single, breaks, continues, block, if_away, if_alone, if_else, while_loop, while_constant}
-use Rattle.c_lower_laid.specs.Laid.{do_while, for_loop, loop, turns, constant, ever, LiesRound, LieInTurn, none, next, IsLaid, EachFunctionIsLaid}
+use Rattle.c_lower_laid.specs.Laid.{do_while, for_loop, loop, turns, constant, ever, LiesRound, LieInTurn, none, next, first_of, out_of, IsLaid, EachFunctionIsLaid}
 
 module _ (size count first bytes : ℕ) (out : Destination) (leaves : bytes ≡ 0 → out ≡ AsResult) where
   unless_tests : (c : AnExpression) (to l : ℕ) → IsTest size count first bytes out c (unless size count first out c to l).items
@@ -116,8 +116,8 @@ module _ (size count first bytes : ℕ) (out : Destination) (leaves : bytes ≡ 
 function_is_laid : (pointer count l : ℕ) (g : ARoutine) → IsLaid pointer count g (function_of g (body_of pointer count g l))
 function_is_laid pointer count l g =
     let size : ℕ = length g.locals in
-    let first : ℕ = first_temporary size g.block in
-    let out : Destination = way_out pointer size g.block in
+    let first : ℕ = first_of g in
+    let out : Destination = out_of pointer g in
     let w = way_in size first pointer g.block l in
     let p = lower_row size count first out g.body 0 0 w.labels in
     record {

@@ -90,16 +90,22 @@ module _ (size count first bytes : ℕ) (out : Destination) where
       next : (a : AnAction) (row : SomeActions) (own behind : List Item) → Lies a own → LieInTurn row behind
           → LieInTurn (MoreActions a row) (own ++ behind)
 
+-- a function's first temporary, and where its result goes; the pointer is that of the second stack
+abbrev pub first_of : ARoutine → ℕ
+first_of g = first_temporary (length g.locals) g.block
+
+abbrev pub out_of : ℕ → ARoutine → Destination
+out_of pointer g = way_out pointer (length g.locals) g.block
+
 -- The items of a function are those of its statements. Before them its block is taken, if it has one; behind them it answers 0, and gives
--- the block back. The pointer is that of the second stack.
+-- the block back.
 pub record IsLaid (pointer count : ℕ) (g : ARoutine) (f : TreeFn) : Type 0 where
   pub begin : ℕ
   pub end : ℕ
   pub body : List Item
-  pub lies : LieInTurn (length g.locals) count (first_temporary (length g.locals) g.block) g.block (way_out pointer (length g.locals) g.block)
-      g.body body
-  pub items : f.items ≡ spelled_all ((way_in (length g.locals) (first_temporary (length g.locals) g.block) pointer g.block begin).items
-      ++ (body ++ (delivered (way_out pointer (length g.locals) g.block) (due (Num 0) (first_temporary (length g.locals) g.block) end)).items))
+  pub lies : LieInTurn (length g.locals) count (first_of g) g.block (out_of pointer g) g.body body
+  pub items : f.items ≡ spelled_all ((way_in (length g.locals) (first_of g) pointer g.block begin).items
+      ++ (body ++ (delivered (out_of pointer g) (due (Num 0) (first_of g) end)).items))
 
 -- the functions of the trees are laid out so, each for the program's
 abbrev pub FunctionsAreLaid : AProgram → TreeProgram → Type 0
