@@ -1,6 +1,7 @@
 #!/bin/sh
 # Looks up each input of the tables of docs/faults.md, with its report, in the stored run of `ggdesk`, and names what doesn't stand there. It
-# reads the stored files alone, which `rt ci` compares with what the program writes.
+# reads the stored files alone, which `rt ci` compares with what the program writes. Then it looks up each row's words in the table of
+# `desk_page`, and names what only one of the two has.
 # Usage: bench/faults.sh
 set -eu
 . "$(dirname -- "$0")/common.sh"
@@ -108,5 +109,29 @@ missing = [(report, shown) for report, shown in page if not is_stored(spans(repo
 for report, shown in missing:
     print(f"not in the stored run: {shown}, answered by {report}")
 print(f"{len(page) - len(missing)} of {len(page)} inputs of docs/faults.md stand in the stored run")
-sys.exit(1 if missing or not page else 0)
+
+
+def of_advice():
+    """Why and the way out, of each row of the table of `desk_page`."""
+    with open(f"{HERE}/crates/desk_page/src/advice.rt") as file:
+        texts = re.findall(r'"((?:[^"\\]|\\.)*)"', file.read())
+    plain = [re.sub(r"\\(.)", r"\1", text) for text in texts]
+    return set(zip(plain[1::3], plain[2::3]))
+
+
+def of_words():
+    """The same of each row of the page's tables; a row whose last cell is empty goes on with the one before."""
+    with open(f"{HERE}/docs/faults.md") as file:
+        rows = [re.split(r" *\| *", line.rstrip("\n"))[1:-1] for line in file if line.startswith("| ")]
+    return {tuple(row[2:]) for row in rows if len(row) == 4 and all(row[2:]) and row[3] != "The way out"}
+
+
+# A check with so many summaries, and bytes that are no image, have no row.
+UNSEEN = {pair for pair in of_advice() if pair[0].startswith(("there are too many ways", "the file is no code's image"))}
+told, words = of_advice(), of_words()
+for pair in sorted(words - told):
+    print("not in the table of `desk_page`:", *pair)
+for pair in sorted(told - words - UNSEEN):
+    print("not on the page:", *pair)
+sys.exit(1 if missing or not page or words - told or told - words - UNSEEN else 0)
 PY
