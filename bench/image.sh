@@ -300,7 +300,7 @@ def tell_examples():
     print("| Program | Text, in bytes | Image, in bytes |")
     print("|---|---|---|")
     for path in sorted(glob.glob(f"{examples}/*.c")):
-        put("example.s", written([program, "compile", f"{examples}/vax.gg", path]))
+        put("example.s", answer([program, "compile", f"{examples}/vax.gg", path])[1])
         image = written([program, "image", "example.s"])
         print(f"| `{os.path.basename(path)}` | {os.path.getsize('example.s'):,} | {len(image):,} |", flush=True)
 
