@@ -1,5 +1,5 @@
 // Where the bodies of functions end.
-ghost use Rattle.std.specs.Prelude.{◌≡◌, IfOk};
+ghost use Rattle.std.specs.Prelude.{◌≡◌, ◌<◌, IfOk};
 ghost use Rattle.c_syntax.specs.Ends.{at_first, is_end, behind, body_ends};
 ghost use Rattle.c_syntax.specs.Views.{braces};
 
@@ -9,6 +9,7 @@ use std::alloc::{AllocError, Global};
 
 // What is known of the braces before a token: how many are open, whether the first of them began a body, and whether a
 // closing bracket stands directly before the token.
+#[derive(Drop)]
 struct Braces {
     open: usize,
     is_body: bool,
@@ -55,6 +56,7 @@ impl Braces {
 
 /// The offsets of the `}` that end the bodies of functions, in order: of those that close an outermost `{` directly behind
 /// a `)`.
+#[tactic(auto, unfolding(crate::specs::Ends::body_ends))]
 pub fn body_ends(alloc: Global, tokens: &[Spanned]) -> Result<ListOf<u32>, AllocError>
     ensures { IfOk result (λ ends. ends ≡ body_ends tokens.now) }
 {
@@ -68,5 +70,3 @@ pub fn body_ends(alloc: Global, tokens: &[Spanned]) -> Result<ListOf<u32>, Alloc
     }
     Ok(ListOf::from_vec(ends))
 }
-
-ghost use Rattle.std.specs.Prelude.{◌<◌};

@@ -10,6 +10,7 @@ use Rattle.c_phrases.specs.Classes.{seen}
 use Rattle.c_phrases.specs.Units.{AUnit}
 use Rattle.c_phrases.specs.UnitShapes.{unit_of}
 use Rattle.c_phrases.specs.Grammar.{IsUnit}
+use Rattle.c_syntax.specs.Ends.{body_ends}
 use Rattle.c_syntax_goals.specs.Refusals.{NotHereAt, TooDeepAt}
 use Rattle.c_syntax.specs.declared.fault.SyntaxFault.{SyntaxFault}
 use Rattle.c_syntax.specs.declared.fault.SyntaxFault.TheVariants as syntax
@@ -56,13 +57,13 @@ module _ (bytes : List ℕ) (place : Place) (kind : SourceKind) where
       absurd (no_unit h.unit (subst (λ (ts : List Spanned). IsUnit (seen ts) h.unit) (sym (only h.spells.list h.spells.tokens)) h.spells.phrases))
 
   -- what is left is a fault of the types
-  type_first : (list : List Spanned) (u : AUnit) (R : Type 0) → ((q : ℕ) (j : TokenKind) → FirstFault 0 bytes q j → ⊥) →
-      ((ts : List Spanned) → Tokens 0 bytes ts → list ≡ ts) → ((v : AUnit) → IsUnit (seen list) v → u ≡ v) →
+  type_first : (list : List Spanned) (u : AUnit) (ends : List ℕ) (R : Type 0) → ((q : ℕ) (j : TokenKind) → FirstFault 0 bytes q j → ⊥) →
+      ((ts : List Spanned) → Tokens 0 bytes ts → list ≡ ts) → ((v : AUnit) → IsUnit (seen list) v → u ≡ v) → ends ≡ body_ends list →
       ((q : ℕ) → NotHereAt list q → ⊥) → ((q : ℕ) → TooDeepAt list q → ⊥) →
-      ((q : ℕ) (j : TypeKind) → TextFault u.externals u.end (record { place = q; kind = j }) → place ≡ place_at bytes q → kind ≡ kinds.Types j → R) →
+      ((q : ℕ) (j : TypeKind) → TextFault u.externals ends u.end (record { place = q; kind = j }) → place ≡ place_at bytes q → kind ≡ kinds.Types j → R) →
       IsFaultAt bytes place kind → R
-  type_first list u R fine only unit here deep types (inl h) = absurd (fine h.offset h.fault h.first)
-  type_first list u R fine only unit here deep types (inr (inl h)) = by h.first
+  type_first list u ends R fine only unit bodies here deep types (inl h) = absurd (fine h.offset h.fault h.first)
+  type_first list u ends R fine only unit bodies here deep types (inr (inl h)) = by h.first
     where
       same : list ≡ h.list
       same = only h.list h.tokens
@@ -70,11 +71,13 @@ module _ (bytes : List ℕ) (place : Place) (kind : SourceKind) where
       by : PhraseFaultAt h.list h.offset → R
       by (inl n) = absurd (here h.offset (subst (λ (ts : List Spanned). NotHereAt ts h.offset) (sym same) n.1))
       by (inr n) = absurd (deep h.offset (subst (λ (ts : List Spanned). TooDeepAt ts h.offset) (sym same) n.1))
-  type_first list u R fine only unit here deep types (inr (inr h)) =
+  type_first list u ends R fine only unit bodies here deep types (inr (inr h)) =
       let is : IsUnit (seen list) h.unit =
       subst (λ (ts : List Spanned). IsUnit (seen ts) h.unit) (sym (only h.spells.list h.spells.tokens)) h.spells.phrases in
+      let same : h.ends ≡ ends = h.spells.bodies ∙ (ap body_ends (sym (only h.spells.list h.spells.tokens)) ∙ sym bodies) in
       types h.offset h.fault
-      (subst (λ (v : AUnit). TextFault v.externals v.end (record { place = h.offset; kind = h.fault })) (sym (unit h.unit is)) h.first)
+      (subst (λ (v : AUnit). TextFault v.externals ends v.end (record { place = h.offset; kind = h.fault })) (sym (unit h.unit is))
+      (subst (λ (es : List ℕ). TextFault h.unit.externals es h.unit.end (record { place = h.offset; kind = h.fault })) same h.first))
       h.place_is h.kind_is
 
 -- by the answers of the three steps, where `ts` are the tokens that were found
@@ -116,12 +119,13 @@ module _ (bytes : List ℕ) (items ts : List Spanned) (same : ts ≡ items) (onl
       (λ o n. (deep_refused p o (answered ended (syntax.TooDeep o) n), refl)) h in
       (is ∙ r.0, r.1)
 
-  module _ (ast : Ast) (unit : (u : AUnit) → IsUnit (seen ts) u → unit_of ast ≡ u) (first : IsEnded ts → (g : SyntaxFault) → HasFault ts g → ⊥) where
+  module _ (ast : Ast) (unit : (u : AUnit) → IsUnit (seen ts) u → unit_of ast ≡ u) (bodies : ast.body_ends ≡ body_ends ts)
+      (first : IsEnded ts → (g : SyntaxFault) → HasFault ts g → ⊥) where
     pub types_first : (e : TypeFault) (p : ℕ) (k : TypeKind) (at : Place) → e ≡ type_fault.At p k → at ≡ place_at bytes p →
-        ((f : Fault) → TextFault (unit_of ast).externals (unit_of ast).end f → OnlyFault {X = Unit {0}} (Err e) f) →
+        ((f : Fault) → TextFault (unit_of ast).externals ast.body_ends (unit_of ast).end f → OnlyFault {X = Unit {0}} (Err e) f) →
         (place : Place) (kind : SourceKind) → IsFaultAt bytes place kind → (at ≡ place) × (kinds.Types k ≡ kind)
     types_first e p k at fault is types place kind h =
-        type_first bytes place kind ts (unit_of ast) ((at ≡ place) × (kinds.Types k ≡ kind)) fine only_these unit
+        type_first bytes place kind ts (unit_of ast) ast.body_ends ((at ≡ place) × (kinds.Types k ≡ kind)) fine only_these unit bodies
         (λ o n. first ended (syntax.NotHere o) n) (λ o n. first ended (syntax.TooDeep o) n)
         (λ q j refused here there.
         let one : record { place = q; kind = j } ≡ record { place = p; kind = k } =
@@ -130,9 +134,9 @@ module _ (bytes : List ℕ) (items ts : List Spanned) (same : ts ≡ items) (onl
         let same_kind : k ≡ j = ap (λ (f : Fault). f.kind) (sym one) in
         (is ∙ (ap (place_at bytes) offset ∙ sym here), ap kinds.Types same_kind ∙ sym there)) h
 
-    pub no_fault : ((f : Fault) → TextFault (unit_of ast).externals (unit_of ast).end f → ⊥) → (place : Place) (kind : SourceKind) →
+    pub no_fault : ((f : Fault) → TextFault (unit_of ast).externals ast.body_ends (unit_of ast).end f → ⊥) → (place : Place) (kind : SourceKind) →
         IsFaultAt bytes place kind → ⊥
     no_fault types place kind h =
-        type_first bytes place kind ts (unit_of ast) ⊥ fine only_these unit
+        type_first bytes place kind ts (unit_of ast) ast.body_ends ⊥ fine only_these unit bodies
         (λ o n. first ended (syntax.NotHere o) n) (λ o n. first ended (syntax.TooDeep o) n)
         (λ q j refused here there. types (record { place = q; kind = j }) refused) h

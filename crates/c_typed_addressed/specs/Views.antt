@@ -8,5 +8,5 @@ use Rattle.c_typed_addressed.specs.Statements.{Search}
 abbrev pub marks : Addressed → Marks
 marks a = record { parameters = a.parameters.items; locals = a.locals.items }
 
-abbrev pub search : Held → Search
-search s = record { scope = scope s.blocks; found = marks s.found }
+abbrev pub searched : Held → Search
+searched s = record { scope = scope s.blocks; found = marks s.found }

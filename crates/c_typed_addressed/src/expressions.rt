@@ -1,8 +1,9 @@
 // Where an expression applies `&` to a name.
 ghost use Rattle.std.specs.Prelude.{◌≡◌, MatchOption, None, Some};
 ghost use Rattle.c_phrases.specs.Shapes.{exp, exp_list};
+ghost use Rattle.c_phrases.specs.UnitShapes.{part};
 ghost use Rattle.c_typed_scope.specs.Views.{scope};
-ghost use Rattle.c_typed_addressed.specs.Expressions.{name_of, applied, marks_of, marks_of_all};
+ghost use Rattle.c_typed_addressed.specs.Expressions.{name_of, applied, marks_of, marks_of_all, marks_of_part};
 ghost use Rattle.c_typed_addressed.specs.Views.{marks};
 
 use crate::search::Addressed;
@@ -43,7 +44,10 @@ pub(crate) fn expression(blocks: &Blocks, e: &Expr, found: &mut Addressed)
         Expr::Name { .. } | Expr::Number { .. } | Expr::Str { .. } | Expr::SizeofType { .. } => {}
         Expr::Paren { inner, .. } => expression(blocks, inner, found),
         Expr::Call { arguments, .. } => expressions(blocks, arguments, found),
-        Expr::Index { base, index, .. } => both(blocks, base, index, found),
+        Expr::Index { base, index, .. } => {
+            expression(blocks, base, found);
+            expression(blocks, index, found);
+        }
         Expr::StepAfter { operand, .. } => expression(blocks, operand, found),
         Expr::StepBefore { operand, .. } => expression(blocks, operand, found),
         Expr::Prefix {
@@ -56,7 +60,10 @@ pub(crate) fn expression(blocks: &Blocks, e: &Expr, found: &mut Addressed)
         }
         Expr::SizeofExpr { operand, .. } => expression(blocks, operand, found),
         Expr::Cast { operand, .. } => expression(blocks, operand, found),
-        Expr::Binary { left, right, .. } => both(blocks, left, right, found),
+        Expr::Binary { left, right, .. } => {
+            expression(blocks, left, found);
+            expression(blocks, right, found);
+        }
         Expr::Choice {
             condition,
             first,
@@ -64,19 +71,18 @@ pub(crate) fn expression(blocks: &Blocks, e: &Expr, found: &mut Addressed)
             ..
         } => {
             expression(blocks, condition, found);
-            both(blocks, first, second, found);
+            expression(blocks, first, found);
+            expression(blocks, second, found);
         }
-        Expr::Assign { place, value, .. } => both(blocks, place, value, found),
-        Expr::Comma { left, right } => both(blocks, left, right, found),
+        Expr::Assign { place, value, .. } => {
+            expression(blocks, place, found);
+            expression(blocks, value, found);
+        }
+        Expr::Comma { left, right } => {
+            expression(blocks, left, found);
+            expression(blocks, right, found);
+        }
     }
-}
-
-#[cycle(expression)]
-fn both(blocks: &Blocks, left: &Expr, right: &Expr, found: &mut Addressed)
-    ensures { marks found.new ≡ marks_of (scope blocks.now) (exp right.now) (marks_of (scope blocks.now) (exp left.now) (marks found.old)) }
-{
-    expression(blocks, left, found);
-    expression(blocks, right, found);
 }
 
 /// The same of expressions, from left to right.
@@ -97,6 +103,3 @@ pub(crate) fn maybe(blocks: &Blocks, e: &Option<Expr>, found: &mut Addressed)
         expression(blocks, e, found);
     }
 }
-
-ghost use Rattle.c_phrases.specs.UnitShapes.{part};
-ghost use Rattle.c_typed_addressed.specs.Expressions.{marks_of_part};

@@ -5,7 +5,7 @@ ghost use Rattle.c_typed_scope.specs.Scopes.{is_taken};
 ghost use Rattle.c_typed_scope.specs.Views.{scope};
 ghost use Rattle.c_typed_addressed.specs.Marks.{marked, set, no_marks};
 ghost use Rattle.c_typed_addressed.specs.Statements.{declared, at_first};
-ghost use Rattle.c_typed_addressed.specs.Views.{marks, search};
+ghost use Rattle.c_typed_addressed.specs.Views.{marks, searched};
 
 use c_typed_scope::{Block, Blocks, Entry};
 use c_types::{CType, Variable};
@@ -64,7 +64,7 @@ pub(crate) struct Search {
 impl Search {
     /// Nothing is in scope.
     pub(crate) fn new(alloc: Global) -> Search
-        ensures { search result ≡ at_first }
+        ensures { searched result ≡ at_first }
     {
         Search {
             blocks: Blocks {
@@ -76,13 +76,14 @@ impl Search {
     }
 
     /// A name is in scope from here on. One that the block declares already stays what it is.
+    #[tactic(auto, unfolding(c_typed_scope::specs::Scopes::with_name))]
     pub(crate) fn declare(
         &mut self,
         alloc: Global,
         name: &Name,
         variable: Variable,
     ) -> Result<(), AllocError>
-        ensures { OnOk result (search self.new ≡ declared name.now variable (search self.old)) }
+        ensures { OnOk result (searched self.new ≡ declared name.now variable (searched self.old)) }
     {
         if self.blocks.is_taken(name.as_slice()) {
             return Ok(());

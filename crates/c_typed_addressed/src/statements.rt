@@ -5,8 +5,8 @@ ghost use Rattle.c_phrases.specs.UnitShapes.{declarator_of, declarators_of, init
 ghost use Rattle.c_phrases.specs.UnitShapes.{param_of, param_list};
 ghost use Rattle.c_typed_expressions.specs.Phrases.{init_in, brackets_in};
 ghost use Rattle.c_typed_addressed.specs.Statements.{in_length, in_init, in_declarator, in_declarators, in_statement, in_item, in_items};
-ghost use Rattle.c_typed_addressed.specs.Statements.{in_parameter, in_parameters, addressed};
-ghost use Rattle.c_typed_addressed.specs.Views.{marks, search};
+ghost use Rattle.c_typed_addressed.specs.Statements.{in_parameter, in_parameters, addressed, next_variable, entered, scoped};
+ghost use Rattle.c_typed_addressed.specs.Views.{marks, searched};
 
 use crate::expressions::{expression, expressions, maybe};
 use crate::search::{Addressed, Search};
@@ -15,22 +15,22 @@ use c_phrases::tree::{Declarator, Initialised, Initialiser, Item, Length, Param,
 use c_types::Variable;
 use std::alloc::{AllocError, Global};
 
-fn length(given: &Option<Length>, search: &mut Search)
-    ensures { search search.new ≡ in_length (brackets_in (length_of given.now)) (search search.old) }
+fn length(given: &Option<Length>, state: &mut Search)
+    ensures { searched state.new ≡ in_length (brackets_in (length_of given.now)) (searched state.old) }
 {
     if let Some(given) = given {
-        maybe(&search.blocks, &given.value, &mut search.found);
+        maybe(&state.blocks, &given.value, &mut state.found);
     }
 }
 
-fn initialiser(given: &Option<Initialised>, search: &mut Search)
-    ensures { search search.new ≡ in_init (init_in (initialised_of given.now)) (search search.old) }
+fn initialiser(given: &Option<Initialised>, state: &mut Search)
+    ensures { searched state.new ≡ in_init (init_in (initialised_of given.now)) (searched state.old) }
 {
     if let Some(given) = given {
         match &given.with {
-            Initialiser::Value(e) => expression(&search.blocks, e, &mut search.found),
+            Initialiser::Value(e) => expression(&state.blocks, e, &mut state.found),
             Initialiser::List { items, .. } => {
-                expressions(&search.blocks, items, &mut search.found);
+                expressions(&state.blocks, items, &mut state.found);
             }
         }
     }
@@ -53,20 +53,18 @@ fn variable(storage: Storage, found: &mut Addressed) -> Result<Variable, AllocEr
     }
 }
 
-ghost use Rattle.c_typed_addressed.specs.Statements.{next_variable};
-
 fn declarator(
     alloc: Global,
     storage: Storage,
     d: &Declarator,
-    search: &mut Search,
+    state: &mut Search,
 ) -> Result<(), AllocError>
-    ensures { OnOk result (search search.new ≡ in_declarator storage (declarator_of d.now) (search search.old)) }
+    ensures { OnOk result (searched state.new ≡ in_declarator storage (declarator_of d.now) (searched state.old)) }
 {
-    length(&d.length, search);
-    let variable = variable(storage, &mut search.found)?;
-    search.declare(alloc, &d.name, variable)?;
-    initialiser(&d.initialiser, search);
+    length(&d.length, state);
+    let variable = variable(storage, &mut state.found)?;
+    state.declare(alloc, &d.name, variable)?;
+    initialiser(&d.initialiser, state);
     Ok(())
 }
 
@@ -74,32 +72,38 @@ fn declarators(
     alloc: Global,
     storage: Storage,
     ds: &[Declarator],
-    search: &mut Search,
+    state: &mut Search,
 ) -> Result<(), AllocError>
-    ensures { OnOk result (search search.new ≡ in_declarators storage (declarators_of ds.now) (search search.old)) }
+    ensures { OnOk result (searched state.new ≡ in_declarators storage (declarators_of ds.now) (searched state.old)) }
 {
     for d in ds {
-        declarator(alloc, storage, d, search)?;
+        declarator(alloc, storage, d, state)?;
     }
     Ok(())
 }
 
 #[cycle(blocks)]
-fn statement(alloc: Global, s: &Statement, search: &mut Search) -> Result<(), AllocError>
-    ensures { OnOk result (search search.new ≡ in_statement (statement_of s.now) (search search.old)) }
+fn statement(alloc: Global, s: &Statement, state: &mut Search) -> Result<(), AllocError>
+    ensures { OnOk result (searched state.new ≡ in_statement (statement_of s.now) (searched state.old)) }
 {
     match s {
-        Statement::Block(row) => block(alloc, row, search)?,
-        Statement::Empty | Statement::Break { .. } | Statement::Continue { .. } => {}
-        Statement::Expr(e) => expression(&search.blocks, e, &mut search.found),
-        Statement::Return { value, .. } => maybe(&search.blocks, value, &mut search.found),
+        Statement::Block(row) => block(alloc, row, state),
+        Statement::Empty | Statement::Break { .. } | Statement::Continue { .. } => Ok(()),
+        Statement::Expr(e) => {
+            expression(&state.blocks, e, &mut state.found);
+            Ok(())
+        }
+        Statement::Return { value, .. } => {
+            maybe(&state.blocks, value, &mut state.found);
+            Ok(())
+        }
         Statement::If {
             condition,
             then,
             ..
         } => {
-            expression(&search.blocks, condition, &mut search.found);
-            statement(alloc, then, search)?;
+            expression(&state.blocks, condition, &mut state.found);
+            statement(alloc, then, state)
         }
         Statement::IfElse {
             condition,
@@ -107,25 +111,26 @@ fn statement(alloc: Global, s: &Statement, search: &mut Search) -> Result<(), Al
             otherwise,
             ..
         } => {
-            expression(&search.blocks, condition, &mut search.found);
-            statement(alloc, then, search)?;
-            statement(alloc, otherwise, search)?;
+            expression(&state.blocks, condition, &mut state.found);
+            statement(alloc, then, state)?;
+            statement(alloc, otherwise, state)
         }
         Statement::While {
             condition,
             body,
             ..
         } => {
-            expression(&search.blocks, condition, &mut search.found);
-            statement(alloc, body, search)?;
+            expression(&state.blocks, condition, &mut state.found);
+            statement(alloc, body, state)
         }
         Statement::Do {
             body,
             condition,
             ..
         } => {
-            statement(alloc, body, search)?;
-            expression(&search.blocks, condition, &mut search.found);
+            statement(alloc, body, state)?;
+            expression(&state.blocks, condition, &mut state.found);
+            Ok(())
         }
         Statement::For {
             start,
@@ -134,78 +139,76 @@ fn statement(alloc: Global, s: &Statement, search: &mut Search) -> Result<(), Al
             body,
             ..
         } => {
-            maybe(&search.blocks, start, &mut search.found);
-            maybe(&search.blocks, condition, &mut search.found);
-            maybe(&search.blocks, step, &mut search.found);
-            statement(alloc, body, search)?;
+            maybe(&state.blocks, start, &mut state.found);
+            maybe(&state.blocks, condition, &mut state.found);
+            maybe(&state.blocks, step, &mut state.found);
+            statement(alloc, body, state)
         }
     }
-    Ok(())
 }
 
 // The items of a block that has a scope of its own.
 #[cycle(blocks)]
-fn block(alloc: Global, row: &[Item], search: &mut Search) -> Result<(), AllocError>
-    ensures { OnOk result (search search.new ≡ scoped (in_items (items_of row.now) (entered (search search.old)))) }
+fn block(alloc: Global, row: &[Item], state: &mut Search) -> Result<(), AllocError>
+    ensures { OnOk result (searched state.new ≡ scoped (in_items (items_of row.now) (entered (searched state.old)))) }
 {
-    search.blocks.enter(alloc)?;
-    items(alloc, row, search)?;
-    search.blocks.leave();
+    state.blocks.enter(alloc)?;
+    items(alloc, row, state)?;
+    state.blocks.leave();
     Ok(())
 }
 
-ghost use Rattle.c_typed_addressed.specs.Statements.{entered, scoped};
-
 #[cycle(blocks)]
-fn one_item(alloc: Global, i: &Item, search: &mut Search) -> Result<(), AllocError>
-    ensures { OnOk result (search search.new ≡ in_item (item_onto i.now no_items) (search search.old)) }
+fn one_item(alloc: Global, i: &Item, state: &mut Search) -> Result<(), AllocError>
+    ensures { OnOk result (searched state.new ≡ in_item (item_onto i.now no_items) (searched state.old)) }
 {
     match i {
-        Item::Local(l) => declarators(alloc, l.storage, &l.declarators, search),
-        Item::Statement(s) => statement(alloc, s, search),
+        Item::Local(l) => declarators(alloc, l.storage, &l.declarators, state),
+        Item::Statement(s) => statement(alloc, s, state),
     }
 }
 
 #[cycle(blocks)]
-fn items(alloc: Global, row: &[Item], search: &mut Search) -> Result<(), AllocError>
-    ensures { OnOk result (search search.new ≡ in_items (items_of row.now) (search search.old)) }
+fn items(alloc: Global, row: &[Item], state: &mut Search) -> Result<(), AllocError>
+    ensures { OnOk result (searched state.new ≡ in_items (items_of row.now) (searched state.old)) }
 {
     for i in row {
-        one_item(alloc, i, search)?;
+        one_item(alloc, i, state)?;
     }
     Ok(())
 }
 
-fn parameter(alloc: Global, p: &Param, search: &mut Search) -> Result<(), AllocError>
-    ensures { OnOk result (search search.new ≡ in_parameter (param_of p.now) (search search.old)) }
+fn parameter(alloc: Global, p: &Param, state: &mut Search) -> Result<(), AllocError>
+    ensures { OnOk result (searched state.new ≡ in_parameter (param_of p.now) (searched state.old)) }
 {
-    length(&p.length, search);
-    let number = search.found.parameters.len();
+    length(&p.length, state);
+    let number = state.found.parameters.len();
     if number > 0xffff_ffff {
         return Err(AllocError);
     }
-    search.found.parameters.push(false)?;
+    state.found.parameters.push(false)?;
     match &p.name {
         None => Ok(()),
-        Some(name) => search.declare(alloc, &name.name, Variable::Parameter(number as u32)),
+        Some(name) => state.declare(alloc, &name.name, Variable::Parameter(number as u32)),
     }
 }
 
-fn parameters(alloc: Global, ps: &[Param], search: &mut Search) -> Result<(), AllocError>
-    ensures { OnOk result (search search.new ≡ in_parameters (param_list ps.now) (search search.old)) }
+fn parameters(alloc: Global, ps: &[Param], state: &mut Search) -> Result<(), AllocError>
+    ensures { OnOk result (searched state.new ≡ in_parameters (param_list ps.now) (searched state.old)) }
 {
     for p in ps {
-        parameter(alloc, p, search)?;
+        parameter(alloc, p, state)?;
     }
     Ok(())
 }
 
 /// To which of its parameters and automatic locals a function applies `&`, evaluated or not, also in parentheses.
+#[tactic(auto, unfolding(crate::specs::Statements::addressed))]
 pub fn addressed(alloc: Global, params: &[Param], body: &[Item]) -> Result<Addressed, AllocError>
     ensures { IfOk result (λ found. marks found ≡ addressed (param_list params.now) (items_of body.now)) }
 {
-    let mut search = Search::new(alloc);
-    parameters(alloc, params, &mut search)?;
-    items(alloc, body, &mut search)?;
-    Ok(search.found)
+    let mut state = Search::new(alloc);
+    parameters(alloc, params, &mut state)?;
+    items(alloc, body, &mut state)?;
+    Ok(state.found)
 }

@@ -28,12 +28,13 @@ use Rattle.c_typed_scope.specs.Contents.{Filled, with_contents, filled, filled_t
 use Rattle.c_typed_expressions.specs.Phrases.{init_in, brackets_in, params_in}
 use Rattle.c_typed_expressions.specs.Expressions.{integer_of, beside, sizeof_unless, is_function, type_exp, type_exps}
 use Rattle.c_program.specs.Statements.{ADeclaration, AnAction}
-use Rattle.c_program.specs.Programs.{AProgram}
+use Rattle.c_program.specs.Programs.{ARoutine, AProgram}
 use Rattle.c_typed_definition.specs.Initialisers.{type_length, type_element, type_elements}
 use Rattle.c_typed_definition.specs.State.{State, with_area, measuring, counted_static, laid, with_local, with_register}
 use Rattle.c_typed_definition.specs.Declarations.{length_in, literals_in, contents_of, object_with}
 use Rattle.c_typed_definition.specs.Declarations.{plain_object, counted_array, array_object, object_by, type_object}
-use Rattle.c_typed_definition.specs.Automatics.{begun, type_automatic, type_local, type_locals}
+use Rattle.c_typed_definition.specs.Automatics.{memory_variable, memory_array, type_value, begun, type_store, memory_begun, type_stores, array_begun, filled_array, automatic_length}
+use Rattle.c_typed_definition.specs.Automatics.{automatic_array, automatic_variable, automatic_by, type_automatic, type_local, type_locals}
 use Rattle.c_typed_definition.specs.Statements.{entered, jump, type_full, type_condition, type_maybe, type_maybe_condition, type_return, type_statement, type_items}
 use Rattle.c_typed_definition.specs.Headings.{Text, with_declared, agrees}
 use Rattle.c_typed_definition.specs.Bodies.{entered_function}
@@ -41,7 +42,8 @@ use Rattle.c_typed_definition.specs.Headings.{earlier_by, head_of, is_below}
 use Rattle.c_typed_definition.specs.Signatures.{signature_of, known}
 use Rattle.c_typed_definition.specs.Texts.{type_parameter, parameter_length, type_parameters, type_body}
 use Rattle.c_typed_definition.specs.Texts.{type_introduced, type_function, type_globals, type_declared}
-use Rattle.c_typed_definition.specs.Texts.{type_externals, whole_by, main_of, empty_text, type_text}
+use Rattle.c_typed_definition.specs.Texts.{type_externals, any_block, stacked_if, whole_by, main_of, empty_text, type_text}
+use Rattle.c_typed_scope.specs.Stack.{stack_size, with_stack}
 use Rattle.c_typed_check.specs.Laid.{LiesBehind, LieFrom, AreLaid}
 use Rattle.c_typed_law.proofs.Law.{text_means}
 use Rattle.c_typed_law.proofs.Declared.{declared_area, parameter_area}
@@ -204,23 +206,67 @@ module _ (names : List (List ℕ × Entry)) (signatures : List Signature) where
   unfolding type_object
   object_leaves is_static spec d s = leave_then _ _ _ _ _ (leave_any (IsLaid s.area) _) (λ ok. object_by_leaves is_static _ d (brackets_in d.length) s)
 
-  begun_leaves : (t : CType) (n : ℕ) (i : Option AnInit) (s : State) → LeavesState s (begun names signatures t n i s)
-  begun_leaves t n None s = leave_ok _ _ _ (λ p. p)
-  begun_leaves t n (Some (elements es trailing)) s = leave_ok _ _ _ (λ p. p)
-  begun_leaves t n (Some (value e)) s = leave_then _ _ _ _ _ (exp_leaves names signatures s.scope e s.area) (λ x. leave_then _ _ _ _ _ (leave_any (IsLaid x.1) _) (λ y. leave_ok _ _ _ (λ p. p)))
+  value_leaves : (t : CType) (e : AnExp) (s : State) → LeavesState s (type_value names signatures t e s)
+  value_leaves t e s = leave_then _ _ _ _ _ (exp_leaves names signatures s.scope e s.area) (λ x. leave_then _ _ _ _ _ (leave_any (IsLaid x.1) _) (λ y. leave_ok _ _ _ (λ p. p)))
 
-  automatic_leaves : (spec : Spec) (d : ADeclarator) (s : State) → LeavesState s (type_automatic names signatures spec d s)
+  begun_leaves : (t : CType) (n : ℕ) (i : Option AnInit) (done : List ADeclaration) (s : State) → LeavesState s (begun names signatures t n i done s)
+  begun_leaves t n None done s = leave_ok _ _ _ (λ p. p)
+  begun_leaves t n (Some (elements es trailing)) done s = leave_ok _ _ _ (λ p. p)
+  begun_leaves t n (Some (value e)) done s = leave_then _ _ _ _ _ (value_leaves t e s) (λ x. leave_ok _ _ _ (λ p. p))
+
+  store_leaves : (t : CType) (o : ℕ) (e : AnExp) (done : List ADeclaration) (s : State) → LeavesState s (type_store names signatures t o e done s)
+  store_leaves t o e done s = leave_then _ _ _ _ _ (value_leaves t e s) (λ x. leave_ok _ _ _ (λ p. p))
+
+  memory_begun_leaves : (t : CType) (o : ℕ) (i : Option AnInit) (done : List ADeclaration) (s : State) → LeavesState s (memory_begun names signatures t o i done s)
+  memory_begun_leaves t o None done s = leave_ok _ _ _ (λ p. p)
+  memory_begun_leaves t o (Some (elements es trailing)) done s = leave_ok _ _ _ (λ p. p)
+  memory_begun_leaves t o (Some (value e)) done s = store_leaves t o e _ s
+
+  stores_leave : (t : CType) (o : ℕ) (es : SomeExps) (done : List ADeclaration) (s : State) → LeavesState s (type_stores names signatures t o es done s)
+  stores_leave t o no_exps done s = leave_ok _ _ _ (λ p. p)
+  stores_leave t o (exps e es) done s = leave_then _ _ _ _ _ (store_leaves t o e done s) (λ r. stores_leave t (o + size_of t) es r.0 r.1)
+
+  array_begun_leaves : (t : CType) (o : ℕ) (i : Option AnInit) (done : List ADeclaration) (s : State) → LeavesState s (array_begun names signatures t o i done s)
+  array_begun_leaves t o None done s = leave_ok _ _ _ (λ p. p)
+  array_begun_leaves t o (Some (elements es trailing)) done s = stores_leave t o es done s
+  array_begun_leaves t o (Some (value e)) done s = leave_ok _ _ _ (λ p. p)
+
+  filled_array_leaves : (t : CType) (o n : ℕ) (i : Option AnInit) (done : List ADeclaration) (s : State) → LeavesState s (filled_array names signatures t o n i done s)
+  filled_array_leaves t o n i done s = leave_then _ _ _ _ _ (array_begun_leaves t o i done s) (λ r. leave_ok _ _ _ (λ p. p))
+
+  automatic_length_leaves : (l : Option AnExp) (i : Option AnInit) (s : State) → LeavesState s (automatic_length names signatures l i s)
+  automatic_length_leaves None i s = leave_ok _ _ _ (λ p. p)
+  automatic_length_leaves (Some e) i s = leave_then _ _ _ _ _ (length_leaves names signatures s.scope e s.area) (λ r. leave_ok _ _ _ (λ p. p))
+
+  automatic_array_leaves : (t : CType) (d : ADeclarator) (l : Option AnExp) (done : List ADeclaration) (s : State) → LeavesState s (automatic_array names signatures t d l done s)
+  unfolding automatic_array
+  automatic_array_leaves t d l done s = leave_then _ _ _ _ _ (automatic_length_leaves l (init_in d.init) s)
+      (λ m. leave_then _ _ _ _ _ (leave_any (IsLaid m.1.area) _) (λ n. filled_array_leaves t _ n (init_in d.init) done (memory_array t (n * size_of t) d m.1)))
+
+  automatic_variable_leaves : (in_block : Bool) (t : CType) (d : ADeclarator) (done : List ADeclaration) (s : State)
+      → LeavesState s (automatic_variable names signatures in_block t d done s)
+  unfolding automatic_variable
+  automatic_variable_leaves true t d done s = memory_begun_leaves t _ (init_in d.init) done (memory_variable t d s)
+  automatic_variable_leaves false t d done s = begun_leaves t (length s.locals) (init_in d.init) done (with_local t d.name s)
+
+  automatic_by_leaves : (l : Option (Option AnExp)) (is_register : Bool) (t : CType) (d : ADeclarator) (done : List ADeclaration) (s : State)
+      → LeavesState s (automatic_by names signatures l is_register t d done s)
+  automatic_by_leaves None is_register t d done s = automatic_variable_leaves _ t d done s
+  automatic_by_leaves (Some l) is_register t d done s = automatic_array_leaves t d l done s
+
+  automatic_leaves : (is_register : Bool) (spec : Spec) (d : ADeclarator) (done : List ADeclaration) (s : State)
+      → LeavesState s (type_automatic names signatures is_register spec d done s)
   unfolding type_automatic
-  automatic_leaves spec d s = leave_then _ _ _ _ _ (leave_any (IsLaid s.area) _) (λ ok. begun_leaves _ (length s.locals) (init_in d.init) (with_local _ d.name s))
+  automatic_leaves is_register spec d done s = leave_then _ _ _ _ _ (leave_any (IsLaid s.area) _) (λ ok. automatic_by_leaves (brackets_in d.length) is_register _ d done s)
 
-  local_leaves : (storage : Storage) (spec : Spec) (d : ADeclarator) (s : State) → LeavesState s (type_local names signatures storage spec d s)
-  local_leaves storages.Automatic spec d s = automatic_leaves spec d s
-  local_leaves (storages.Register at) spec d s = automatic_leaves spec d (with_register s)
-  local_leaves (storages.Static at) spec d s = leave_then _ _ _ _ _ (object_leaves true spec d s) (λ r. leave_ok _ _ _ (λ p. p))
+  local_leaves : (storage : Storage) (spec : Spec) (d : ADeclarator) (done : List ADeclaration) (s : State) → LeavesState s (type_local names signatures storage spec d done s)
+  local_leaves storages.Automatic spec d done s = automatic_leaves false spec d done s
+  local_leaves (storages.Register at) spec d done s = automatic_leaves true spec d done (with_register s)
+  local_leaves (storages.Static at) spec d done s = leave_then _ _ _ _ _ (object_leaves true spec d s) (λ r. leave_ok _ _ _ (λ p. p))
 
   locals_leave : (storage : Storage) (spec : Spec) (ds : List ADeclarator) (done : List ADeclaration) (s : State) → LeavesState s (type_locals names signatures storage spec ds done s)
   locals_leave storage spec [] done s = leave_ok _ _ _ (λ p. p)
-  locals_leave storage spec (d ∷ ds) done s = leave_then _ _ _ _ _ (local_leaves storage spec d s) (λ r. locals_leave storage spec ds (done ++ r.0 ∷ []) r.1)
+  locals_leave storage spec (d ∷ ds) done s = leave_then _ _ _ _ _ (local_leaves storage spec d done s) (λ r. locals_leave storage spec ds r.0 r.1)
 
   full_leaves : (e : AnExp) (s : State) → LeavesState s (type_full names signatures e s)
   unfolding type_full
@@ -293,11 +339,12 @@ module _ (names : List (List ℕ × Entry)) (signatures : List Signature) where
 
   body_leaves : (spec : Spec) (f : AFunction) (row : Option SomeItems) (s : State) (t : Text) → Leaves (IsLaid s.area) (λ (r : Text). IsLaid r.state.area) (type_body names signatures spec f row s t)
   body_leaves spec f None s t = leave_ok _ _ _ (λ p. p)
-  body_leaves spec f (Some row) s t = leave_then _ _ _ _ _ (items_leave names signatures _ false row s) (λ r. leave_ok _ _ _ (λ p. p))
+  body_leaves spec f (Some row) s t = leave_then _ _ _ _ _ (items_leave names signatures _ false row s)
+      (λ r. leave_then _ _ _ _ _ (leave_any (IsLaid r.1.area) _) (λ ok. leave_ok _ _ _ (λ p. p)))
 
   introduced_leaves : (earlier : Option ℕ) (spec : Spec) (f : AFunction) (t : Text) → LeavesText t (type_introduced names signatures earlier spec f t)
   unfolding type_introduced
-  introduced_leaves earlier spec f t = leave_then _ _ _ _ _ (parameters_leave (is_some f.body) f.at (params_in f.params) 0 (entered_function t.state))
+  introduced_leaves earlier spec f t = leave_then _ _ _ _ _ (parameters_leave (is_some f.body) f.at (params_in f.params) 0 (entered_function f t.state))
       (λ s. leave_then _ _ _ _ _ (leave_any (IsLaid s.area) (agrees earlier t.declared (signature_of spec f) f.at)) (λ ok. body_leaves spec f f.body s t))
 
   function_leaves : (spec : Spec) (f : AFunction) (t : Text) → LeavesText t (type_function names signatures spec f t)
@@ -319,12 +366,22 @@ module _ (names : List (List ℕ × Entry)) (signatures : List Signature) where
   externals_leave [] t = leave_ok _ _ _ (λ p. p)
   externals_leave (e ∷ es) t = leave_then _ _ _ _ _ (declared_leaves e.spec e.declared t) (λ next. externals_leave es next)
 
-whole_leaves : (main : Option ℕ) (end : ℕ) (t : Text) → Leaves (IsLaid t.state.area) (λ (p : AProgram). AreLaid p.objects) (whole_by main end t)
-whole_leaves None end t = leave_bad _ _ _
-whole_leaves (Some n) end t = leave_ok _ _ _ (λ l. record { last = t.state.area.end; lie = l.lie })
+stack_leaves : (at : ℕ) (a : Area) → Leaves (IsLaid a) IsLaid (with_stack at a)
+unfolding with_stack
+stack_leaves at a = leave_then _ _ _ _ _ (placed_leaves at _ 4 4 [] a)
+    (λ sp. leave_then _ _ _ _ _ (placed_leaves at _ 4 stack_size [] sp.1) (λ area. leave_ok _ _ _ (λ l. filled_leaves _ _ _ (filled_leaves _ _ _ l))))
+
+stacked_leaves : (any : Bool) (at : ℕ) (a : Area) → Leaves (IsLaid a) IsLaid (stacked_if any at a)
+stacked_leaves true at a = stack_leaves at a
+stacked_leaves false at a = leave_ok _ _ _ (λ p. p)
+
+whole_leaves : (main : Option ℕ) (end : ℕ) (bodies : List ARoutine) (a : Area) → Leaves (IsLaid a) (λ (p : AProgram). AreLaid p.objects) (whole_by main end bodies a)
+whole_leaves None end bodies a = leave_bad _ _ _
+whole_leaves (Some n) end bodies a = leave_ok _ _ _ (λ l. record { last = a.end; lie = l.lie })
 
 pub typed_are_laid : (p : AProgram) → IsTypedUnit p → AreLaid p.objects
 unfolding type_text
 typed_are_laid p given =
-    (leave_then _ _ _ _ _ (externals_leave (known given.unit.externals).names (known given.unit.externals).signatures given.unit.externals empty_text)
-    (λ t. whole_leaves (main_of t.bodies) given.unit.end t)).leaves p ((text_means given.unit.externals given.unit.end).only p given.typed) (record { lie = refl })
+    (leave_then _ _ _ _ _ (externals_leave (known given.unit.externals).names (known given.unit.externals).signatures given.unit.externals (empty_text given.ends))
+    (λ t. leave_then _ _ _ _ _ (stacked_leaves (any_block t.bodies) given.unit.end t.state.area) (λ a. whole_leaves (main_of t.bodies) given.unit.end t.bodies a))).leaves p
+    ((text_means given.unit.externals given.ends given.unit.end).only p given.typed) (record { lie = refl })

@@ -6,6 +6,7 @@ use Rattle.c_phrases.specs.declared.operator.Spec.{Spec}
 use Rattle.c_phrases.specs.Units.{SomeItems, AFunction, ADeclared, function, globals, AnExternal, AUnit}
 use Rattle.c_types.specs.declared.types.CType.{CType}
 use Rattle.c_types.specs.Answers.{Fault, bad, ◌>>=◌}
+use Rattle.c_typed_scope.specs.Layout.{Area}
 use Rattle.c_typed_scope.specs.declared.entry.Entry.{Entry}
 use Rattle.c_typed_scope.specs.declared.entry.Signature.{Signature}
 use Rattle.c_program.specs.declared.program.Routine.{Routine}
@@ -17,12 +18,12 @@ use Rattle.c_typed_expressions.specs.Expressions.{integer_of, written}
 use Rattle.c_typed_scope.specs.Scopes.{find}
 use Rattle.c_typed_definition.specs.Statements.{type_items}
 use Rattle.c_typed_definition.specs.Headings.{Text, with_declared, with_state, with_body}
-use Rattle.c_typed_definition.specs.Bodies.{body_of, left_function}
+use Rattle.c_typed_definition.specs.Bodies.{fits_stack, end_in, routine_of, left_function}
 use Rattle.c_typed_definition.specs.Headings.{agrees, earlier_by, head_of, is_below}
 use Rattle.c_typed_definition.specs.Bodies.{entered_function}
 use Rattle.c_typed_definition.specs.Signatures.{signature_of, known}
 use Rattle.c_typed_definition.specs.Texts.{type_parameters, type_globals, type_body, type_introduced, type_function}
-use Rattle.c_typed_definition.specs.Texts.{type_declared, type_external, type_externals, main_of, whole_by, type_text}
+use Rattle.c_typed_definition.specs.Texts.{type_declared, type_external, type_externals, any_block, stacked_if, main_of, whole_by, whole, type_text}
 use Rattle.c_typed_definition.specs.Texts.{empty_text}
 use Rattle.c_typed_law.proofs.Law.{text_means}
 use Rattle.c_typed_law.proofs.Declared.{declared_bodies}
@@ -30,7 +31,7 @@ use Rattle.c_typed_check.specs.Typed.{IsTypedUnit, need_in, need_at}
 use Rattle.c_typed_check.proofs.Texts.{fine}
 
 pub record KeepsNeed (r : ARoutine) : Type 0 where
-  pub need_is : r.need ≡ need_of r.locals r.body
+  pub need_is : r.need ≡ need_of r.locals r.block r.body
 
 abbrev pub AllKeep : List ARoutine → Type 0
 AllKeep [] = Unit {0}
@@ -54,14 +55,16 @@ module _ (names : List (List ℕ × Entry)) (signatures : List Signature) where
   body_keeps : (spec : Spec) (f : AFunction) (row : Option SomeItems) (s : State) (t u : Text) → type_body names signatures spec f row s t ≡ Ok u → AllKeep t.bodies → AllKeep u.bodies
   body_keeps spec f None s t u typed keep = subst (λ x. AllKeep x.bodies) (ok_same _ _ typed) keep
   body_keeps spec f (Some row) s t u typed keep =
-      let b = bound (type_items names signatures (written spec f.stars) false row s) (λ r. fine (with_body (body_of spec f r.1.locals r.1.registers r.0) (with_state (left_function r.1) t))) u typed in
-      subst (λ x. AllKeep x.bodies) (ok_same (with_body (body_of spec f b.part.1.locals b.part.1.registers b.part.0) (with_state (left_function b.part.1) t)) u b.rest)
-      (all_keep_more t.bodies (body_of spec f b.part.1.locals b.part.1.registers b.part.0) keep (record { need_is = refl }))
+      let b = bound (type_items names signatures (written spec f.stars) false row s)
+      (λ r. fits_stack (end_in t) r.1.room >>= λ ok. fine (with_body (routine_of spec f r.1 r.0) (with_state (left_function r.1) t))) u typed in
+      let c = bound (fits_stack (end_in t) b.part.1.room) (λ ok. fine (with_body (routine_of spec f b.part.1 b.part.0) (with_state (left_function b.part.1) t))) u b.rest in
+      subst (λ x. AllKeep x.bodies) (ok_same (with_body (routine_of spec f b.part.1 b.part.0) (with_state (left_function b.part.1) t)) u c.rest)
+      (all_keep_more t.bodies (routine_of spec f b.part.1 b.part.0) keep (record { need_is = refl }))
 
   introduced_keeps : (earlier : Option ℕ) (spec : Spec) (f : AFunction) (t u : Text) → type_introduced names signatures earlier spec f t ≡ Ok u → AllKeep t.bodies → AllKeep u.bodies
   unfolding type_introduced
   introduced_keeps earlier spec f t u typed keep =
-      let a = bound (type_parameters names signatures (is_some f.body) f.at (params_in f.params) 0 (entered_function t.state))
+      let a = bound (type_parameters names signatures (is_some f.body) f.at (params_in f.params) 0 (entered_function f t.state))
       (λ s. agrees earlier t.declared (signature_of spec f) f.at >>= λ same. type_body names signatures spec f f.body s t) u typed in
       let b = bound (agrees earlier t.declared (signature_of spec f) f.at) (λ same. type_body names signatures spec f f.body a.part t) u a.rest in
       body_keeps spec f f.body a.part t u b.rest keep
@@ -88,17 +91,18 @@ module _ (names : List (List ℕ × Entry)) (signatures : List Signature) where
       let b = bound (type_declared names signatures e.spec e.declared t) (λ next. type_externals names signatures es next) u typed in
       externals_keep es b.part u b.rest (declared_keeps e.spec e.declared t b.part b.is keep)
 
-whole_keeps : (main : Option ℕ) (end : ℕ) (t : Text) (p : AProgram) → whole_by main end t ≡ Ok p → AllKeep t.bodies → AllKeep p.routines
-whole_keeps None end t p typed keep = absurd (cc)
-whole_keeps (Some n) end t p typed keep = subst (λ x. AllKeep x.routines) (ok_same _ _ typed) keep
+whole_keeps : (main : Option ℕ) (end : ℕ) (bodies : List ARoutine) (a : Area) (p : AProgram) → whole_by main end bodies a ≡ Ok p → AllKeep bodies → AllKeep p.routines
+whole_keeps None end bodies a p typed keep = absurd (cc)
+whole_keeps (Some n) end bodies a p typed keep = subst (λ x. AllKeep x.routines) (ok_same _ _ typed) keep
 
 pub typed_keeps : (p : AProgram) → IsTypedUnit p → AllKeep p.routines
 unfolding type_text
 typed_keeps p given =
-    let b = bound (type_externals (known given.unit.externals).names (known given.unit.externals).signatures given.unit.externals empty_text)
-    (λ t. whole_by (main_of t.bodies) given.unit.end t) p ((text_means given.unit.externals given.unit.end).only p given.typed) in
-    whole_keeps (main_of b.part.bodies) given.unit.end b.part p b.rest (externals_keep (known given.unit.externals).names (known given.unit.externals).signatures given.unit.externals
-    empty_text b.part b.is tt)
+    let b = bound (type_externals (known given.unit.externals).names (known given.unit.externals).signatures given.unit.externals (empty_text given.ends))
+    (λ t. whole given.unit.end t) p ((text_means given.unit.externals given.ends given.unit.end).only p given.typed) in
+    let c = bound (stacked_if (any_block b.part.bodies) given.unit.end b.part.state.area) (λ a. whole_by (main_of b.part.bodies) given.unit.end b.part.bodies a) p b.rest in
+    whole_keeps (main_of b.part.bodies) given.unit.end b.part.bodies c.part p c.rest (externals_keep (known given.unit.externals).names (known given.unit.externals).signatures
+    given.unit.externals (empty_text given.ends) b.part b.is tt)
 
 pub kept_need : (rs : List Routine) (n : ℕ) (d : Routine) → AllKeep (map routine rs) → n < length rs → (get_or rs n d).need ≡ need_in (slice_get (map routine rs) n)
 kept_need [] n d keep lt = absurd (omega arith)

@@ -1,6 +1,7 @@
 -- Externals and declarators that are read one after another: what is left decides.
 use Rattle.std.proofs.Common.{◌≡◌, ℕ, ◌+◌, ◌<◌, ◌≤◌, List, [], ◌∷◌, length, drop, get_or, map, refl, ap, sym, ◌∙◌, Result, Ok, Option, Some, None, true, false, Bool, cond, arith}
-use Rattle.std.specs.List.{position_from}
+use Rattle.std.specs.List.{position_from, list_any}
+use Rattle.std.specs.Prelude.{nat_lt, ◌||◌}
 use Rattle.std.proofs.lemmas.List.{drop_more, drop_all}
 use Rattle.c_phrases.specs.declared.operator.Spec.{Spec}
 use Rattle.c_phrases.specs.declared.tree.Declarator.{Declarator}
@@ -11,6 +12,7 @@ use Rattle.c_types.specs.declared.fault.TypeFault.{TypeFault}
 use Rattle.c_types.specs.declared.fault.TypeFault.TheVariants.{NoMemory, At}
 use Rattle.c_types.specs.declared.fault.TypeKind.TheVariants.{NoMain}
 use Rattle.c_types.specs.Answers.{Fault, bad, Fails}
+use Rattle.c_typed_scope.specs.Layout.{Area}
 use Rattle.c_typed_scope.specs.declared.entry.Entry.{Entry}
 use Rattle.c_typed_scope.specs.declared.entry.Signature.{Signature}
 use Rattle.c_program.specs.declared.program.Routine.{Routine}
@@ -19,7 +21,7 @@ use Rattle.c_typed_definition.specs.State.{State}
 use Rattle.c_typed_definition.specs.Declarations.{type_object}
 use Rattle.c_typed_definition.specs.Signatures.{Known, known, known_with, known_from}
 use Rattle.c_typed_definition.specs.Headings.{Text}
-use Rattle.c_typed_definition.specs.Texts.{empty_text, type_text, type_globals, type_external}
+use Rattle.c_typed_definition.specs.Texts.{empty_text, type_text, type_globals, type_external, any_block, stacked_if}
 use Rattle.c_typed_definition.specs.Texts.{type_externals, is_main, behind, main_of}
 
 -- an answer that is no fault of types
@@ -89,40 +91,69 @@ main_from (r ∷ rs) n = by (begins_run r) (main_from rs (n + 1))
 pub main_is : (rs : List Routine) → position_from begins_run 0 rs ≡ main_of (map routine rs)
 main_is rs = main_from rs 0 ∙ from_none (main_of (map routine rs))
 
+-- some function has memory locals
+abbrev pub has_block : Routine → Bool
+has_block r = nat_lt 0 r.block
+
+pub any_is : (rs : List Routine) → list_any has_block rs ≡ any_block (map routine rs)
+any_is [] = refl
+any_is (r ∷ rs) = ap (λ (b : Bool). nat_lt 0 r.block || b) (any_is rs)
+
 -- a whole text: the functions that are known, and the externals, as the code holds them
-module _ (items l m : List External) (end : ℕ) (f : Known) (begun : Text) (is_l : l ≡ items) (is_m : m ≡ items) (known_is : fine (known (externals_of l)) ≡ Ok f)
-    (begins : fine empty_text ≡ Ok begun) where
+module _ (items l m : List External) (ends : List ℕ) (end : ℕ) (f : Known) (begun : Text) (is_l : l ≡ items) (is_m : m ≡ items)
+    (known_is : fine (known (externals_of l)) ≡ Ok f) (begins : fine (empty_text ends) ≡ Ok begun) where
   all_known : known (externals_of items) ≡ f
   all_known =
       let k : known (externals_of l) ≡ f = cc in
       ap (λ x. known (externals_of x)) (sym is_l) ∙ k
 
-  all_begun : empty_text ≡ begun
+  all_begun : empty_text ends ≡ begun
   all_begun = cc
 
-  pub whole_runs : (t : Text) (n : ℕ) (os : List Object) (rs found : List Routine) → type_externals f.names f.signatures (externals_of m) begun ≡ Ok t → Some n
-      ≡ main_of (map routine found) → found ≡ rs → t.bodies ≡ map routine rs → os ≡ t.state.area.objects → type_text (externals_of items) end
-      ≡ Ok (record { objects = os; routines = map routine rs; main = n })
-  unfolding type_text
-  whole_runs t n os rs found typed main same bodies objects =
-      let ty : type_externals f.names f.signatures (externals_of items) begun ≡ Ok t = ap (λ x. type_externals f.names f.signatures (externals_of x) begun) (sym is_m) ∙ typed in
-      let mn : main_of (map routine rs) ≡ Some n = ap (λ x. main_of (map routine x)) (sym same) ∙ sym main in
-      rw (all_known, all_begun, ty, bodies, mn, objects) refl
+  -- behind the externals, of which these functions come
+  abbrev pub Reach : Text → List Routine → Type 0
+  Reach t rs = (type_externals f.names f.signatures (externals_of m) begun ≡ Ok t) × (t.bodies ≡ map routine rs)
 
-  pub whole_fails : (e : TypeFault) → Fails e (type_externals f.names f.signatures (externals_of m) begun) → Fails e (type_text (externals_of items) end)
+  reached : (t : Text) (rs : List Routine) → Reach t rs → type_externals f.names f.signatures (externals_of items) begun ≡ Ok t
+  reached t rs r = ap (λ x. type_externals f.names f.signatures (externals_of x) begun) (sym is_m) ∙ r.0
+
+  -- the second stack, where some function has memory locals
+  stacked : (any : Bool) (rs found : List Routine) (a : Area) (r : Result Area Fault) → any ≡ any_block (map routine found) → found ≡ rs
+      → stacked_if any end a ≡ r → stacked_if (any_block (map routine rs)) end a ≡ r
+  stacked any rs found a r tested same laid =
+      ap (λ x. stacked_if (any_block (map routine x)) end a) (sym same) ∙ (ap (λ b. stacked_if b end a) (sym tested) ∙ laid)
+
+  pub whole_runs : (t : Text) (any : Bool) (a : Area) (n : ℕ) (os : List Object) (rs tried found : List Routine) → Reach t rs → any ≡ any_block (map routine tried) → tried ≡ rs
+      → stacked_if any end t.state.area ≡ Ok a → Some n ≡ main_of (map routine found) → found ≡ rs → os ≡ a.objects
+      → type_text (externals_of items) ends end ≡ Ok (record { objects = os; routines = map routine rs; main = n })
+  unfolding type_text
+  whole_runs t any a n os rs tried found here tested again laid main same objects =
+      let st : stacked_if (any_block (map routine rs)) end t.state.area ≡ Ok a = stacked any rs tried t.state.area (Ok a) tested again laid in
+      let mn : main_of (map routine rs) ≡ Some n = ap (λ x. main_of (map routine x)) (sym same) ∙ sym main in
+      rw (all_known, all_begun, reached t rs here, here.1, st, mn, objects) refl
+
+  pub whole_fails : (e : TypeFault) → Fails e (type_externals f.names f.signatures (externals_of m) begun) → Fails e (type_text (externals_of items) ends end)
   unfolding type_text
   whole_fails NoMemory failed = tt
   whole_fails (At place kind) failed =
       let ty : type_externals f.names f.signatures (externals_of items) begun ≡ bad place kind = ap (λ x. type_externals f.names f.signatures (externals_of x) begun) (sym is_m) ∙ failed in
       rw (all_known, all_begun, ty) refl
 
-  pub whole_lacks : (t : Text) (rs found : List Routine) → type_externals f.names f.signatures (externals_of m) begun ≡ Ok t → None ≡ main_of (map routine found) → found ≡ rs → t.bodies
-      ≡ map routine rs → type_text (externals_of items) end ≡ bad end NoMain
+  pub stack_fails : (e : TypeFault) (t : Text) (any : Bool) (rs tried : List Routine) → Reach t rs → any ≡ any_block (map routine tried) → tried ≡ rs
+      → Fails e (stacked_if any end t.state.area) → Fails e (type_text (externals_of items) ends end)
   unfolding type_text
-  whole_lacks t rs found typed main same bodies =
-      let ty : type_externals f.names f.signatures (externals_of items) begun ≡ Ok t = ap (λ x. type_externals f.names f.signatures (externals_of x) begun) (sym is_m) ∙ typed in
+  stack_fails NoMemory t any rs tried here tested again failed = tt
+  stack_fails (At place kind) t any rs tried here tested again failed =
+      let st : stacked_if (any_block (map routine rs)) end t.state.area ≡ bad place kind = stacked any rs tried t.state.area (bad place kind) tested again failed in
+      rw (all_known, all_begun, reached t rs here, here.1, st) refl
+
+  pub whole_lacks : (t : Text) (any : Bool) (a : Area) (rs tried found : List Routine) → Reach t rs → any ≡ any_block (map routine tried) → tried ≡ rs
+      → stacked_if any end t.state.area ≡ Ok a → None ≡ main_of (map routine found) → found ≡ rs → type_text (externals_of items) ends end ≡ bad end NoMain
+  unfolding type_text
+  whole_lacks t any a rs tried found here tested again laid main same =
+      let st : stacked_if (any_block (map routine rs)) end t.state.area ≡ Ok a = stacked any rs tried t.state.area (Ok a) tested again laid in
       let mn : main_of (map routine rs) ≡ None = ap (λ x. main_of (map routine x)) (sym same) ∙ sym main in
-      rw (all_known, all_begun, ty, bodies, mn) refl
+      rw (all_known, all_begun, reached t rs here, here.1, st, mn) refl
 
 -- what never fails fails for want of memory alone
 pub no_fault : {A B : Type 0} (e : TypeFault) (x : A) (m : Result B Fault) → Fails e (fine x) → Fails e m

@@ -1,6 +1,6 @@
 -- What the form of a declarator tells by itself.
 -- This is how the code computes it; the rules of typing are the relations of c_typed_law.
-use Rattle.std.specs.Prelude.{not, ◌≡◌, ℕ, ◌+◌, ◌==◌, ◌&&◌, is_some, nat_lt, Bool, true, false, List, length, Option, Some, None}
+use Rattle.std.specs.Prelude.{not, ℕ, ◌+◌, ◌==◌, ◌&&◌, is_some, nat_lt, Bool, true, false, List, length, Option, Some, None}
 use Rattle.std.specs.Prelude.{Result, Ok, if◌then◌else◌}
 use Rattle.c_types.specs.declared.types.CType.{CType}
 use Rattle.c_types.specs.declared.fault.TypeKind.TheVariants.{Twice, BadInit, BadType}

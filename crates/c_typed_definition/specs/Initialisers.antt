@@ -1,6 +1,6 @@
 -- Lengths in brackets, and the elements of an initialiser.
 -- This is how the code computes it; the rules of typing are the relations of c_typed_law.
-use Rattle.std.specs.Prelude.{◌≡◌, ℕ, List, Result, Ok}
+use Rattle.std.specs.Prelude.{ℕ, List, Result, Ok}
 use Rattle.c_types.specs.declared.types.CType.{CType}
 use Rattle.c_types.specs.Answers.{Fault, ◌>>=◌}
 use Rattle.c_typed_scope.specs.declared.entry.Entry.{Entry}

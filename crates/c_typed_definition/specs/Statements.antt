@@ -1,8 +1,8 @@
 -- The types of statements. What a declaration declares is in scope up to the end of its block.
 -- This is how the code computes it; the rules of typing are the relations of c_typed_law.
-use Rattle.std.specs.Prelude.{◌≡◌, ℕ, ◌+◌, Bool, true, false, List, [], ◌∷◌, Option, Some, None, Result, Ok, if◌then◌else◌}
+use Rattle.std.specs.Prelude.{ℕ, Bool, true, false, List, [], Option, Some, None, Result, Ok}
 use Rattle.c_types.specs.declared.types.CType.{CType}
-use Rattle.c_types.specs.declared.fault.TypeKind.TheVariants.{BadJump, BadType}
+use Rattle.c_types.specs.declared.fault.TypeKind.TheVariants.{BadJump}
 use Rattle.c_types.specs.Answers.{Fault, bad, ◌>>=◌}
 use Rattle.c_types.specs.Typed.{AnExpression}
 use Rattle.c_typed_operators.specs.Stores.{given}

@@ -81,7 +81,7 @@ agrees_means earlier declared mine at = unless_means (nat_lt 32 (length mine.par
 
 -- a test that refuses, and then one answer
 tested_means : (test : Bool) (at : ℕ) (t : Text)
-    → Means ((if test then bad at DataFull else Ok tt) >>= λ ok. Ok t) (Without test (λ u. u ≡ t)) (Unless test at DataFull Never)
+    → Means ((if test then bad at DataFull else Ok (tt {0})) >>= λ ok. Ok t) (Without test (λ u. u ≡ t)) (Unless test at DataFull Never)
 tested_means true at t = unless_means true at DataFull (Ok t) _ _ (means_ok t)
 tested_means false at t = unless_means false at DataFull (Ok t) _ _ (means_ok t)
 

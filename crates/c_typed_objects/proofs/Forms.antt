@@ -1,12 +1,11 @@
 -- What an accepted form of a declarator says: its name is new here, and its type is an integer or a pointer.
-use Rattle.std.proofs.Common.{◌≡◌, ℕ, Bool, true, false, Option, Some, None, Result, Ok, Err, refl, if◌then◌else◌}
+use Rattle.std.proofs.Common.{◌≡◌, ℕ, Bool, true, false, Option, Some, None, Result, Ok, refl, if◌then◌else◌}
 use Rattle.std.specs.Prelude.{is_some, ◌&&◌}
 use Rattle.c_types.specs.declared.types.CType.{CType}
 use Rattle.c_types.specs.declared.fault.TypeKind.TheVariants.{Twice, BadInit, BadType}
 use Rattle.c_types.specs.Answers.{Fault, bad}
 use Rattle.c_types.specs.Types.{is_scalar}
-use Rattle.c_phrases.specs.Units.{ALength, ADeclarator}
-use Rattle.c_phrases.specs.Phrases.{AnExp}
+use Rattle.c_phrases.specs.Units.{ADeclarator}
 use Rattle.c_typed_scope.specs.declared.entry.Entry.{Entry}
 use Rattle.c_typed_scope.specs.Scopes.{Scope, find, is_taken}
 use Rattle.c_typed_expressions.specs.Phrases.{brackets_in, init_in}

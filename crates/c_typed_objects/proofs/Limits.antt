@@ -1,13 +1,14 @@
 -- How large objects are: one that does not fit into the data area, and the size of an integer or a pointer.
-use Rattle.std.proofs.Common.{◌≡◌, ℕ, ◌+◌, ◌<◌, ◌≤◌, Bool, List, refl, arith, nat_lt, true, Result}
+use Rattle.std.proofs.Common.{◌≡◌, ℕ, ◌+◌, ◌-◌, ◌*◌, ◌/◌, ◌<◌, ◌≤◌, Bool, List, refl, arith, nat_lt, true}
 use Rattle.std.proofs.lemmas.Bool.Decides.{nat_tests}
+use Rattle.std.proofs.Math.Nat.{div-mul-le_self}
 use Rattle.c_types.specs.declared.fault.TypeKind.TheVariants.{DataFull}
 use Rattle.c_types.specs.declared.types.CType.{CType}
 use Rattle.c_types.specs.declared.types.CType.TheVariants as types
 use Rattle.c_types.specs.declared.types.Integer.{Integer}
 use Rattle.c_types.specs.declared.types.Integer.TheVariants as ints
 use Rattle.c_types.specs.Types.{is_scalar, integer_size, size_of}
-use Rattle.c_types.specs.Answers.{Fault, bad, ◌>>=◌}
+use Rattle.c_types.specs.Answers.{bad}
 use Rattle.c_typed_scope.specs.Layout.{Area, aligned, placed}
 use Rattle.c_typed_definition.specs.State.{laid}
 
@@ -31,3 +32,7 @@ unfolding size_of is_scalar
 scalar_some types.Void h = absurd (cc)
 scalar_some (types.Integer b) h = integer_some b
 scalar_some (types.Pointer b n) h = omega arith
+
+-- the next multiple of a number of at most 4 is not far
+pub aligned_near : (n m : ℕ) → 1 ≤ m → m ≤ 4 → (n + (m - 1)) / m * m ≤ n + 3
+aligned_near n m some few = omega (arith, div-mul-le_self (n + (m - 1)) m)

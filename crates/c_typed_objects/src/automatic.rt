@@ -14,6 +14,9 @@ ghost use Rattle.c_types.specs.Typed.{expression_of};
 ghost use Rattle.c_typed_objects.specs.Views.{option_now};
 ghost use Rattle.c_typed_definition.specs.Automatics.{type_value, begun, type_store, memory_begun, type_stores, array_begun, filled_array};
 ghost use Rattle.c_typed_definition.specs.Automatics.{automatic_length, automatic_array, automatic_variable, type_automatic, text_stored, zeros};
+ghost use Rattle.c_typed_definition.specs.Automatics.{memory_array, memory_variable};
+ghost use Rattle.c_typed_definition.specs.Rooms.{offset_in};
+ghost use Rattle.c_typed_definition.specs.State.{with_local};
 ghost use Rattle.c_typed_objects.specs.Views.{state};
 
 use crate::environment::{Environment, declare};
@@ -149,7 +152,7 @@ fn store_text(
     done: &mut Vec<Declaration>,
 ) -> Result<(), AllocError>
     requires near { MatchOption text (Unit {0}) (λ bytes. offset + length bytes.now < 2 ^ 32) }
-    ensures { OnOk result (map declaration done.new.items ≡ map declaration done.old.items ++ text_stored of offset (option_now text)) }
+    ensures { OnOk result (map declaration done.new.items ≡ map declaration done.old.items ++ text_stored of offset (option_now text.entry)) }
 {
     let Some(text) = text else {
         return Ok(());
@@ -237,27 +240,24 @@ fn measure(
     }
 }
 
-fn array(
+// An array of so many elements lies in the block from here on, and becomes what its initialiser says.
+#[tactic(auto, using(crate::proofs::Limits::scalar_some))]
+fn block_array(
     alloc: Global,
     functions: &Functions,
     of: CType,
     d: &Declarator,
-    length: &Option<Expr>,
+    count: u32,
     done: &mut Vec<Declaration>,
     environment: &mut Environment,
 ) -> Result<(), TypeFault>
     requires free { find environment.old.blocks.here d.now.name ≡ None }
     requires scalar { is_scalar of ≡ true }
-    ensures { OnlyTurns result (map declaration done.new.items, state environment.new) (by_functions functions.now automatic_array
-        of (declarator_of d.now) (part length.now) (map declaration done.old.items) (state environment.old)) }
+    requires few { given_count (init_in (initialised_of d.now.initialiser)) ≤ count }
+    ensures { OnlyTurns result (map declaration done.new.items, state environment.new) (by_functions functions.now filled_array
+        of (offset_in (size_of of) (state environment.old).room) count (init_in (initialised_of d.now.initialiser))
+        (map declaration done.old.items) (memory_array of (count * size_of of) (declarator_of d.now) (state environment.old))) }
 {
-    let count = measure(alloc, functions, length, &d.initialiser, environment)?;
-    if (count as usize) < given_count(&d.initialiser) {
-        return Err(TypeFault::At {
-            place: d.at,
-            kind: TypeKind::BadInit,
-        });
-    }
     let size = u64::from(count) * u64::from(of.size());
     if size > 0x7fff_ffff {
         return Err(TypeFault::NoMemory);
@@ -279,11 +279,36 @@ fn array(
     )
 }
 
-// A variable that is no array: a memory local where `&` is applied to it.
-fn variable(
+#[tactic(auto, unfolding(c_typed_definition::specs::Automatics::automatic_array, c_typed_definition::specs::Forms::many))]
+fn array(
     alloc: Global,
     functions: &Functions,
-    in_block: bool,
+    of: CType,
+    d: &Declarator,
+    length: &Option<Expr>,
+    done: &mut Vec<Declaration>,
+    environment: &mut Environment,
+) -> Result<(), TypeFault>
+    requires free { find environment.old.blocks.here d.now.name ≡ None }
+    requires scalar { is_scalar of ≡ true }
+    ensures { OnlyTurns result (map declaration done.new.items, state environment.new) (by_functions functions.now automatic_array
+        of (declarator_of d.now) (part length.now) (map declaration done.old.items) (state environment.old)) }
+{
+    let count = measure(alloc, functions, length, &d.initialiser, environment)?;
+    if (count as usize) < given_count(&d.initialiser) {
+        return Err(TypeFault::At {
+            place: d.at,
+            kind: TypeKind::BadInit,
+        });
+    }
+    block_array(alloc, functions, of, d, count, done, environment)
+}
+
+// A memory local lies in the block from here on. It is 0, and then becomes its value.
+#[tactic(auto, using(crate::proofs::Limits::scalar_some))]
+fn memory_variable(
+    alloc: Global,
+    functions: &Functions,
     of: CType,
     d: &Declarator,
     done: &mut Vec<Declaration>,
@@ -291,24 +316,40 @@ fn variable(
 ) -> Result<(), TypeFault>
     requires free { find environment.old.blocks.here d.now.name ≡ None }
     requires scalar { is_scalar of ≡ true }
-    ensures { OnlyTurns result (map declaration done.new.items, state environment.new) (by_functions functions.now automatic_variable
-        in_block of (declarator_of d.now) (map declaration done.old.items) (state environment.old)) }
+    ensures { OnlyTurns result (map declaration done.new.items, state environment.new) (by_functions functions.now memory_begun
+        of (offset_in (size_of of) (state environment.old).room) (init_in (initialised_of d.now.initialiser))
+        (map declaration done.old.items) (memory_variable of (declarator_of d.now) (state environment.old))) }
 {
     environment.room.declare()?;
-    if in_block {
-        let offset = environment.room.take(of.size(), of.size());
-        let entry = Entry::Variable(of, Variable::InBlock(offset));
-        declare(alloc, &mut environment.blocks, &d.name, entry)?;
-        return begin_memory(
-            alloc,
-            functions,
-            of,
-            offset,
-            &d.initialiser,
-            done,
-            environment,
-        );
-    }
+    let offset = environment.room.take(of.size(), of.size());
+    let entry = Entry::Variable(of, Variable::InBlock(offset));
+    declare(alloc, &mut environment.blocks, &d.name, entry)?;
+    begin_memory(
+        alloc,
+        functions,
+        of,
+        offset,
+        &d.initialiser,
+        done,
+        environment,
+    )
+}
+
+// A variable that is no memory local.
+fn plain_variable(
+    alloc: Global,
+    functions: &Functions,
+    of: CType,
+    d: &Declarator,
+    done: &mut Vec<Declaration>,
+    environment: &mut Environment,
+) -> Result<(), TypeFault>
+    requires { find environment.old.blocks.here d.now.name ≡ None }
+    ensures { OnlyTurns result (map declaration done.new.items, state environment.new) (by_functions functions.now begun
+        of (length (state environment.old).locals) (init_in (initialised_of d.now.initialiser)) (map declaration done.old.items)
+        (with_local of d.now.name (state environment.old))) }
+{
+    environment.room.declare()?;
     let number = environment.locals.len();
     if number > 0xffff_ffff {
         return Err(TypeFault::NoMemory);
@@ -326,6 +367,29 @@ fn variable(
         done,
         environment,
     )
+}
+
+// A variable that is no array: a memory local where `&` is applied to it.
+#[tactic(auto, unfolding(c_typed_definition::specs::Automatics::automatic_variable))]
+fn variable(
+    alloc: Global,
+    functions: &Functions,
+    in_block: bool,
+    of: CType,
+    d: &Declarator,
+    done: &mut Vec<Declaration>,
+    environment: &mut Environment,
+) -> Result<(), TypeFault>
+    requires free { find environment.old.blocks.here d.now.name ≡ None }
+    requires scalar { is_scalar of ≡ true }
+    ensures { OnlyTurns result (map declaration done.new.items, state environment.new) (by_functions functions.now automatic_variable
+        in_block of (declarator_of d.now) (map declaration done.old.items) (state environment.old)) }
+{
+    if in_block {
+        memory_variable(alloc, functions, of, d, done, environment)
+    } else {
+        plain_variable(alloc, functions, of, d, done, environment)
+    }
 }
 
 /// An automatic variable, or one that is declared `register`.

@@ -1,13 +1,11 @@
 // The block of a function's memory locals, while its declarations are read.
-ghost use Rattle.std.specs.Prelude.{◌≡◌, ◌≤◌, OnOk, Ok};
-ghost use Rattle.c_types.specs.Types.{size_of};
-ghost use Rattle.c_types.specs.Answers.{Gives, ◌>>=◌};
-ghost use Rattle.c_typed_scope.specs.Layout.{aligned};
+ghost use Rattle.std.specs.Prelude.{◌≡◌, ◌≤◌, true, OnOk, IfOk};
+ghost use Rattle.c_types.specs.Types.{size_of, is_scalar};
+ghost use Rattle.c_types.specs.Answers.{Gives};
 ghost use Rattle.c_typed_addressed.specs.Views.{marks};
 ghost use Rattle.c_typed_definition.specs.Rooms.{room_for, is_next_addressed, is_parameter_addressed, one_declared, offset_in, taking};
 ghost use Rattle.c_typed_definition.specs.Rooms.{with_parameter_in};
-ghost use Rattle.c_typed_definition.specs.Bodies.{fits_stack};
-ghost use Rattle.c_typed_objects.specs.Views.{room};
+ghost use Rattle.c_typed_objects.specs.Views.{room, block_in};
 
 use c_program::Declaration;
 use c_typed_addressed::Addressed;
@@ -73,6 +71,7 @@ impl Room {
     }
 
     /// Memory for so many bytes, at the next multiple of an element's size: its offset.
+    #[tactic(auto, using(crate::proofs::Limits::aligned_near), unfolding(c_typed_scope::specs::Layout::aligned))]
     pub fn take(&mut self, align: u32, size: u32) -> u32
         requires { (1 ≤ align) × (align ≤ 4) }
         ensures offset { result ≡ offset_in align (room self.old) }
@@ -85,9 +84,11 @@ impl Room {
     }
 
     /// A parameter lies in the block, where it is stored when a call begins: its offset.
+    #[tactic(auto, using(crate::proofs::Limits::scalar_some))]
     pub fn take_parameter(&mut self, of: CType, number: u32) -> Result<u32, AllocError>
-        requires { (1 ≤ size_of of) × (size_of of ≤ 4) }
-        ensures { OnOk result (room self.new ≡ with_parameter_in of number (room self.old)) }
+        requires { is_scalar of ≡ true }
+        ensures offset { IfOk result (λ n. n ≡ offset_in (size_of of) (room self.old)) }
+        ensures stored { OnOk result (room self.new ≡ with_parameter_in of number (room self.old)) }
     {
         let offset = self.take(of.size(), of.size());
         let value = Expression::Read(Place::Variable(of, Variable::Parameter(number)));
@@ -96,8 +97,9 @@ impl Room {
     }
 
     /// The bytes of the block, a multiple of 4; DataFull, at this place, where they are too many.
+    #[tactic(auto, unfolding(c_typed_definition::specs::Bodies::fits_stack, c_typed_scope::specs::Layout::aligned))]
     pub fn block(&self, at: u32) -> Result<u32, TypeFault>
-        ensures { Gives (λ n. n) result (fits_stack at (room self.now) >>= λ ok. Ok (aligned self.now.length 4)) }
+        ensures { Gives (λ n. n) result (block_in at (room self.now)) }
     {
         if self.length > BLOCK_LIMIT {
             refuse(at, TypeKind::DataFull)

@@ -1,3 +1,4 @@
 pub mod Entries
 pub mod Innermost
 pub mod Written
+pub mod Opening

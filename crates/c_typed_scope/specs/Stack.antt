@@ -12,7 +12,7 @@ abbrev pub nothing : Filled
 nothing = record { bytes = []; links = [] }
 
 -- at first the pointer holds the address of the area, which is zeros
-abbrev pub opened : ℕ → ℕ → Area → Area
+unfoldable pub opened : ℕ → ℕ → Area → Area
 opened sp area a = filled area (filled_to stack_size nothing) (filled sp (filled_to 4 (with_link a.objects area nothing)) a)
 
 -- DataFull is a fault of the text's end

@@ -36,14 +36,14 @@ fn lay_part(
     )
 }
 
-// The pointer holds the address of the area, which is zeros.
-fn open(alloc: Global, layout: &mut Data, pointer: u32, area: u32) -> Result<(), AllocError>
-    ensures { OnOk result (area layout.new ≡ opened pointer area (area layout.old)) }
+// The pointer holds the address of the stack's area, which is zeros.
+fn open(alloc: Global, layout: &mut Data, pointer: u32, stack: u32) -> Result<(), AllocError>
+    ensures { OnOk result (area layout.new ≡ opened pointer stack (area layout.old)) }
 {
     let mut held = Contents::new(alloc);
-    held.put_link(&layout.objects, area)?;
+    held.put_link(&layout.objects, stack)?;
     fill(layout, pointer, 4, held)?;
-    fill(layout, area, BLOCK_LIMIT, Contents::new(alloc))
+    fill(layout, stack, BLOCK_LIMIT, Contents::new(alloc))
 }
 
 /// Lays the stack's pointer and its area behind the other objects. DataFull, at this place, where they end more than
@@ -53,7 +53,7 @@ pub fn lay_stack(alloc: Global, layout: &mut Data, at: u32) -> Result<(), TypeFa
     ensures { OnlyTurns result (area layout.new) (with_stack at (area layout.old)) }
 {
     let pointer = lay_part(alloc, layout, at, b"T_sp".as_slice(), 4)?;
-    let area = lay_part(alloc, layout, at, b"T_area".as_slice(), BLOCK_LIMIT)?;
-    open(alloc, layout, pointer, area)?;
+    let stack = lay_part(alloc, layout, at, b"T_area".as_slice(), BLOCK_LIMIT)?;
+    open(alloc, layout, pointer, stack)?;
     Ok(())
 }

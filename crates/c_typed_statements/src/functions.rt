@@ -1,8 +1,9 @@
 // The declarations and definitions of functions.
-ghost use Rattle.std.specs.Prelude.{◌≡◌, ◌+◌, Ok, None, Some, is_some};
+ghost use Rattle.std.specs.Prelude.{◌≡◌, ◌+◌, Ok, None, Some, is_some, IfOk, map, true};
 ghost use Rattle.c_phrases.specs.UnitShapes.{items_of, length_of, param_of, param_list};
 ghost use Rattle.c_types.specs.Answers.{Gives};
-ghost use Rattle.c_program.specs.Statements.{acts};
+ghost use Rattle.c_types.specs.Types.{is_scalar};
+ghost use Rattle.c_program.specs.Statements.{acts, declaration};
 ghost use Rattle.c_program.specs.Programs.{routine};
 ghost use Rattle.c_typed_scope.specs.Answers.{OnlyTurns};
 ghost use Rattle.c_typed_scope.specs.Scopes.{find};
@@ -11,13 +12,10 @@ ghost use Rattle.c_typed_expressions.specs.Functions.{by_functions};
 ghost use Rattle.c_typed_expressions.specs.Phrases.{brackets_in};
 ghost use Rattle.c_typed_expressions.specs.Expressions.{integer_of};
 ghost use Rattle.c_typed_objects.specs.Views.{state};
-ghost use Rattle.c_typed_definition.specs.Bodies.{body_of};
 ghost use Rattle.c_typed_definition.specs.Headings.{earlier_by, is_below, head_of, word_of, parameter_form};
-ghost use Rattle.c_typed_definition.specs.Headings.{agrees, with_declared, head_by};
-ghost use Rattle.c_typed_definition.specs.Bodies.{with_stores, marks_in, end_in, entered_function, left_function};
+ghost use Rattle.c_typed_definition.specs.Headings.{agrees, with_declared, with_parameter, head_by};
+ghost use Rattle.c_typed_definition.specs.Bodies.{body_of, with_stores, marks_in, end_in, entered_function, left_function};
 ghost use Rattle.c_typed_addressed.specs.Views.{marks};
-ghost use Rattle.c_program.specs.Statements.{declaration};
-ghost use Rattle.std.specs.Prelude.{map};
 ghost use Rattle.c_typed_definition.specs.Texts.{parameter_length, type_parameter, type_parameters, type_body};
 ghost use Rattle.c_typed_definition.specs.Texts.{type_introduced, type_function};
 ghost use Rattle.c_typed_statements.specs.Views.{text, function_of};
@@ -25,7 +23,7 @@ ghost use Rattle.c_typed_statements.specs.Views.{text, function_of};
 use crate::signatures::{parameter_type, parameters, same_signature, signature};
 use crate::statements::items;
 use c_phrases::operator::Spec;
-use c_phrases::tree::{Function, Item, Length, Param, Stars};
+use c_phrases::tree::{Function, Item, Length, Named, Param, Stars};
 use c_program::need::need;
 use c_program::{Action, Declaration, Routine};
 use c_typed_addressed::{Addressed, addressed};
@@ -174,6 +172,29 @@ fn measure_parameter(
     }
 }
 
+// A parameter's name is in scope from here on. Where `&` is applied to it, it lies in the block.
+fn add_parameter(
+    alloc: Global,
+    name: &Named,
+    of: CType,
+    number: u32,
+    environment: &mut Environment,
+) -> Result<(), TypeFault>
+    requires free { find environment.old.blocks.here name.now.name ≡ None }
+    requires scalar { is_scalar of ≡ true }
+    ensures { OnlyTurns result (state environment.new) (Ok (with_parameter (Some name.now) of number (state environment.old))) }
+{
+    if environment.room.is_parameter_addressed(number as usize) {
+        let offset = environment.room.take_parameter(of, number)?;
+        let entry = Entry::Variable(of, Variable::InBlock(offset));
+        declare(alloc, &mut environment.blocks, &name.name, entry)?;
+    } else {
+        let entry = Entry::Variable(of, Variable::Parameter(number));
+        declare(alloc, &mut environment.blocks, &name.name, entry)?;
+    }
+    Ok(())
+}
+
 #[tactic(auto, unfolding(c_typed_definition::specs::Texts::type_parameter))]
 fn declare_parameter(
     alloc: Global,
@@ -201,16 +222,7 @@ fn declare_parameter(
             if number > 0xffff_ffff {
                 return Err(TypeFault::NoMemory);
             }
-            let of = parameter_type(p);
-            let number = number as u32;
-            let variable = if environment.room.is_parameter_addressed(number as usize) {
-                Variable::InBlock(environment.room.take_parameter(of, number)?)
-            } else {
-                Variable::Parameter(number)
-            };
-            let entry = Entry::Variable(of, variable);
-            declare(alloc, &mut environment.blocks, &name.name, entry)?;
-            Ok(())
+            add_parameter(alloc, name, parameter_type(p), number as u32, environment)
         }
     }
 }

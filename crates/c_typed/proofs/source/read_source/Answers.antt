@@ -33,13 +33,13 @@ returns-in-Ok-check-clause-first c =
     let ts = c.deref.result.now in
     no_fault c.args.bytes.now c.in-Ok.list.items ts c.deref.ensures.value c.in-Ok.ensures.only c.in-Ok.ensures.refused
     (c.tokens_are_ended.ensures 0 c.args.bytes.now ts (subst (Tokens 0 c.args.bytes.now) (sym c.deref.ensures.value) c.in-Ok.ensures.found))
-    c.in-Ok-parse.ast c.in-Ok-parse.ensures.only c.in-Ok-parse.ensures.first c.in-Ok-check.ensures.first
+    c.in-Ok-parse.ast c.in-Ok-parse.ensures.only c.in-Ok-parse.ensures.ends c.in-Ok-parse.ensures.first c.in-Ok-check.ensures.first
 
 pub returns-clause-first : goal.returns-clause-first
 returns-clause-first c =
     let ts = c.deref.result.now in
     types_first c.args.bytes.now c.in-Ok.list.items ts c.deref.ensures.value c.in-Ok.ensures.only c.in-Ok.ensures.refused
     (c.tokens_are_ended.ensures 0 c.args.bytes.now ts (subst (Tokens 0 c.args.bytes.now) (sym c.deref.ensures.value) c.in-Ok.ensures.found))
-    c.in-Ok-parse.ast c.in-Ok-parse.ensures.only c.in-Ok-parse.ensures.first c.in-Err-At-check.field-0 c.in-Err-At-check.place c.in-Err-At-check.kind
+    c.in-Ok-parse.ast c.in-Ok-parse.ensures.only c.in-Ok-parse.ensures.ends c.in-Ok-parse.ensures.first c.in-Err-At-check.field-0 c.in-Err-At-check.place c.in-Err-At-check.kind
     c.place_at-in-Err-At-check.result c.in-Err-At-check.field-0-is
     (c.place_at-in-Err-At-check.ensures ∙ ap (place_at c.args.bytes.now) c.in-Err-At-check.place-is) c.in-Err-At-check.ensures.first

@@ -1,4 +1,4 @@
-use Rattle.std.proofs.Common.{◌≡◌, ◌+◌, ◌*◌, ◌<◌, ◌×◌, drop, map}
+use Rattle.std.proofs.Common.{◌≡◌, ◌+◌, ◌*◌, ◌<◌, drop, map}
 use Rattle.c_phrases.specs.Shapes.{exp_list}
 use Rattle.c_types.specs.Types.{size_of}
 use Rattle.c_program.specs.Statements.{declaration}

@@ -1,4 +1,4 @@
-use Rattle.std.proofs.Common.{◌≡◌, ◌+◌, ◌<◌, ◌×◌, ◌++◌, drop, length, map}
+use Rattle.std.proofs.Common.{◌≡◌, ◌+◌, ◌<◌, ◌++◌, drop, length, map}
 use Rattle.c_program.specs.Statements.{declaration}
 use Rattle.c_typed_definition.specs.Automatics.{text_stores}
 use Rattle.c_typed_objects.proofs.automatic.store_text.Given as goal
