@@ -3,7 +3,7 @@
 
 ghost use Rattle.c_lower_bounds.specs.Claim.{EachFunctionFits, FunctionsStay};
 
-/// The law: each function fits the frame that it needs. It does nothing.
+/// The law: each function of a sound program fits the frame that it needs. It does nothing.
 #[tactic(auto, using(crate::proofs::Law::each_function_fits))]
 pub fn each_function_fits()
     ensures { EachFunctionFits }

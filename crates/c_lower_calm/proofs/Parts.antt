@@ -8,7 +8,7 @@ use Rattle.c_types.specs.declared.types.Integer.{Integer}
 use Rattle.c_types.specs.declared.types.Integer.TheVariants as ints
 use Rattle.c_types.specs.declared.types.CType.{CType}
 use Rattle.c_lower_scheme.specs.Trees.{Tree, Item, divides, reads, breaks, stable}
-use Rattle.c_lower_scheme.specs.Parts.{Lowered, Pair, Emitted, Lowering, Located, Assignable, due, over, Destination, InLocal, AsResult, delivered}
+use Rattle.c_lower_scheme.specs.Parts.{Lowered, Pair, Emitted, Lowering, Located, Assignable, due, over, Destination, InLocal, AsResult, Releasing, delivered}
 use Rattle.c_lower_scheme.specs.Saving.{saving, saved}
 use Rattle.c_lower_scheme.specs.Places.{integer_of, conv, fitted, address_tree}
 use Rattle.c_lower_scheme.specs.Conditions.{test, dropped, valued, conditional, effective, mapped, chained, same, goal, chain, chain_drop, drop_two, choose, comma}
@@ -78,6 +78,9 @@ test_calm sense to h = behind h.items (next (h.tree, tt, λ e. refl) none)
 pub delivered_calm : (to : Destination) {p : Lowered} → CalmLow p → AreCalm (delivered to p).items
 delivered_calm (InLocal n) h = behind h.items (next h.tree none)
 delivered_calm AsResult h = behind h.items (next h.tree none)
+delivered_calm (Releasing pointer n) {p = p} h =
+    let last = next (tt, tt, λ e. refl) (next (calm_saved (reads p.tree) p.temps p.tree h.tree) none) in
+    behind h.items (behind (calm_saving (reads p.tree) p.temps p.tree h.tree) last)
 
 pub dropped_calm : {p : Lowered} → CalmLow p → AreCalm (dropped p).items
 dropped_calm {p = p} h = behind h.items (calm_saving (breaks p.tree) p.temps p.tree h.tree)
@@ -149,6 +152,7 @@ choose_low_calm {c = c} {a = a} f h g t l =
 choose_deliver_calm : (to : Destination) (l : ℕ) (p q r : Emitted) → AreCalm p.items → AreCalm q.items → AreCalm r.items → AreCalm (choose_deliver to l p q r).items
 choose_deliver_calm (InLocal n) l p q r f h g = behind f (behind h (next tt (next tt (behind g (next tt none)))))
 choose_deliver_calm AsResult l p q r f h g = behind f (behind h (next tt g))
+choose_deliver_calm (Releasing pointer n) l p q r f h g = behind f (behind h (next tt g))
 
 pub choose_calm : {c a b : Lowering} → CalmWay c → CalmWay a → CalmWay b → CalmWay (choose c a b)
 choose_calm {c = c} {a = a} {b = b} f h g = record {

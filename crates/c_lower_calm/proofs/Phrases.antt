@@ -53,14 +53,14 @@ module _ (size count : ℕ) where
 
   mutual
     place_calm : (p : APlace) (t l : ℕ) → CalmFound (seek size count p t l)
-    place_calm (VariableAt ty v) t l = found_calm ty v t l
+    place_calm (VariableAt ty v) t l = found_calm size ty v t l
     place_calm (PointedBy ty e) t l = pointed_calm ty ((way_calm e).low t l)
     place_calm (ElementBy ty e) t l = pointed_calm ty ((way_calm e).low t l)
 
     pub way_calm : (e : AnExpression) → CalmWay (way size count e)
     way_calm (Constant n) = valued_calm (due_calm (Num n) tt)
     way_calm (LiteralAt n bytes) = valued_calm (due_calm (Gaddr n) tt)
-    way_calm (ArrayAt ty v bytes) = valued_calm (due_calm (address_tree (where_of v)) (calm_where v))
+    way_calm (ArrayAt ty v bytes) = valued_calm (due_calm (address_tree (where_of size v)) (calm_where size v))
     way_calm (ReadOf p) = valued_calm (λ t l. read_calm (place_calm p t l))
     way_calm (SizeOfExpression n e) = valued_calm (due_calm (Num n) tt)
     way_calm (SizeOf n) = valued_calm (due_calm (Num n) tt)

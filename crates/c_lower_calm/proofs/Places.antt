@@ -13,9 +13,9 @@ use Rattle.c_types.specs.declared.typed.Moment.TheVariants as moments
 use Rattle.c_types.specs.declared.typed.ArithmeticOperator.TheVariants as ariths
 use Rattle.c_types.specs.Constants.{scale}
 use Rattle.c_lower_scheme.specs.Trees.{Tree, Num, Loc, Bin, Item, divides, reads, breaks, stable, is_leaf}
-use Rattle.c_lower_scheme.specs.Parts.{Lowered, Where, InLoc, InArg, InMem, Located, Passing, Assignable, over, Destination, InLocal, AsResult}
+use Rattle.c_lower_scheme.specs.Parts.{Lowered, Where, InLoc, InArg, InMem, Located, Passing, Assignable, over, Destination, InLocal, AsResult, Releasing}
 use Rattle.c_lower_scheme.specs.Saving.{saved, next_if}
-use Rattle.c_lower_scheme.specs.Places.{read_from, assign_to, address_tree, where_of, found, pointed, read_low, address_low, holding, held}
+use Rattle.c_lower_scheme.specs.Places.{read_from, assign_to, address_tree, in_block, where_of, found, pointed, read_low, address_low, holding, held}
 use Rattle.c_lower_scheme.specs.Values.{scaled_by, advance, advance_by, retreat, apart, step, must}
 use Rattle.c_lower_scheme.specs.Calls.{pushes, called_drop, called_low, passed_as, pass_so, called_deliver}
 use Rattle.c_lower_scheme.specs.Assignments.{ready_so, update_so, store_drop, store_low_at, store_low, must_hold, must_keep, step_tree, step_ready, step_low}
@@ -23,16 +23,24 @@ use Rattle.c_lower_scheme.proofs.Facts.{leaf_inert}
 use Rattle.c_lower_calm.proofs.Trees.{Apart, IsCalm, IsCalmItem, AreCalm, none, next, behind}
 use Rattle.c_lower_calm.proofs.Parts.{CalmLow, CalmFound, CalmReady, inert_apart, calm_saving, calm_saved, calm_fitted, over_calm, must_apart, delivered_calm}
 
-calm_block : (b : Bool) (size o : ℕ) → IsCalm (if b then Loc size else Bin ariths.Add (Loc size) (Num o))
-calm_block true size o = tt
-calm_block false size o = search
+-- the address of an offset in the block is calm, and does not divide
+block_by : (b : Bool) (size o : ℕ)
+    → IsCalm (if b then Loc size else Bin ariths.Add (Loc size) (Num o)) × (divides (if b then Loc size else Bin ariths.Add (Loc size) (Num o)) ≡ false)
+block_by true size o = (tt, refl)
+block_by false size o = ((tt, tt, λ e. refl), refl)
+
+pub calm_block : (size o : ℕ) → IsCalm (in_block size o)
+calm_block size o = (block_by (o == 0) size o).0
+
+pub block_apart : (size o : ℕ) (w : Tree) → Apart (in_block size o) w
+block_apart size o w = inert_apart (in_block size o) w (block_by (o == 0) size o).1
 
 pub calm_where : (size : ℕ) (v : Variable) → IsCalm (address_tree (where_of size v))
 calm_where size (variables.Automatic n) = tt
 calm_where size (variables.Parameter n) = tt
 calm_where size (variables.Global n) = tt
 calm_where size (variables.Static n) = tt
-calm_where size (variables.InBlock o) = calm_block (o == 0) size o
+calm_where size (variables.InBlock o) = calm_block size o
 
 calm_read : (ty : CType) (s : Where) → IsCalm (address_tree s) → IsCalm (read_from ty s)
 calm_read ty (InLoc n) h = tt
@@ -238,3 +246,4 @@ called_drop_calm f {p = p} h = behind h.items (calm_pushes h.trees (next tt none
 pub called_deliver_calm : (to : Destination) (f : ℕ) {p : Passing} → CalmPassing p → AreCalm (called_deliver to f p).items
 called_deliver_calm (InLocal n) f {p = p} h = behind h.items (calm_pushes h.trees (next tt (next tt none)))
 called_deliver_calm AsResult f h = delivered_calm AsResult (called_low_calm f h)
+called_deliver_calm (Releasing pointer n) f h = delivered_calm (Releasing pointer n) (called_low_calm f h)

@@ -8,9 +8,9 @@ use Rattle.c_types.specs.declared.typed.UnaryOperator.{UnaryOperator}
 use Rattle.c_types.specs.declared.typed.UnaryOperator.TheVariants as unaries
 use Rattle.c_types.specs.declared.typed.ArithmeticOperator.TheVariants as ariths
 use Rattle.c_types.specs.Constants.{scale}
-use Rattle.c_types.specs.Typed.{APlace, VariableAt, PointedBy, ElementBy, AnExpression, Constant, LiteralAt, ArrayAt, ReadOf, SizeOfExpression, SizeOf, AddressOf, CallOf, StepOf}
-use Rattle.c_types.specs.Typed.{UnaryOf, CastTo, ConvertTo, ArithmeticOf, CompareOf, BothOf, EitherOf, AdvanceOf, AdvanceByOf, RetreatOf, DistanceOf, ChoiceOf, AssignTo}
-use Rattle.c_types.specs.Typed.{ArithmeticAssignTo, AdvanceAssignTo, RetreatAssignTo, CommaOf, place_type}
+use Rattle.c_types.specs.Typed.{APlace, VariableAt, PointedBy, ElementBy, AnExpression, Constant, LiteralAt, ArrayAt, ReadOf, SizeOfExpression, SizeOf}
+use Rattle.c_types.specs.Typed.{UnaryOf, CastTo, ConvertTo, ArithmeticOf, AdvanceOf, AdvanceByOf, RetreatOf, DistanceOf}
+use Rattle.c_types.specs.Typed.{place_type}
 use Rattle.tree_core.specs.declared.program.TreeItem.{TreeItem}
 use Rattle.tree_core.specs.declared.program.TreeItem.TheVariants as tree_item
 use Rattle.c_lower_scheme.specs.Trees.{Tree, Num, Neg, Com, Bin, Item, divides, reads, breaks, AssignLoc}
@@ -106,34 +106,34 @@ module _ (size count : ℕ) where
   mutual
     unfolding place_type
 
-    place_due : (p : APlace) → PlainPlace p → IsCalm (address_tree (place_at p)) → (t l : ℕ) → seek size count p t l ≡ found_at (place_type p) (place_at p) t l
+    place_due : (p : APlace) → PlainPlace p → IsCalm (address_tree (place_at size p)) → (t l : ℕ) → seek size count p t l ≡ found_at (place_type p) (place_at size p) t l
     place_due (VariableAt ty v) p h t l = refl
     place_due (PointedBy ty e) p h t l = ap (pointed ty) (plain_due e p h t l)
     place_due (ElementBy ty e) p h t l = ap (pointed ty) (plain_due e p h t l)
 
-    plain_due : (e : AnExpression) → Plain e → IsCalm (plain_tree e) → IsDue (way size count e) (plain_tree e)
+    plain_due : (e : AnExpression) → Plain e → IsCalm (plain_tree size e) → IsDue (way size count e) (plain_tree size e)
     plain_due (Constant n) p h t l = refl
     plain_due (LiteralAt n bytes) p h t l = refl
     plain_due (ArrayAt ty v bytes) p h t l = refl
-    plain_due (ReadOf x) p h t l = ap read_low (place_due x p (read_calm (place_type x) (place_at x) h) t l)
+    plain_due (ReadOf x) p h t l = ap read_low (place_due x p (read_calm (place_type x) (place_at size x) h) t l)
     plain_due (SizeOfExpression n e) p h t l = refl
     plain_due (SizeOf n) p h t l = refl
-    plain_due (UnaryOf op e) p h t l = unary_due op (way size count e) (plain_tree e) p.0 (plain_due e p.1 (unary_calm op (plain_tree e) p.0 h)) t l
-    plain_due (CastTo ty e) p h t l = ap (over (fitted ty)) (plain_due e p (fitted_calm ty (plain_tree e) h) t l)
-    plain_due (ConvertTo ty e) p h t l = ap (over (fitted ty)) (plain_due e p (fitted_calm ty (plain_tree e) h) t l)
-    plain_due (ArithmeticOf op a b) p h t l = joined_due (Bin op) (way size count a) (way size count b) (plain_tree a) (plain_tree b) (plain_due a p.0 h.0) (plain_due b p.1 h.1) h.2 t l
+    plain_due (UnaryOf op e) p h t l = unary_due op (way size count e) (plain_tree size e) p.0 (plain_due e p.1 (unary_calm op (plain_tree size e) p.0 h)) t l
+    plain_due (CastTo ty e) p h t l = ap (over (fitted ty)) (plain_due e p (fitted_calm ty (plain_tree size e) h) t l)
+    plain_due (ConvertTo ty e) p h t l = ap (over (fitted ty)) (plain_due e p (fitted_calm ty (plain_tree size e) h) t l)
+    plain_due (ArithmeticOf op a b) p h t l = joined_due (Bin op) (way size count a) (way size count b) (plain_tree size a) (plain_tree size b) (plain_due a p.0 h.0) (plain_due b p.1 h.1) h.2 t l
     plain_due (AdvanceOf ty a b) p h t l =
-        let c = scaled_part (scale ty) (plain_tree a) (plain_tree b) h in
-        joined_due (advance ty) (way size count a) (way size count b) (plain_tree a) (plain_tree b) (plain_due a p.0 c.0) (plain_due b p.1 c.1) c.2 t l
+        let c = scaled_part (scale ty) (plain_tree size a) (plain_tree size b) h in
+        joined_due (advance ty) (way size count a) (way size count b) (plain_tree size a) (plain_tree size b) (plain_due a p.0 c.0) (plain_due b p.1 c.1) c.2 t l
     plain_due (AdvanceByOf ty a b) p h t l =
-        let c = scaled_first (scale ty) (plain_tree a) (plain_tree b) h in
-        joined_due (advance_by ty) (way size count a) (way size count b) (plain_tree a) (plain_tree b) (plain_due a p.0 c.0) (plain_due b p.1 c.1) c.2 t l
+        let c = scaled_first (scale ty) (plain_tree size a) (plain_tree size b) h in
+        joined_due (advance_by ty) (way size count a) (way size count b) (plain_tree size a) (plain_tree size b) (plain_due a p.0 c.0) (plain_due b p.1 c.1) c.2 t l
     plain_due (RetreatOf ty a b) p h t l =
-        let c = scaled_part (scale ty) (plain_tree a) (plain_tree b) h in
-        joined_due (retreat ty) (way size count a) (way size count b) (plain_tree a) (plain_tree b) (plain_due a p.0 c.0) (plain_due b p.1 c.1) c.2 t l
+        let c = scaled_part (scale ty) (plain_tree size a) (plain_tree size b) h in
+        joined_due (retreat ty) (way size count a) (way size count b) (plain_tree size a) (plain_tree size b) (plain_due a p.0 c.0) (plain_due b p.1 c.1) c.2 t l
     plain_due (DistanceOf ty a b) p h t l =
-        let c = shared_parts (scale ty) (plain_tree a) (plain_tree b) h in
-        joined_due (apart ty) (way size count a) (way size count b) (plain_tree a) (plain_tree b) (plain_due a p.0 c.0) (plain_due b p.1 c.1) c.2 t l
+        let c = shared_parts (scale ty) (plain_tree size a) (plain_tree size b) h in
+        joined_due (apart ty) (way size count a) (way size count b) (plain_tree size a) (plain_tree size b) (plain_due a p.0 c.0) (plain_due b p.1 c.1) c.2 t l
     plain_due _ p h t l = absurd p
 
   -- and so it is at a destination
@@ -152,20 +152,20 @@ module _ (size count : ℕ) where
   unary_deliver unaries.Complement e w p h to t l = ap (delivered to) (unary_due unaries.Complement e w p h t l)
   unary_deliver unaries.Not e w p h to t l = absurd p
 
-  plain_deliver : (e : AnExpression) → Plain e → IsCalm (plain_tree e) → (to : Destination) (t l : ℕ) → (way size count e).deliver to t l ≡ delivered to (due (plain_tree e) t l)
+  plain_deliver : (e : AnExpression) → Plain e → IsCalm (plain_tree size e) → (to : Destination) (t l : ℕ) → (way size count e).deliver to t l ≡ delivered to (due (plain_tree size e) t l)
   plain_deliver (Constant n) p h to t l = refl
   plain_deliver (LiteralAt n bytes) p h to t l = refl
   plain_deliver (ArrayAt ty v bytes) p h to t l = refl
   plain_deliver (ReadOf x) p h to t l = ap (delivered to) (plain_due (ReadOf x) p h t l)
   plain_deliver (SizeOfExpression n e) p h to t l = refl
   plain_deliver (SizeOf n) p h to t l = refl
-  plain_deliver (UnaryOf op e) p h to t l = unary_deliver op (way size count e) (plain_tree e) p.0 (plain_due e p.1 (unary_calm op (plain_tree e) p.0 h)) to t l
+  plain_deliver (UnaryOf op e) p h to t l = unary_deliver op (way size count e) (plain_tree size e) p.0 (plain_due e p.1 (unary_calm op (plain_tree size e) p.0 h)) to t l
   plain_deliver (CastTo ty e) p h to t l =
-      let c = fitted_calm ty (plain_tree e) h in
-      as_deliver (integer_of ty) (way size count e) (plain_tree e) (plain_due e p c) (plain_deliver e p c) to t l
+      let c = fitted_calm ty (plain_tree size e) h in
+      as_deliver (integer_of ty) (way size count e) (plain_tree size e) (plain_due e p c) (plain_deliver e p c) to t l
   plain_deliver (ConvertTo ty e) p h to t l =
-      let c = fitted_calm ty (plain_tree e) h in
-      as_deliver (integer_of ty) (way size count e) (plain_tree e) (plain_due e p c) (plain_deliver e p c) to t l
+      let c = fitted_calm ty (plain_tree size e) h in
+      as_deliver (integer_of ty) (way size count e) (plain_tree size e) (plain_due e p c) (plain_deliver e p c) to t l
   plain_deliver (ArithmeticOf op a b) p h to t l = ap (delivered to) (plain_due (ArithmeticOf op a b) p h t l)
   plain_deliver (AdvanceOf ty a b) p h to t l = ap (delivered to) (plain_due (AdvanceOf ty a b) p h t l)
   plain_deliver (AdvanceByOf ty a b) p h to t l = ap (delivered to) (plain_due (AdvanceByOf ty a b) p h t l)
@@ -191,14 +191,14 @@ module _ (size count : ℕ) where
   filled : (ty : CType) (s : Where) (n : ℕ) (w : Tree) → s ≡ InLoc n → integer_of ty ≡ ints.Int → assign_to ty s w ≡ AssignLoc n w
   filled ty s n w at whole = ap (λ x. assign_to ty x w) at ∙ ap (λ i. AssignLoc n (conv i w)) whole
 
-  assigned_due : (o : Option ℕ) (ty : CType) (s : Where) (e : AnExpression) → local_in (integer_of ty) s ≡ o → Plain e → IsCalm (plain_tree e) → Apart (address_tree s) (plain_tree e)
-      → (t l : ℕ) → assign_drop size count o (found_at ty s t l) (way size count e) ≡ only (assign_to ty s (plain_tree e)) t l
+  assigned_due : (o : Option ℕ) (ty : CType) (s : Where) (e : AnExpression) → local_in (integer_of ty) s ≡ o → Plain e → IsCalm (plain_tree size e) → Apart (address_tree s) (plain_tree size e)
+      → (t l : ℕ) → assign_drop size count o (found_at ty s t l) (way size count e) ≡ only (assign_to ty s (plain_tree size e)) t l
   assigned_due None ty s e same p h apart t l =
-      ap (λ (q : Lowered). store_drop (assign_ready size count false (found_at ty s t l) q)) (plain_due e p h t l) ∙ stored_due ty s (plain_tree e) apart t l
+      ap (λ (q : Lowered). store_drop (assign_ready size count false (found_at ty s t l) q)) (plain_due e p h t l) ∙ stored_due ty s (plain_tree size e) apart t l
   assigned_due (Some n) ty s e same p h apart t l =
       let is = local_is (integer_of ty) s n same in
       ap (λ (q : Emitted). fill_drop (found_at ty s t l) q) (plain_deliver e p h (InLocal n) t l)
-      ∙ ap (λ (i : Item). only i t l) (sym (filled ty s n (plain_tree e) is.0 is.1))
+      ∙ ap (λ (i : Item). only i t l) (sym (filled ty s n (plain_tree size e) is.0 is.1))
 
 -- an item is calm as its leaves are
 calm_item : (i : Item) → SpellsCalm i → IsCalmItem i
@@ -210,9 +210,9 @@ calm_item i h = item_back i (by (spelled i) refl)
 
 pub plain_is_one_tree : PlainIsOneTree
 plain_is_one_tree = record {
-  returns = λ size count lb lc l rest e p h. plain_deliver size count e p (calm_item (returned e) h) AsResult size l;
-  stores = λ size count lb lc l rest p e pp pe h.
-      let c = parts_of size count (place_type p) (place_at p) (plain_tree e) (calm_item (stored p e) h) in
-      ap (λ (x : Located). assign_drop size count (local_of size count x) x (way size count e)) (place_due size count p pp c.0 size l)
-      ∙ assigned_due size count (local_in (integer_of (place_type p)) (place_at p)) (place_type p) (place_at p) e refl pe c.1 c.2 size l;
+  returns = λ size count first lb lc l rest e p h. plain_deliver size count e p (calm_item (returned size e) h) AsResult first l;
+  stores = λ size count first out lb lc l rest p e pp pe h.
+      let c = parts_of size count (place_type p) (place_at size p) (plain_tree size e) (calm_item (stored size p e) h) in
+      ap (λ (x : Located). assign_drop size count (local_of size count x) x (way size count e)) (place_due size count p pp c.0 first l)
+      ∙ assigned_due size count (local_in (integer_of (place_type p)) (place_at size p)) (place_type p) (place_at size p) e refl pe c.1 c.2 first l;
 }

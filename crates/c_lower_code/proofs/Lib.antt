@@ -7,3 +7,4 @@ pub mod Calls
 pub mod Going
 pub mod Straight
 pub mod Slices
+pub mod Blocks

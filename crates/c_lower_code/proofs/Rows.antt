@@ -47,7 +47,8 @@ module _ (size count first : ℕ) (out : Destination) where
   row_temps NoActions lb lc l = omega arith
   row_temps (MoreActions a row) lb lc l = let h = row_temps row lb lc (lower size count first out a row lb lc l).labels in omega arith
 
-  pub row_begins : (w : Emitted) (row : SomeActions) (lb lc l : ℕ) → w ≡ nothing first l → (two_done w (lower_row size count first out row lb lc w.labels) ≡ lower_row size count first out row lb lc l) × (first ≤ w.temps)
+  pub row_begins : (w : Emitted) (row : SomeActions) (lb lc l : ℕ) → w ≡ nothing first l
+      → (two_done w (lower_row size count first out row lb lc w.labels) ≡ lower_row size count first out row lb lc l) × (first ≤ w.temps)
   row_begins w row lb lc l is =
       let h = row_temps row lb lc l in
       let same = nothing_before first l (lower_row size count first out row lb lc l) h in

@@ -252,10 +252,8 @@ pub(crate) fn zeros_in_block(
     ensures { IfOk result (λ r. done r ≡ flows.zeros_in_block frame.locals frame.first of offset count l) }
 {
     let t = frame.first;
-    let end = count
-        .checked_mul(of.size())
-        .and_then(|size| offset.checked_add(size))
-        .ok_or(NoMemory)?;
+    let length = count.checked_mul(of.size()).ok_or(NoMemory)?;
+    let end = offset.checked_add(length).ok_or(NoMemory)?;
     let mut items = Vec::new(frame.alloc);
     put(&mut items, Item::AssignLocal(t, in_block(frame, offset)?))?;
     put(&mut items, Item::Label(l))?;

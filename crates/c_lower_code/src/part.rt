@@ -2,6 +2,7 @@
 ghost use Rattle.std.specs.Prelude.{◌≡◌, ◌++◌, ◌∷◌, [], suc, IfOk, OnOk};
 ghost use Rattle.c_lower_scheme.specs.Trees as mirror;
 ghost use Rattle.c_lower_scheme.specs.Parts as parts;
+ghost use Rattle.c_lower_scheme.specs.Saving as savings;
 ghost use Rattle.c_lower_scheme.specs.Places as places;
 ghost use Rattle.c_lower_scheme.specs.Conditions as conditions;
 ghost use Rattle.c_lower_scheme.specs.Values as values;
@@ -110,7 +111,7 @@ pub(crate) fn after(n: u32) -> Result<u32, NoMemory>
 
 // The next number if a temporary is taken.
 pub(crate) fn after_if(is_taken: bool, n: u32) -> Result<u32, NoMemory>
-    ensures { IfOk result (λ m. m ≡ places.next_if is_taken n) }
+    ensures { IfOk result (λ m. m ≡ savings.next_if is_taken n) }
 {
     if is_taken { after(n) } else { Ok(n) }
 }
@@ -138,8 +139,8 @@ pub(crate) fn put_saved(
     n: u32,
     w: Tree,
 ) -> Result<Tree, NoMemory>
-    ensures tree { IfOk result (λ r. tree r ≡ places.saved is_saved n (tree w)) }
-    ensures items { OnOk result (all_items items.new.items ≡ all_items items.old.items ++ places.saving is_saved n (tree w)) }
+    ensures tree { IfOk result (λ r. tree r ≡ savings.saved is_saved n (tree w)) }
+    ensures items { OnOk result (all_items items.new.items ≡ all_items items.old.items ++ savings.saving is_saved n (tree w)) }
 {
     if is_saved {
         put(items, Item::AssignLocal(n, w))?;
@@ -373,7 +374,22 @@ pub(crate) fn choose_drop(l: u32, p: Emitted, q: Emitted, r: Emitted) -> Result<
     })
 }
 
-/// A choice whose sides go to a destination: no jump stands behind a value that left the function.
+// A choice whose sides leave the function: no jump stands behind the first.
+fn choose_leave(l: u32, p: Emitted, q: Emitted, r: Emitted) -> Result<Emitted, NoMemory>
+    ensures { IfOk result (λ x. done x ≡ conditions.choose_leave l (done p) (done q) (done r)) }
+{
+    let mut items = p.items;
+    put_all(&mut items, q.items)?;
+    put(&mut items, Item::Label(l))?;
+    put_all(&mut items, r.items)?;
+    Ok(Emitted {
+        items,
+        temps: r.temps,
+        labels: r.labels,
+    })
+}
+
+/// A choice whose sides go to a destination.
 pub(crate) fn choose_deliver(
     to: Destination,
     l: u32,
@@ -385,17 +401,8 @@ pub(crate) fn choose_deliver(
 {
     match to {
         Destination::Local(_) => choose_drop(l, p, q, r),
-        Destination::Caller | Destination::Release(_, _) => {
-            let mut items = p.items;
-            put_all(&mut items, q.items)?;
-            put(&mut items, Item::Label(l))?;
-            put_all(&mut items, r.items)?;
-            Ok(Emitted {
-                items,
-                temps: r.temps,
-                labels: r.labels,
-            })
-        }
+        Destination::Caller => choose_leave(l, p, q, r),
+        Destination::Release(_, _) => choose_leave(l, p, q, r),
     }
 }
 

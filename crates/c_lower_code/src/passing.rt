@@ -91,7 +91,8 @@ pub(crate) fn called_deliver(to: Destination, f: u32, p: Passing) -> Result<Emit
 {
     match to {
         Destination::Local(n) => called_into(n, f, p),
-        Destination::Caller | Destination::Release(_, _) => delivered(to, called_low(f, p)?),
+        Destination::Caller => delivered(to, called_low(f, p)?),
+        Destination::Release(_, _) => delivered(to, called_low(f, p)?),
     }
 }
 

@@ -78,6 +78,7 @@ fn spelled_items(alloc: Global, items: &[Item]) -> Result<Vec<TreeItem>, NoMemor
 }
 
 // The number of a function's first temporary: behind its automatic locals, and the address of its block if it has one.
+#[tactic(auto, using(crate::proofs::Blocks::first_without, crate::proofs::Blocks::first_with))]
 fn first_temporary(locals: u32, block: u32) -> Result<u32, NoMemory>
     ensures { IfOk result (λ n. n ≡ programs.first_temporary locals block) }
 {
@@ -89,6 +90,7 @@ fn first_temporary(locals: u32, block: u32) -> Result<u32, NoMemory>
 }
 
 // How a function is left, by the object of the stack's pointer.
+#[tactic(auto, using(crate::proofs::Blocks::out_without, crate::proofs::Blocks::out_with))]
 fn way_out(pointer: u32, locals: u32, block: u32) -> Destination
     ensures { destination result ≡ programs.way_out pointer locals block }
 {
@@ -100,7 +102,12 @@ fn way_out(pointer: u32, locals: u32, block: u32) -> Destination
 }
 
 // What a function is lowered in.
-fn frame_of(alloc: Global, pointer: u32, functions: u32, of: &Routine) -> Result<Frame, NoMemory> {
+fn frame_of(alloc: Global, pointer: u32, functions: u32, of: &Routine) -> Result<Frame, NoMemory>
+    ensures locals { IfOk result (λ f. f.locals ≡ length (routine of.now).locals) }
+    ensures first { IfOk result (λ f. f.first ≡ programs.first_temporary (length (routine of.now).locals) of.now.block) }
+    ensures functions { IfOk result (λ f. f.functions ≡ functions) }
+    ensures out { IfOk result (λ f. destination f.out ≡ programs.way_out pointer (length (routine of.now).locals) of.now.block) }
+{
     let locals = number_of(of.locals.as_slice().len())?;
     Ok(Frame {
         alloc,
@@ -130,6 +137,7 @@ fn function_of(alloc: Global, of: &Routine, body: Emitted) -> Result<TreeFn, NoM
 }
 
 // What is done before a function's statements: its block is taken, if it has one.
+#[tactic(auto, using(crate::proofs::Blocks::in_without, crate::proofs::Blocks::in_with))]
 fn way_in(frame: Frame, pointer: u32, block: u32, l: u32) -> Result<Emitted, NoMemory>
     ensures { IfOk result (λ r. done r ≡ programs.way_in frame.locals frame.first pointer block l) }
 {
@@ -157,7 +165,8 @@ fn body_of(
         frame.out,
         due(alloc, Tree::Number(0), frame.first, body.labels),
     )?;
-    two_done(begin, two_done(body, end)?)
+    let rest = two_done(body, end)?;
+    two_done(begin, rest)
 }
 
 // The functions, whose labels differ.

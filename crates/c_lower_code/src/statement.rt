@@ -22,21 +22,24 @@ use gg_base::NoMemory;
 
 // A condition that falls through where it holds, and else goes to a label.
 fn unless(frame: Frame, c: &Expression, to: u32, l: u32) -> Result<Emitted, NoMemory>
-    ensures { IfOk result (λ r. done r ≡ statements.unless frame.locals frame.functions frame.first (destination frame.out) (expression_of c.now) to l) }
+    ensures { IfOk result (λ r. done r ≡ statements.unless frame.locals frame.functions frame.first (destination frame.out)
+        (expression_of c.now) to l) }
 {
     branch(frame, c, false, to, frame.first, l)
 }
 
 // A condition that goes to a label where it holds.
 fn when(frame: Frame, c: &Expression, to: u32, l: u32) -> Result<Emitted, NoMemory>
-    ensures { IfOk result (λ r. done r ≡ statements.when frame.locals frame.functions frame.first (destination frame.out) (expression_of c.now) to l) }
+    ensures { IfOk result (λ r. done r ≡ statements.when frame.locals frame.functions frame.first (destination frame.out)
+        (expression_of c.now) to l) }
 {
     branch(frame, c, true, to, frame.first, l)
 }
 
 // What is evaluated for its effect, if there is something.
 fn effect(frame: Frame, e: &Option<Expression>, l: u32) -> Result<Emitted, NoMemory>
-    ensures { IfOk result (λ r. done r ≡ statements.effect frame.locals frame.functions frame.first (destination frame.out) (optional_expression e.now) l) }
+    ensures { IfOk result (λ r. done r ≡ statements.effect frame.locals frame.functions frame.first (destination frame.out)
+        (optional_expression e.now) l) }
 {
     match e {
         None => Ok(nothing(frame.alloc, frame.first, l)),
@@ -46,7 +49,8 @@ fn effect(frame: Frame, e: &Option<Expression>, l: u32) -> Result<Emitted, NoMem
 
 // A `return`.
 fn returning(frame: Frame, e: &Option<Expression>, l: u32) -> Result<Emitted, NoMemory>
-    ensures { IfOk result (λ r. done r ≡ statements.returning frame.locals frame.functions frame.first (destination frame.out) (optional_expression e.now) l) }
+    ensures { IfOk result (λ r. done r ≡ statements.returning frame.locals frame.functions frame.first (destination frame.out)
+        (optional_expression e.now) l) }
 {
     match e {
         None => delivered(frame.out, due(frame.alloc, Tree::Number(0), frame.first, l)),
@@ -84,7 +88,8 @@ fn one_declared(
 // Declarations, in order, before the statements behind them.
 #[tactic(auto, using(crate::proofs::Rows::declare_begins, crate::proofs::Rows::declare_goes, crate::proofs::Rows::nothing_behind))]
 fn declare(frame: Frame, ds: &[Declaration], rest: &[Action], l: u32) -> Result<Emitted, NoMemory>
-    ensures { IfOk result (λ r. done r ≡ statements.declare frame.locals frame.functions frame.first (destination frame.out) (map declaration ds.now) (acts rest.now) l) }
+    ensures { IfOk result (λ r. done r ≡ statements.declare frame.locals frame.functions frame.first (destination frame.out)
+        (map declaration ds.now) (acts rest.now) l) }
 {
     let mut whole = nothing(frame.alloc, frame.first, l);
     for (i, d) in ds.iter().enumerate() {
@@ -105,7 +110,8 @@ fn for_of(
 ) -> Result<Emitted, NoMemory>
     ensures { IfOk result (λ r. done r ≡ statements.for_of frame.locals frame.functions frame.first (destination frame.out) l
         (optional_expression c.now) (optional_expression e.now)
-        (statements.lower frame.locals frame.functions frame.first (destination frame.out) (act body.now) NoActions (suc (suc l)) (suc l))) }
+        (statements.lower frame.locals frame.functions frame.first (destination frame.out) (act body.now) NoActions
+        (suc (suc l)) (suc l))) }
 {
     let onward = after(l)?;
     let end = after(onward)?;
@@ -159,7 +165,8 @@ fn while_of(frame: Frame, body: &Action, c: &Expression, l: u32) -> Result<Emitt
 #[cycle(statement)]
 fn do_of(frame: Frame, body: &Action, c: &Expression, l: u32) -> Result<Emitted, NoMemory>
     ensures { IfOk result (λ r. done r ≡
-        statements.lower frame.locals frame.functions frame.first (destination frame.out) (DoOf (act body.now) (expression_of c.now)) NoActions 0 0 l) }
+        statements.lower frame.locals frame.functions frame.first (destination frame.out)
+        (DoOf (act body.now) (expression_of c.now)) NoActions 0 0 l) }
 {
     let onward = after(l)?;
     let end = after(onward)?;
@@ -225,7 +232,8 @@ pub(crate) fn statement(
     onward: u32,
     l: u32,
 ) -> Result<Emitted, NoMemory>
-    ensures { IfOk result (λ r. done r ≡ statements.lower frame.locals frame.functions frame.first (destination frame.out) (act a.now) (acts rest.now) broken onward l) }
+    ensures { IfOk result (λ r. done r ≡ statements.lower frame.locals frame.functions frame.first (destination frame.out)
+        (act a.now) (acts rest.now) broken onward l) }
 {
     match a {
         Action::Declare(ds) => declare(frame, ds, rest, l),
@@ -260,7 +268,8 @@ pub(crate) fn row(
     onward: u32,
     l: u32,
 ) -> Result<Emitted, NoMemory>
-    ensures { IfOk result (λ r. done r ≡ statements.lower_row frame.locals frame.functions frame.first (destination frame.out) (acts all.now) broken onward l) }
+    ensures { IfOk result (λ r. done r ≡ statements.lower_row frame.locals frame.functions frame.first (destination frame.out)
+        (acts all.now) broken onward l) }
 {
     let mut whole = nothing(frame.alloc, frame.first, l);
     for (i, a) in all.iter().enumerate() {

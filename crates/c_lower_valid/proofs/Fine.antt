@@ -9,10 +9,10 @@ use Rattle.c_types.specs.declared.typed.ArithmeticOperator.TheVariants as ariths
 use Rattle.c_types.specs.declared.typed.Direction.{Direction}
 use Rattle.c_types.specs.declared.typed.Direction.TheVariants as directions
 use Rattle.c_types.specs.Constants.{scale}
-use Rattle.c_lower_scheme.specs.Trees.{Tree, Num, Loc, Bin, Item, Label, AssignLoc, AssignArg, AssignMem, Cbr, Push, breaks, Ret}
-use Rattle.c_lower_scheme.specs.Parts.{Lowered, Pair, Where, InLoc, InArg, InMem, Located, Passing, Emitted, Assignable, over, over_two, Destination, InLocal, AsResult, delivered}
+use Rattle.c_lower_scheme.specs.Trees.{Tree, Num, Gaddr, Loc, Bin, Item, Label, AssignLoc, AssignArg, AssignMem, Cbr, Push, reads, breaks, Ret}
+use Rattle.c_lower_scheme.specs.Parts.{Lowered, Pair, Where, InLoc, InArg, InMem, Located, Passing, Emitted, Assignable, over, over_two, Destination, InLocal, AsResult, Releasing, delivered}
 use Rattle.c_lower_scheme.specs.Saving.{saving, saved, next_if}
-use Rattle.c_lower_scheme.specs.Places.{integer_of, conv, fitted, read_from, assign_to, address_tree, holding, held, read_low, address_low}
+use Rattle.c_lower_scheme.specs.Places.{integer_of, conv, fitted, read_from, assign_to, address_tree, in_block, holding, held, read_low, address_low}
 use Rattle.c_lower_scheme.specs.Conditions.{truth_of, test, compare, dropped}
 use Rattle.c_lower_scheme.specs.Values.{scaled_by, advance, advance_by, retreat, apart, step}
 use Rattle.c_lower_scheme.specs.Values
@@ -130,6 +130,10 @@ module _ (scene : Scene) where
   ok_if true u v w h g = h
   ok_if false u v w h g = g
 
+  -- an offset in the block, whose address a local keeps
+  pub ok_block : (size o u : ℕ) → size < u → Ok u (in_block size o)
+  ok_block size o u h = ok_if (o == 0) u (Loc size) (Bin ariths.Add (Loc size) (Num o)) h (h, tt)
+
   ok_scaled : (s u : ℕ) (w : Tree) → Ok u w → Ok u (scaled_by s w)
   ok_scaled s u w h = ok_if (s == 1) u w (Bin ariths.Multiply (Num s) w) h (tt, h)
 
@@ -188,10 +192,12 @@ module _ (scene : Scene) where
   abbrev pub Reaches : ℕ → Destination → Type 0
   Reaches t (InLocal n) = n < t
   Reaches t AsResult = Unit {0}
+  Reaches t (Releasing pointer n) = (pointer < scene.objects) × (n < t)
 
   pub reaches_up : (t u : ℕ) (to : Destination) → t ≤ u → Reaches t to → Reaches u to
   reaches_up t u (InLocal n) le h = omega arith
   reaches_up t u AsResult le h = tt
+  reaches_up t u (Releasing pointer n) le h = (h.0, let lt = h.1 in omega arith)
 
   pub fine_delivered : (to : Destination) (t : ℕ) (p : Lowered) → Reaches t to → FineLow t p → FineDone t (delivered to p)
   fine_delivered (InLocal n) t p lt h =
@@ -199,6 +205,19 @@ module _ (scene : Scene) where
       let here : n < p.temps = omega arith in
       record { grows = h.grows; items = fine_behind p.temps p.items (AssignLoc n p.tree) h.items tt (here, h.tree) }
   fine_delivered AsResult t p lt h = record { grows = h.grows; items = fine_behind p.temps p.items (Ret p.tree) h.items tt h.tree }
+  fine_delivered (Releasing pointer n) t p r h =
+      let b = reads p.tree in
+      let u = next_if b p.temps in
+      let up = next_grows b p.temps in
+      let le = h.grows in
+      let lt = r.1 in
+      let here : n < u = omega arith in
+      record {
+        grows = omega arith;
+        items = fine_three u p.items (saving b p.temps p.tree) _ (fine_up p.temps u p.items up h.items) (fine_saving b p.temps p.tree h.tree)
+            (fine_more u (AssignMem ints.Int (Gaddr pointer) (Loc n)) _ tt (r.0, here)
+            (fine_one u (Ret (saved b p.temps p.tree)) tt (ok_saved b p.temps p.tree h.tree)));
+      }
 
   pub fine_dropped : (t : ℕ) (p : Lowered) → FineLow t p → FineDone t (dropped p)
   fine_dropped t p h =
@@ -416,3 +435,4 @@ module _ (scene : Scene) where
             { names = name_pushes p.temps p.trees _ h.trees (c, (here, tt)); order = orderly_saved p.trees f n });
       }
   fine_called_deliver AsResult f t p lt c h = fine_delivered AsResult t (called_low f p) tt (fine_called_low f t p c h)
+  fine_called_deliver (Releasing pointer n) f t p r c h = fine_delivered (Releasing pointer n) t (called_low f p) r (fine_called_low f t p c h)

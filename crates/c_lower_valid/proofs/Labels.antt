@@ -15,6 +15,7 @@ use Rattle.c_types.specs.Typed.{UnaryOf, CastTo, ConvertTo, ArithmeticOf, Compar
 use Rattle.c_types.specs.Typed.{ArithmeticAssignTo, AdvanceAssignTo, RetreatAssignTo, CommaOf, SomeExpressions, NoExpressions, MoreExpressions}
 use Rattle.c_lower_scheme.specs.Trees.{Tree, Num, Loc, Neg, Com, Bin, Item, AssignLoc}
 use Rattle.c_lower_scheme.specs.Parts
+use Rattle.c_lower_scheme.specs.Saving
 use Rattle.c_lower_scheme.specs.Places
 use Rattle.c_lower_scheme.specs.Conditions
 use Rattle.c_lower_scheme.specs.Values
@@ -34,6 +35,7 @@ marked_choose_deliver : (to : Parts.Destination) (l : ℕ) (p q r : Parts.Emitte
     → Marked nowhere q.labels r.labels r.items → Marked nowhere l (Conditions.choose_deliver to l p q r).labels (Conditions.choose_deliver to l p q r).items
 marked_choose_deliver (Parts.InLocal n) l p q r h f g = marked_choose_drop l p q r h f g
 marked_choose_deliver Parts.AsResult l p q r h f g = marked_apart l p.labels q.labels r.labels p.items q.items r.items h f g
+marked_choose_deliver (Parts.Releasing pointer n) l p q r h f g = marked_apart l p.labels q.labels r.labels p.items q.items r.items h f g
 
 marked_choice : (c a b : Parts.Lowering) → MarkedWay c → MarkedWay a → MarkedWay b → (t l : ℕ)
     → Marked nowhere l ((Conditions.choose c a b).low t l).labels ((Conditions.choose c a b).low t l).items
@@ -76,9 +78,9 @@ marked_ready b u s l p q a c h g = marked_append nowhere l p q a _ h
 
 marked_update : (b : Bool) (u : ℕ) (s : Parts.Where) (c : Bool) (v : ℕ) (w : Tree) (l p q : ℕ) (a d : List Item)
     → Marked nowhere l p a → Marked nowhere p q d
-    → Marked nowhere l q (a ++ (Places.holding b u s ++ (Places.saving c v w ++ d)))
-marked_update b u s c v w l p q a d h g = marked_ready b u s l p q a (Places.saving c v w ++ d) h
-    (marked_front nowhere p q (Places.saving c v w) d (mute_saving c v w) g)
+    → Marked nowhere l q (a ++ (Places.holding b u s ++ (Saving.saving c v w ++ d)))
+marked_update b u s c v w l p q a d h g = marked_ready b u s l p q a (Saving.saving c v w ++ d) h
+    (marked_front nowhere p q (Saving.saving c v w) d (mute_saving c v w) g)
 
 marked_post : (b : Bool) (u : ℕ) (s : Parts.Where) (n : ℕ) (w : Tree) (ty : CType) (s' : Parts.Where) (w' : Tree) (l p : ℕ)
     (a : List Item) → Marked nowhere l p a → Marked nowhere l p
@@ -99,6 +101,7 @@ marked_call_deliver : (to : Parts.Destination) (f : ℕ) (q : Parts.Passing) (l 
     → Marked nowhere l (Calls.called_deliver to f q).labels (Calls.called_deliver to f q).items
 marked_call_deliver (Parts.InLocal n) f q l h = marked_plain nowhere l q.labels q.items _ h (mute_pushes q.trees _ (λ m. refl))
 marked_call_deliver Parts.AsResult f q l h = marked_delivered Parts.AsResult (Calls.called_low f q) l (marked_call f q l h)
+marked_call_deliver (Parts.Releasing pointer n) f q l h = marked_delivered (Parts.Releasing pointer n) (Calls.called_low f q) l (marked_call f q l h)
 
 marked_deliver_as : (i : Integer) (e : Parts.Lowering) → MarkedWay e → (to : Parts.Destination) (t l : ℕ)
     → Marked nowhere l (Conditions.deliver_as i e to t l).labels (Conditions.deliver_as i e to t l).items
@@ -157,7 +160,7 @@ module _ (size count : ℕ) where
   marked_step : (m : Moment) (by : Direction) (p : Parts.Located) (l : ℕ) → Marked nowhere l p.labels p.items
       → Marked nowhere l (Assignments.step_low size count m by p).labels (Assignments.step_low size count m by p).items
   marked_step moments.Before by p l h = marked_post _ _ _ _ _ p.type _
-      (Values.step by (Loc (Places.next_if (Assignments.must_keep size count [] p.place) p.temps)) (Num (scale p.type))) l
+      (Values.step by (Loc (Saving.next_if (Assignments.must_keep size count [] p.place) p.temps)) (Num (scale p.type))) l
       p.labels _ h
   marked_step moments.After by p l h = let r = Assignments.step_ready size count by p in
       marked_store_low r.place r l (marked_ready _ _ _ l p.labels p.labels _ [] h (marked_nil nowhere p.labels))

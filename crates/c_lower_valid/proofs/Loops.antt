@@ -1,21 +1,24 @@
 -- Labels among the items of statements: `break` and `continue` go out, unless a loop is around them.
-use Rattle.std.proofs.Common.{◌≡◌, ℕ, suc, ◌+◌, ◌≤◌, ◌<◌, List, [], ◌∷◌, ◌++◌, Option, Some, None, refl, arith}
+use Rattle.std.proofs.Common.{◌≡◌, ℕ, zero, suc, ◌+◌, ◌≤◌, ◌<◌, List, [], ◌∷◌, ◌++◌, length, Option, Some, None, refl, arith}
 use Rattle.std.specs.Prelude.{Bool, true, false}
 use Rattle.c_types.specs.Constants.{constant_of}
+use Rattle.c_types.specs.declared.types.CType.{CType}
 use Rattle.c_types.specs.Typed.{AnExpression}
-use Rattle.c_program.specs.Statements.{ADeclaration, KeepOf, ClearOf, BeginOf, AnAction, SomeActions, NoActions, MoreActions, DeclareOf, BlockOf, EvaluateOf, BreakOf, ContinueOf}
+use Rattle.c_program.specs.Statements.{ADeclaration, KeepOf, ClearOf, BeginOf, StoreOf, ZerosOf, AnAction, SomeActions, NoActions, MoreActions, DeclareOf, BlockOf, EvaluateOf, BreakOf, ContinueOf}
 use Rattle.c_program.specs.Statements.{ReturnOf, IfOf, IfElseOf, WhileOf, DoOf, ForOf}
-use Rattle.c_sound.specs.Fits.{behind_act, FitsAct, FitsActs}
-use Rattle.c_lower_scheme.specs.Trees.{Num, Item, Label, Jump, Ret}
+use Rattle.c_program.specs.Programs.{ARoutine}
+use Rattle.c_sound.specs.Fits.{no_local, behind_act, FitsAct, FitsActs}
+use Rattle.c_lower_scheme.specs.Trees.{Num, Item, Label, Jump}
 use Rattle.c_lower_scheme.specs.Parts
 use Rattle.c_lower_scheme.specs.Expressions
 use Rattle.c_lower_scheme.specs.Mentions
 use Rattle.c_lower_scheme.specs.Zeros
 use Rattle.c_lower_scheme.specs.Flow
 use Rattle.c_lower_scheme.specs.Statements
+use Rattle.c_lower_scheme.specs.Programs
 use Rattle.c_lower_scheme.proofs.Labels.{at, stands, stands_append}
 use Rattle.c_lower_valid.proofs.Marks.{aims, aims_append, nowhere, Marked, marked_nil, marked_out, marked_append, marked_same, marked_plain}
-use Rattle.c_lower_valid.proofs.Marks.{marked_front, marked_count, IsMute, marked_inner, marked_fork}
+use Rattle.c_lower_valid.proofs.Marks.{marked_front, marked_count, IsMute, marked_inner, marked_fork, marked_delivered}
 use Rattle.c_lower_valid.proofs.Labels.{marked_way}
 
 -- the labels to which `break` and `continue` go, in a loop
@@ -113,29 +116,42 @@ mute_clearing : (b : Bool) (n : ℕ) → IsMute (Flow.clearing b n)
 mute_clearing true n m = refl
 mute_clearing false n m = refl
 
-module _ (size count : ℕ) where
-  marked_effect : (e : Option AnExpression) (l : ℕ) → Marked nowhere l (Statements.effect size count e l).labels
-      (Statements.effect size count e l).items
-  marked_effect None l = marked_nil nowhere l
-  marked_effect (Some e) l = (marked_way size count e).drop size l
+-- labels at which a block is taken, and zeros are written in it
+marked_claimed : (size t pointer block l : ℕ) → Marked nowhere l (suc l) (Flow.claimed size t pointer block l).items
+marked_claimed size t pointer block l = marked_count nowhere nowhere l (suc l) [] _ (marked_nil nowhere (suc l)) (λ m. omega arith) (λ m. omega arith) (λ m lt. omega arith)
 
-  marked_returning : (e : Option AnExpression) (l : ℕ) → Marked nowhere l (Statements.returning size count e l).labels
-      (Statements.returning size count e l).items
-  marked_returning None l = marked_plain nowhere l l [] (Ret (Num 0) ∷ []) (marked_nil nowhere l) (λ m. refl)
-  marked_returning (Some e) l = (marked_way size count e).deliver Parts.AsResult size l
+marked_zeros : (size t : ℕ) (ty : CType) (o n l : ℕ) → Marked nowhere l (suc l) (Flow.zeros_in_block size t ty o n l).items
+marked_zeros size t ty o n l = marked_count nowhere nowhere l (suc l) [] _ (marked_nil nowhere (suc l)) (λ m. omega arith) (λ m. omega arith) (λ m lt. omega arith)
+
+module _ (size count first : ℕ) (away : Parts.Destination) where
+  marked_effect : (e : Option AnExpression) (l : ℕ) → Marked nowhere l (Statements.effect size count first away e l).labels
+      (Statements.effect size count first away e l).items
+  marked_effect None l = marked_nil nowhere l
+  marked_effect (Some e) l = (marked_way size count e).drop first l
+
+  marked_returning : (e : Option AnExpression) (l : ℕ) → Marked nowhere l (Statements.returning size count first away e l).labels
+      (Statements.returning size count first away e l).items
+  marked_returning None l = marked_delivered away (Parts.due (Num 0) first l) l (marked_nil nowhere l)
+  marked_returning (Some e) l = (marked_way size count e).deliver away first l
 
   marked_declare : (ds : List ADeclaration) (rest : SomeActions) (l : ℕ)
-      → Marked nowhere l (Statements.declare size count ds rest l).labels (Statements.declare size count ds rest l).items
+      → Marked nowhere l (Statements.declare size count first away ds rest l).labels (Statements.declare size count first away ds rest l).items
   marked_declare [] rest l = marked_nil nowhere l
   marked_declare (KeepOf object ∷ ds) rest l = marked_declare ds rest l
   marked_declare (ClearOf n ∷ ds) rest l =
       marked_front nowhere l _ (Flow.clearing (Zeros.is_zeroed n ds rest) n) _ (mute_clearing (Zeros.is_zeroed n ds rest) n) (marked_declare ds rest l)
   marked_declare (BeginOf n e ∷ ds) rest l =
-      let q = (Expressions.way size count e).deliver (Parts.InLocal n) size l in
+      let q = (Expressions.way size count e).deliver (Parts.InLocal n) first l in
       let b = Mentions.mentions n e in
       marked_append nowhere l q.labels _ _ _ (marked_front nowhere l q.labels (Flow.clearing b n) q.items (mute_clearing b n)
-      ((marked_way size count e).deliver (Parts.InLocal n) size l))
+      ((marked_way size count e).deliver (Parts.InLocal n) first l))
       (marked_declare ds rest q.labels)
+  marked_declare (StoreOf t o e ∷ ds) rest l =
+      let q = Flow.stored_in_block size t o ((Expressions.way size count e).low first l) in
+      marked_append nowhere l q.labels _ _ _ (marked_plain nowhere l q.labels _ _ ((marked_way size count e).low first l) (λ m. refl))
+      (marked_declare ds rest q.labels)
+  marked_declare (ZerosOf t o n ∷ ds) rest l =
+      marked_append nowhere l (suc l) _ (Flow.zeros_in_block size first t o n l).items _ (marked_zeros size first t o n l) (marked_declare ds rest (suc l))
 
   -- a `break` or `continue` goes to a label around it
   mutual
@@ -163,54 +179,54 @@ module _ (size count : ℕ) where
 
   marked_if_by : (scope : ℕ → Type 0) (inside : Bool) (o : Option ℕ) (c : AnExpression) (a : AnAction) (lb lc l : ℕ) → FitsAct size scope inside a
       → Statements.going a lb lc ≡ o
-      → ((m : ℕ) → Marked (leaving inside lb lc) m (Statements.lower size count a NoActions lb lc m).labels (Statements.lower size count a NoActions lb lc m).items)
-      → Marked (leaving inside lb lc) l (Statements.if_by size count o c (Statements.lower size count a NoActions lb lc) l).labels
-      (Statements.if_by size count o c (Statements.lower size count a NoActions lb lc) l).items
+      → ((m : ℕ) → Marked (leaving inside lb lc) m (Statements.lower size count first away a NoActions lb lc m).labels (Statements.lower size count first away a NoActions lb lc m).items)
+      → Marked (leaving inside lb lc) l (Statements.if_by size count first away o c (Statements.lower size count first away a NoActions lb lc) l).labels
+      (Statements.if_by size count first away o c (Statements.lower size count first away a NoActions lb lc) l).items
   marked_if_by scope inside (Some to) c a lb lc l f e h =
-      marked_out (at to) (leaving inside lb lc) l _ _ (goes_out scope inside a lb lc to f e) ((marked_way size count c).branch true to size l)
+      marked_out (at to) (leaving inside lb lc) l _ _ (goes_out scope inside a lb lc to f e) ((marked_way size count c).branch true to first l)
   marked_if_by scope inside None c a lb lc l f e h =
-      let q = Statements.unless size count c l (suc l) in
-      marked_inner (leaving inside lb lc) l q.labels _ q.items _ ((marked_way size count c).branch false l size (suc l)) (h q.labels)
+      let q = Statements.unless size count first away c l (suc l) in
+      marked_inner (leaving inside lb lc) l q.labels _ q.items _ ((marked_way size count c).branch false l first (suc l)) (h q.labels)
 
   marked_while_by : (out : ℕ → ℕ) (o : Option ℕ) (c : AnExpression) (f : ℕ → ℕ → ℕ → Parts.Emitted) (l : ℕ)
       → ((lb lc m : ℕ) → Marked (leaving true lb lc) m (f lb lc m).labels (f lb lc m).items)
-      → Marked out l (Statements.while_by size count o c f l).labels (Statements.while_by size count o c f l).items
+      → Marked out l (Statements.while_by size count first away o c f l).labels (Statements.while_by size count first away o c f l).items
   marked_while_by out (Some v) c f l h =
-      let q = Statements.unless size count c (suc l) (suc (suc l)) in
-      marked_while out l q.labels _ q.items _ ((marked_way size count c).branch false (suc l) size (suc (suc l))) (h (suc l) l q.labels)
+      let q = Statements.unless size count first away c (suc l) (suc (suc l)) in
+      marked_while out l q.labels _ q.items _ ((marked_way size count c).branch false (suc l) first (suc (suc l))) (h (suc l) l q.labels)
   marked_while_by out None c f l h =
       let x = f (suc (suc l)) (suc l) (suc (suc (suc l))) in
-      marked_loop out (suc l) l x.labels _ x.items _ (λ m. omega arith) (h (suc (suc l)) (suc l) (suc (suc (suc l)))) ((marked_way size count c).branch true l size x.labels)
+      marked_loop out (suc l) l x.labels _ x.items _ (λ m. omega arith) (h (suc (suc l)) (suc l) (suc (suc (suc l)))) ((marked_way size count c).branch true l first x.labels)
 
   marked_tested : (out : ℕ → ℕ) (o : Option ℕ) (c : AnExpression) (e : Option AnExpression) (l : ℕ) (f : ℕ → Parts.Emitted)
       → ((m : ℕ) → Marked (leaving true (suc (suc l)) (suc l)) m (f m).labels (f m).items)
-      → Marked out l (Statements.for_tested size count o l c e f).labels (Statements.for_tested size count o l c e f).items
+      → Marked out l (Statements.for_tested size count first away o l c e f).labels (Statements.for_tested size count first away o l c e f).items
   marked_tested out (Some v) c e l f h =
-      let q = Statements.unless size count c (suc (suc l)) (suc (suc (suc l))) in
+      let q = Statements.unless size count first away c (suc (suc l)) (suc (suc (suc l))) in
       let b = f q.labels in
       marked_for out l q.labels b.labels _ q.items b.items _
-      ((marked_way size count c).branch false (suc (suc l)) size (suc (suc (suc l)))) (h q.labels) (marked_effect e b.labels)
+      ((marked_way size count c).branch false (suc (suc l)) first (suc (suc (suc l)))) (h q.labels) (marked_effect e b.labels)
   marked_tested out None c e l f h =
       let b = f (suc (suc (suc (suc l)))) in
-      let s = Statements.effect size count e b.labels in
+      let s = Statements.effect size count first away e b.labels in
       marked_turns out l b.labels s.labels _ b.items s.items _ (h (suc (suc (suc (suc l))))) (marked_effect e b.labels)
-      ((marked_way size count c).branch true l size s.labels)
+      ((marked_way size count c).branch true l first s.labels)
 
   marked_for_of : (out : ℕ → ℕ) (c e : Option AnExpression) (l : ℕ) (f : ℕ → Parts.Emitted)
       → ((m : ℕ) → Marked (leaving true (suc (suc l)) (suc l)) m (f m).labels (f m).items)
-      → Marked out l (Statements.for_of size count l c e f).labels (Statements.for_of size count l c e f).items
+      → Marked out l (Statements.for_of size count first away l c e f).labels (Statements.for_of size count first away l c e f).items
   marked_for_of out None e l f h = let b = f (suc (suc (suc l))) in
       marked_ever out l b.labels _ b.items _ (h (suc (suc (suc l)))) (marked_effect e b.labels)
   marked_for_of out (Some c) e l f h = marked_tested out (constant_of c) c e l f h
 
   mutual
     marked_act : (scope : ℕ → Type 0) (inside : Bool) (a : AnAction) (rest : SomeActions) (lb lc l : ℕ) → FitsAct size scope inside a
-        → Marked (leaving inside lb lc) l (Statements.lower size count a rest lb lc l).labels (Statements.lower size count a rest lb lc l).items
+        → Marked (leaving inside lb lc) l (Statements.lower size count first away a rest lb lc l).labels (Statements.lower size count first away a rest lb lc l).items
     marked_act scope inside (DeclareOf ds) rest lb lc l f = marked_out nowhere (leaving inside lb lc) l _ _ (λ m. omega arith)
         (marked_declare ds rest l)
     marked_act scope inside (BlockOf row) rest lb lc l f = marked_row scope inside row lb lc l f
     marked_act scope inside (EvaluateOf e) rest lb lc l f = marked_out nowhere (leaving inside lb lc) l _ _ (λ m. omega arith)
-        ((marked_way size count e).drop size l)
+        ((marked_way size count e).drop first l)
     marked_act scope true BreakOf rest lb lc l f = marked_same (leaving true lb lc) l l [] (Jump lb ∷ []) (marked_nil (leaving true lb lc) l)
         (λ m. refl) (λ m lt. omega arith)
     marked_act scope false BreakOf rest lb lc l f = absurd (cc)
@@ -222,29 +238,48 @@ module _ (size count : ℕ) where
     marked_act scope inside (IfOf c a) rest lb lc l f =
         marked_if_by scope inside (Statements.going a lb lc) c a lb lc l f.1 refl (λ m. marked_act scope inside a NoActions lb lc m f.1)
     marked_act scope inside (IfElseOf c a b) rest lb lc l f =
-        let q = Statements.unless size count c l (suc (suc l)) in
-        let x = Statements.lower size count a NoActions lb lc q.labels in
+        let q = Statements.unless size count first away c l (suc (suc l)) in
+        let x = Statements.lower size count first away a NoActions lb lc q.labels in
         marked_fork (leaving inside lb lc) l q.labels x.labels _ q.items x.items _ [] [] (λ m. refl) (λ m. refl)
-        ((marked_way size count c).branch false l size (suc (suc l))) (marked_act scope inside a NoActions lb lc q.labels f.1)
+        ((marked_way size count c).branch false l first (suc (suc l))) (marked_act scope inside a NoActions lb lc q.labels f.1)
         (marked_act scope inside b NoActions lb lc x.labels f.2)
     marked_act scope inside (WhileOf c a) rest lb lc l f =
-        marked_while_by (leaving inside lb lc) (constant_of c) c (Statements.lower size count a NoActions) l (λ x y m. marked_act scope true a NoActions x y m f.1)
+        marked_while_by (leaving inside lb lc) (constant_of c) c (Statements.lower size count first away a NoActions) l (λ x y m. marked_act scope true a NoActions x y m f.1)
     marked_act scope inside (DoOf a c) rest lb lc l f =
-        let x = Statements.lower size count a NoActions (suc (suc l)) (suc l) (suc (suc (suc l))) in
+        let x = Statements.lower size count first away a NoActions (suc (suc l)) (suc l) (suc (suc (suc l))) in
         marked_loop (leaving inside lb lc) l l x.labels _ x.items _ (λ m. omega arith) (marked_act scope true a NoActions (suc (suc l)) (suc l) (suc (suc (suc l))) f.0)
-        ((marked_way size count c).branch true l size x.labels)
+        ((marked_way size count c).branch true l first x.labels)
     marked_act scope inside (ForOf i c e a) rest lb lc l f =
-        let x = Statements.effect size count i l in
+        let x = Statements.effect size count first away i l in
         marked_append (leaving inside lb lc) l x.labels _ x.items _
         (marked_out nowhere (leaving inside lb lc) l _ _ (λ m. omega arith) (marked_effect i l))
-        (marked_for_of (leaving inside lb lc) c e x.labels (Statements.lower size count a NoActions (suc (suc x.labels)) (suc x.labels))
+        (marked_for_of (leaving inside lb lc) c e x.labels (Statements.lower size count first away a NoActions (suc (suc x.labels)) (suc x.labels))
         (λ m. marked_act scope true a NoActions (suc (suc x.labels)) (suc x.labels) m f.3))
 
     pub marked_row : (scope : ℕ → Type 0) (inside : Bool) (row : SomeActions) (lb lc l : ℕ) → FitsActs size scope inside row
-        → Marked (leaving inside lb lc) l (Statements.lower_row size count row lb lc l).labels
-        (Statements.lower_row size count row lb lc l).items
+        → Marked (leaving inside lb lc) l (Statements.lower_row size count first away row lb lc l).labels
+        (Statements.lower_row size count first away row lb lc l).items
     marked_row scope inside NoActions lb lc l f = marked_nil (leaving inside lb lc) l
     marked_row scope inside (MoreActions a row) lb lc l f =
-        let x = Statements.lower size count a row lb lc l in
+        let x = Statements.lower size count first away a row lb lc l in
         marked_append (leaving inside lb lc) l x.labels _ x.items _ (marked_act scope inside a row lb lc l f.0)
         (marked_row (behind_act scope a) inside row lb lc x.labels f.1)
+
+-- a function's labels, with a block or without
+marked_way_in : (size first pointer block l : ℕ)
+    → Marked nowhere l (Programs.way_in size first pointer block l).labels (Programs.way_in size first pointer block l).items
+marked_way_in size first pointer zero l = marked_nil nowhere l
+marked_way_in size first pointer (suc block) l = marked_claimed size first pointer (suc block) l
+
+pub marked_body : (pointer count : ℕ) (g : ARoutine) (l : ℕ) → FitsActs (length g.locals) no_local false g.body
+    → Marked nowhere l (Programs.body_of pointer count g l).labels (Programs.body_of pointer count g l).items
+marked_body pointer count g l f =
+    let size : ℕ = length g.locals in
+    let first : ℕ = Programs.first_temporary size g.block in
+    let away : Parts.Destination = Programs.way_out pointer size g.block in
+    let w = Programs.way_in size first pointer g.block l in
+    let x = Statements.lower_row size count first away g.body 0 0 w.labels in
+    let end = Parts.delivered away (Parts.due (Num 0) first x.labels) in
+    marked_append nowhere l w.labels end.labels w.items _ (marked_way_in size first pointer g.block l)
+    (marked_append nowhere w.labels x.labels end.labels x.items _ (marked_row size count first away no_local false g.body 0 0 w.labels f)
+    (marked_delivered away (Parts.due (Num 0) first x.labels) x.labels (marked_nil nowhere x.labels)))

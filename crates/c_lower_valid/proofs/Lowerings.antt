@@ -10,10 +10,10 @@ use Rattle.c_types.specs.declared.typed.Moment.TheVariants as moments
 use Rattle.c_types.specs.declared.typed.Direction.{Direction}
 use Rattle.c_types.specs.Constants.{scale}
 use Rattle.c_lower_scheme.specs.Trees.{Tree, Num, Neg, Com, Label, AssignLoc, Jump, sensed}
-use Rattle.c_lower_scheme.specs.Parts.{Lowered, Located, Emitted, Lowering, due, Destination, InLocal, AsResult, over}
+use Rattle.c_lower_scheme.specs.Parts.{Lowered, Located, Emitted, Lowering, due, Destination, InLocal, AsResult, Releasing, over}
 use Rattle.c_lower_scheme.specs.Parts
 use Rattle.c_lower_scheme.specs.Places.{fitted, integer_of, conv}
-use Rattle.c_lower_scheme.specs.Conditions.{truth_of, valued, conditional, effective, mapped, chained, goal, chain, chain_drop, drop_two, choose_low, choose_drop, choose}
+use Rattle.c_lower_scheme.specs.Conditions.{truth_of, valued, conditional, effective, mapped, chained, goal, chain, chain_drop, drop_two, choose_low, choose_drop, choose_leave, choose}
 use Rattle.c_lower_scheme.specs.Conditions.{comma, deliver_as, converting, choose_deliver}
 use Rattle.c_lower_scheme.specs.Conditions
 use Rattle.c_lower_scheme.specs.Values.{step}
@@ -28,24 +28,24 @@ use Rattle.c_lower_valid.proofs.Fine.{Ok, ok_up, fine_nil, fine_append, fine_up,
 use Rattle.c_lower_valid.proofs.Fine.{ok_step, fine_over, fine_over_two, fine_truth, fine_test, fine_compare, fine_dropped, fine_join, fine_ready, fine_update, fine_postfix}
 use Rattle.c_lower_valid.proofs.Fine.{fine_store_drop, fine_store_low, OkWhere, Reaches, reaches_up, fine_delivered, ok_fitted}
 
-module _ (scene : Scene) (size count : ℕ) where
+module _ (scene : Scene) (size count first : ℕ) where
   abbrev Lows : ℕ → Lowered → Type 0
   Lows t p = FineLow scene t p
 
   abbrev Dones : ℕ → Emitted → Type 0
   Dones t p = FineDone scene t p
 
-  -- in each of the four ways, from a temporary on that is no local of the function's own
+  -- in each of the four ways, from a temporary on that is no local of the function's own, nor keeps the address of its block
   pub record FineWay (w : Lowering) : Type 0 where
-    pub low : (t l : ℕ) → size ≤ t → Lows t (w.low t l)
-    pub branch : (sense : Bool) (to t l : ℕ) → size ≤ t → Dones t (w.branch sense to t l)
-    pub drop : (t l : ℕ) → size ≤ t → Dones t (w.drop t l)
-    pub deliver : (to : Destination) (t l : ℕ) → size ≤ t → Reaches scene t to → Dones t (w.deliver to t l)
+    pub low : (t l : ℕ) → first ≤ t → Lows t (w.low t l)
+    pub branch : (sense : Bool) (to t l : ℕ) → first ≤ t → Dones t (w.branch sense to t l)
+    pub drop : (t l : ℕ) → first ≤ t → Dones t (w.drop t l)
+    pub deliver : (to : Destination) (t l : ℕ) → first ≤ t → Reaches scene t to → Dones t (w.deliver to t l)
 
   pub fine_due : (w : Tree) (t l : ℕ) → Ok scene t w → Lows t (due w t l)
   fine_due w t l h = record { grows = omega arith; items = fine_nil scene t; tree = h }
 
-  pub fine_valued : (f : ℕ → ℕ → Lowered) → ((t l : ℕ) → size ≤ t → Lows t (f t l)) → FineWay (valued f)
+  pub fine_valued : (f : ℕ → ℕ → Lowered) → ((t l : ℕ) → first ≤ t → Lows t (f t l)) → FineWay (valued f)
   fine_valued f h = record {
     low = h;
     branch = λ sense to t l le. fine_test scene sense to t (f t l) (h t l le);
@@ -53,8 +53,8 @@ module _ (scene : Scene) (size count : ℕ) where
     deliver = λ to t l le r. fine_delivered scene to t (f t l) r (h t l le);
   }
 
-  pub fine_effective : (f : ℕ → ℕ → Lowered) (d : ℕ → ℕ → Emitted) → ((t l : ℕ) → size ≤ t → Lows t (f t l))
-      → ((t l : ℕ) → size ≤ t → Dones t (d t l)) → FineWay (effective f d)
+  pub fine_effective : (f : ℕ → ℕ → Lowered) (d : ℕ → ℕ → Emitted) → ((t l : ℕ) → first ≤ t → Lows t (f t l))
+      → ((t l : ℕ) → first ≤ t → Dones t (d t l)) → FineWay (effective f d)
   fine_effective f d h g = record {
     low = h;
     branch = λ sense to t l le. fine_test scene sense to t (f t l) (h t l le);
@@ -63,7 +63,7 @@ module _ (scene : Scene) (size count : ℕ) where
   }
 
   pub fine_conditional : (f : Bool → ℕ → ℕ → ℕ → Emitted) (d : ℕ → ℕ → Emitted)
-      → ((sense : Bool) (to t l : ℕ) → size ≤ t → Dones t (f sense to t l)) → ((t l : ℕ) → size ≤ t → Dones t (d t l))
+      → ((sense : Bool) (to t l : ℕ) → first ≤ t → Dones t (f sense to t l)) → ((t l : ℕ) → first ≤ t → Dones t (d t l))
       → FineWay (conditional f d)
   fine_conditional f d h g = record {
     low = λ t l le. fine_truth scene t l (f false l (suc t) (suc l)) (h false l (suc t) (suc l) (omega arith));
@@ -77,7 +77,7 @@ module _ (scene : Scene) (size count : ℕ) where
       → FineWay (mapped f e)
   fine_mapped f k e h = fine_effective _ _ (λ t l le. fine_over scene f k t (e.low t l) (h.low t l le)) h.drop
 
-  fine_deliver_as : (i : Integer) (e : Lowering) → FineWay e → (to : Destination) (t l : ℕ) → size ≤ t → Reaches scene t to → Dones t (deliver_as i e to t l)
+  fine_deliver_as : (i : Integer) (e : Lowering) → FineWay e → (to : Destination) (t l : ℕ) → first ≤ t → Reaches scene t to → Dones t (deliver_as i e to t l)
   fine_deliver_as ints.Char e h to t l le r = fine_delivered scene to t (over (conv ints.Char) (e.low t l)) r (fine_over scene (conv ints.Char) (λ u w k. k) t (e.low t l) (h.low t l le))
   fine_deliver_as ints.UnsignedChar e h to t l le r = fine_delivered scene to t (over (conv ints.UnsignedChar) (e.low t l)) r
       (fine_over scene (conv ints.UnsignedChar) (λ u w k. k) t (e.low t l) (h.low t l le))
@@ -91,7 +91,7 @@ module _ (scene : Scene) (size count : ℕ) where
       let w : FineWay (mapped (fitted ty) e) = fine_mapped (fitted ty) (λ u w k. ok_fitted scene ty u w k) e h in
       record { low = w.low; branch = w.branch; drop = w.drop; deliver = fine_deliver_as (integer_of ty) e h }
 
-  fine_joined : (a b : Lowering) → FineWay a → FineWay b → (t l : ℕ) → size ≤ t → FineTwo scene t (Values.joined size count a b t l)
+  fine_joined : (a b : Lowering) → FineWay a → FineWay b → (t l : ℕ) → first ≤ t → FineTwo scene t (Values.joined size count a b t l)
   fine_joined a b h g t l le =
       let p = a.low t l in
       let x = h.low t l le in
@@ -114,7 +114,7 @@ module _ (scene : Scene) (size count : ℕ) where
             (fine_up scene a.temps b.temps a.items le' h.items) g.items;
       }
 
-  fine_drop_two : (a b : Lowering) → FineWay a → FineWay b → (t l : ℕ) → size ≤ t → Dones t (drop_two a b t l)
+  fine_drop_two : (a b : Lowering) → FineWay a → FineWay b → (t l : ℕ) → first ≤ t → Dones t (drop_two a b t l)
   fine_drop_two a b h g t l le =
       let p = a.drop t l in
       let x = h.drop t l le in
@@ -138,7 +138,7 @@ module _ (scene : Scene) (size count : ℕ) where
             (fine_up scene p.temps q.temps p.items le' h.items) g.items (fine_one scene q.temps (Label l) tt tt);
       }
 
-  pub fine_chain : (stop : Bool) (a b : Lowering) → FineWay a → FineWay b → (sense : Bool) (to t l : ℕ) → size ≤ t
+  pub fine_chain : (stop : Bool) (a b : Lowering) → FineWay a → FineWay b → (sense : Bool) (to t l : ℕ) → first ≤ t
       → Dones t (chain stop a b sense to t l)
   fine_chain stop a b h g sense to t l le =
       let s = Conditions.same stop sense in
@@ -147,7 +147,7 @@ module _ (scene : Scene) (size count : ℕ) where
       let lx = x.grows in
       fine_chained s t l p (b.branch sense to) x (g.branch sense to p.temps p.labels (omega arith))
 
-  pub fine_chain_drop : (stop : Bool) (a b : Lowering) → FineWay a → FineWay b → (t l : ℕ) → size ≤ t → Dones t (chain_drop a stop b t l)
+  pub fine_chain_drop : (stop : Bool) (a b : Lowering) → FineWay a → FineWay b → (t l : ℕ) → first ≤ t → Dones t (chain_drop a stop b t l)
   fine_chain_drop stop a b h g t l le =
       let p = a.branch stop l t (suc l) in
       let x = h.branch stop l t (suc l) le in
@@ -189,9 +189,8 @@ module _ (scene : Scene) (size count : ℕ) where
             (fine_behind scene r.temps r.items (Label (suc l)) f.items tt tt)));
       }
 
-  fine_choose_deliver : (to : Destination) (t l : ℕ) (p q r : Emitted) → Dones t p → Dones p.temps q → Dones q.temps r → Dones t (choose_deliver to l p q r)
-  fine_choose_deliver (InLocal n) t l p q r h g f = fine_choose_drop t l p q r h g f
-  fine_choose_deliver AsResult t l p q r h g f =
+  fine_choose_leave : (t l : ℕ) (p q r : Emitted) → Dones t p → Dones p.temps q → Dones q.temps r → Dones t (choose_leave l p q r)
+  fine_choose_leave t l p q r h g f =
       let le = h.grows in
       let le' = g.grows in
       let le'' = f.grows in
@@ -203,7 +202,12 @@ module _ (scene : Scene) (size count : ℕ) where
             (fine_more scene r.temps (Label l) _ tt tt f.items);
       }
 
-  fine_choice : (c a b : Lowering) → FineWay c → FineWay a → FineWay b → (t l : ℕ) → size ≤ t → Lows t ((choose c a b).low t l)
+  fine_choose_deliver : (to : Destination) (t l : ℕ) (p q r : Emitted) → Dones t p → Dones p.temps q → Dones q.temps r → Dones t (choose_deliver to l p q r)
+  fine_choose_deliver (InLocal n) t l p q r h g f = fine_choose_drop t l p q r h g f
+  fine_choose_deliver AsResult t l p q r h g f = fine_choose_leave t l p q r h g f
+  fine_choose_deliver (Releasing pointer n) t l p q r h g f = fine_choose_leave t l p q r h g f
+
+  fine_choice : (c a b : Lowering) → FineWay c → FineWay a → FineWay b → (t l : ℕ) → first ≤ t → Lows t ((choose c a b).low t l)
   fine_choice c a b h g f t l le =
       let p = c.branch false l (suc t) (suc (suc l)) in
       let x = h.branch false l (suc t) (suc (suc l)) (omega arith) in
@@ -272,7 +276,7 @@ module _ (scene : Scene) (size count : ℕ) where
 
   -- `x op= e`, and `++` and `--`
   fine_updated : (f : CType → Tree → Tree → Tree) → ((ty : CType) (u : ℕ) (a b : Tree) → Ok scene u a → Ok scene u b
-      → Ok scene u (f ty a b)) → (t : ℕ) (p : Located) (e : Lowering) → size ≤ t → FineFound scene t p → FineWay e
+      → Ok scene u (f ty a b)) → (t : ℕ) (p : Located) (e : Lowering) → first ≤ t → FineFound scene t p → FineWay e
       → FineReady scene t (Assignments.updated size count f p e.low)
   fine_updated f k t p e le h g =
       let lx = h.grows in
@@ -280,7 +284,7 @@ module _ (scene : Scene) (size count : ℕ) where
 
   pub fine_update_by : (f : CType → Tree → Tree → Tree)
       → ((ty : CType) (u : ℕ) (a b : Tree) → Ok scene u a → Ok scene u b → Ok scene u (f ty a b)) → (p : ℕ → ℕ → Located) (e : Lowering)
-      → ((t l : ℕ) → size ≤ t → FineFound scene t (p t l)) → FineWay e → FineWay (Assignments.update_by size count f p e)
+      → ((t l : ℕ) → first ≤ t → FineFound scene t (p t l)) → FineWay e → FineWay (Assignments.update_by size count f p e)
   fine_update_by f k p e h g = fine_effective _ _
       (λ t l le. fine_store_low scene t (Assignments.updated size count f (p t l) e.low) (fine_updated f k t (p t l) e le (h t l le) g))
       (λ t l le. fine_store_drop scene t (Assignments.updated size count f (p t l) e.low) (fine_updated f k t (p t l) e le (h t l le) g))
@@ -295,14 +299,14 @@ module _ (scene : Scene) (size count : ℕ) where
       (λ u w k. ok_step scene by u w (Num (scale p.type)) k tt) t p h
   fine_step moments.After by t p h = fine_store_low scene t (Assignments.step_ready size count by p) (fine_step_ready by t p h)
 
-  pub fine_assigned : (between : Bool) (t : ℕ) (p : Located) (e : Lowering) → size ≤ t → FineFound scene t p → FineWay e
+  pub fine_assigned : (between : Bool) (t : ℕ) (p : Located) (e : Lowering) → first ≤ t → FineFound scene t p → FineWay e
       → FineReady scene t (Assignments.assigned size count between p e.low)
   fine_assigned between t p e le h g =
       let lx = h.grows in
       fine_ready scene _ t p (e.low p.temps p.labels) h (g.low p.temps p.labels (omega arith))
 
   -- an assignment, also to a local that the value is delivered to
-  pub fine_assign_low : (o : Option ℕ) (t : ℕ) (p : Located) (e : Lowering) → Assignments.local_of size count p ≡ o → size ≤ t → FineFound scene t p → FineWay e
+  pub fine_assign_low : (o : Option ℕ) (t : ℕ) (p : Located) (e : Lowering) → Assignments.local_of size count p ≡ o → first ≤ t → FineFound scene t p → FineWay e
       → Lows t (Assignments.assign_low size count o p e)
   fine_assign_low None t p e is le h g = fine_store_low scene t (Assignments.assigned size count true p e.low) (fine_assigned true t p e le h g)
   fine_assign_low (Some n) t p e is le h g =
@@ -317,7 +321,7 @@ module _ (scene : Scene) (size count : ℕ) where
         tree = omega arith;
       }
 
-  pub fine_assign_drop : (o : Option ℕ) (t : ℕ) (p : Located) (e : Lowering) → Assignments.local_of size count p ≡ o → size ≤ t → FineFound scene t p → FineWay e
+  pub fine_assign_drop : (o : Option ℕ) (t : ℕ) (p : Located) (e : Lowering) → Assignments.local_of size count p ≡ o → first ≤ t → FineFound scene t p → FineWay e
       → Dones t (Assignments.assign_drop size count o p e)
   fine_assign_drop None t p e is le h g = fine_store_drop scene t (Assignments.assigned size count false p e.low) (fine_assigned false t p e le h g)
   fine_assign_drop (Some n) t p e is le h g =

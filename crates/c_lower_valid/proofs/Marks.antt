@@ -4,8 +4,9 @@ use Rattle.std.specs.Prelude.{Bool, true, false}
 use Rattle.std.proofs.lemmas.Bool.{cases_lt}
 use Rattle.gg_base.specs.declared.relation.Rel.{Rel}
 use Rattle.c_types.specs.declared.types.CType.{CType}
-use Rattle.c_lower_scheme.specs.Trees.{Tree, Num, Item, Label, AssignLoc, AssignArg, AssignMem, Cbr, Jump, Push, Call, Save, Ret, breaks}
+use Rattle.c_lower_scheme.specs.Trees.{Tree, Num, Item, Label, AssignLoc, AssignArg, AssignMem, Cbr, Jump, Push, Call, Save, Ret, reads, breaks}
 use Rattle.c_lower_scheme.specs.Parts
+use Rattle.c_lower_scheme.specs.Saving
 use Rattle.c_lower_scheme.specs.Places
 use Rattle.c_lower_scheme.specs.Conditions
 use Rattle.c_lower_scheme.specs.Calls
@@ -113,7 +114,7 @@ marked_count out out' l u is js h le e k = record {
   aimed = λ m lt. ⊎_elim (λ z. omega (arith, e m, k m lt)) (λ z. omega (arith, e m, le m)) (lands h m);
 }
 
-pub mute_saving : (b : Bool) (u : ℕ) (w : Tree) → IsMute (Places.saving b u w)
+pub mute_saving : (b : Bool) (u : ℕ) (w : Tree) → IsMute (Saving.saving b u w)
 mute_saving true u w m = refl
 mute_saving false u w m = refl
 
@@ -145,6 +146,8 @@ pub marked_delivered : (to : Parts.Destination) (p : Parts.Lowered) (l : ℕ) �
     → Marked nowhere l (Parts.delivered to p).labels (Parts.delivered to p).items
 marked_delivered (Parts.InLocal n) p l h = marked_plain nowhere l p.labels p.items _ h (λ m. refl)
 marked_delivered Parts.AsResult p l h = marked_plain nowhere l p.labels p.items _ h (λ m. refl)
+marked_delivered (Parts.Releasing pointer n) p l h =
+    marked_plain nowhere l p.labels p.items _ h (mute_append (Saving.saving (reads p.tree) p.temps p.tree) _ (mute_saving (reads p.tree) p.temps p.tree) (λ m. refl))
 
 -- a branch behind items
 pub marked_branch : (r : Rel) (to : ℕ) (a b : Tree) (l u : ℕ) (is : List Item) → Marked nowhere l u is
@@ -186,9 +189,9 @@ marked_conditional f g h h' = record { low = truth; branch = h; drop = h'; deliv
         (λ m. omega (arith, stands_append m b.items T)) (λ m lt. omega (arith, aims_append m b.items T))
 
 pub marked_two : (out : ℕ → ℕ) (u : ℕ) (b : Bool) (w : Tree) (l p q : ℕ) (a c : List Item) → Marked out l p a → Marked out p q c
-    → Marked out l q (a ++ (Places.saving b u w ++ c))
-marked_two out u b w l p q a c h g = marked_append out l p q a (Places.saving b u w ++ c) h
-    (marked_front out p q (Places.saving b u w) c (mute_saving b u w) g)
+    → Marked out l q (a ++ (Saving.saving b u w ++ c))
+marked_two out u b w l p q a c h g = marked_append out l p q a (Saving.saving b u w ++ c) h
+    (marked_front out p q (Saving.saving b u w) c (mute_saving b u w) g)
 
 -- the label stands behind both parts
 pub marked_inner : (out : ℕ → ℕ) (l p q : ℕ) (a c : List Item) → Marked (at l) (suc l) p a → Marked out p q c

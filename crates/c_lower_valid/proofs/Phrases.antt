@@ -11,13 +11,13 @@ use Rattle.c_types.specs.Typed.{ArithmeticAssignTo, AdvanceAssignTo, RetreatAssi
 use Rattle.c_sound.specs.Fits.{StandsIn, Fits, FitsAt, FitsAll}
 use Rattle.c_sound.specs.Stands.{Stands, StandsAt, StandAll, arguments, IsThere}
 use Rattle.c_lower_scheme.specs.Trees.{Num, Gaddr, Bin}
-use Rattle.c_lower_scheme.specs.Places.{where_of, address_tree, fitted}
+use Rattle.c_lower_scheme.specs.Places.{where_of, in_block, address_tree, fitted}
 use Rattle.c_lower_scheme.specs.Values.{advance, advance_by, retreat, apart}
 use Rattle.c_lower_scheme.specs.Calls.{callee_number, others, called_low}
 use Rattle.c_lower_scheme.specs.Assignments
 use Rattle.c_lower_scheme.specs.Expressions
 use Rattle.c_lower_valid.proofs.Named.{Scene}
-use Rattle.c_lower_valid.proofs.Fine.{Ok, fine_nil, OkWhere, FineFound, FinePassing, ok_advance, ok_advance_by, ok_retreat, ok_apart, fine_over, fine_read, fine_address}
+use Rattle.c_lower_valid.proofs.Fine.{Ok, ok_block, fine_nil, OkWhere, FineFound, FinePassing, ok_advance, ok_advance_by, ok_retreat, ok_apart, fine_over, fine_read, fine_address}
 use Rattle.c_lower_valid.proofs.Fine.{fine_store_drop, fine_pass, fine_called_drop, fine_called_low, fine_called_deliver, fine_test, ok_fitted}
 use Rattle.c_lower_valid.proofs.Lowerings.{FineWay, fine_due, fine_valued, fine_effective, fine_conditional, fine_converting, fine_binary, fine_relation, fine_chain, fine_chain_drop}
 use Rattle.c_lower_valid.proofs.Lowerings.{fine_choose, fine_comma, fine_unary, fine_update_by, fine_step_ready, fine_step, fine_assign_low, fine_assign_drop}
@@ -30,20 +30,26 @@ passes_all size count (MoreExpressions e es) to t l =
     let h = passes_all size count es (others to) p.temps p.labels in
     omega (arith, h)
 
-module _ (scene : Scene) (size count : ℕ) (takes : Callee → ℕ → Type 0)
-    (calls : (f : Callee) (n : ℕ) → takes f n → scene.callable (callee_number count f) n) where
-  ok_array : (v : Variable) (u : ℕ) → IsThere scene.objects scene.params v → Ok scene u (address_tree (where_of v))
-  ok_array (variables.Automatic n) u h = tt
-  ok_array (variables.Parameter n) u h = tt
-  ok_array (variables.Global n) u h = h
-  ok_array (variables.Static n) u h = h
+-- In a function with so many bytes in its block, and its first temporary: behind its own locals, and behind the block's address if it has one.
+module _ (scene : Scene) (size count first block : ℕ) (takes : Callee → ℕ → Type 0)
+    (calls : (f : Callee) (n : ℕ) → takes f n → scene.callable (callee_number count f) n) (fits : size ≤ first) (room : 1 ≤ block → size < first) where
+  pub ok_there : (o u : ℕ) → first ≤ u → o < block → Ok scene u (in_block size o)
+  ok_there o u le lt = let r : size < first = room (omega arith) in ok_block scene size o u (omega arith)
 
-  ok_variable : (scope : ℕ → Type 0) → ((n : ℕ) → scope n → n < size) → (v : Variable) (u : ℕ) → size ≤ u → StandsIn scope v
-      → IsThere scene.objects scene.params v → OkWhere scene u (where_of v)
+  ok_array : (v : Variable) (u : ℕ) → first ≤ u → IsThere scene.objects scene.params block v → Ok scene u (address_tree (where_of size v))
+  ok_array (variables.Automatic n) u le h = tt
+  ok_array (variables.Parameter n) u le h = tt
+  ok_array (variables.Global n) u le h = h
+  ok_array (variables.Static n) u le h = h
+  ok_array (variables.InBlock o) u le h = ok_there o u le h
+
+  ok_variable : (scope : ℕ → Type 0) → ((n : ℕ) → scope n → n < size) → (v : Variable) (u : ℕ) → first ≤ u → StandsIn scope v
+      → IsThere scene.objects scene.params block v → OkWhere scene u (where_of size v)
   ok_variable scope within (variables.Automatic n) u le k h = let lt = within n k in omega arith
   ok_variable scope within (variables.Parameter n) u le k h = h
   ok_variable scope within (variables.Global n) u le k h = h
   ok_variable scope within (variables.Static n) u le k h = h
+  ok_variable scope within (variables.InBlock o) u le k h = ok_there o u le h
 
   callable_so : (f : Callee) (es : SomeExpressions) (to : List CType) (t l : ℕ) → takes f (arguments es)
       → scene.callable (callee_number count f) (length (Expressions.pass size count es to t l).trees)
@@ -51,32 +57,32 @@ module _ (scene : Scene) (size count : ℕ) (takes : Callee → ℕ → Type 0)
       (calls f (arguments es) h)
 
   abbrev Lowering : AnExpression → Type 0
-  Lowering e = FineWay scene size count (Expressions.way size count e)
+  Lowering e = FineWay scene size count first (Expressions.way size count e)
 
   abbrev There : Variable → Type 0
-  There v = IsThere scene.objects scene.params v
+  There v = IsThere scene.objects scene.params block v
 
   mutual
     pub fine_seek : (scope : ℕ → Type 0) (within : (n : ℕ) → scope n → n < size) (a : APlace) → FitsAt scope a
-        → StandsAt There takes scene.objects a → (t l : ℕ) → size ≤ t → FineFound scene t (Expressions.seek size count a t l)
+        → StandsAt There takes scene.objects a → (t l : ℕ) → first ≤ t → FineFound scene t (Expressions.seek size count a t l)
     fine_seek scope within (VariableAt ty v) f s t l le = record
         { grows = omega arith; items = fine_nil scene t; place = ok_variable scope within v t le f s }
     fine_seek scope within (PointedBy ty e) f s t l le = let h = (fine_way scope within e f s).low t l le in
         record { grows = h.grows; items = h.items; place = h.tree }
-    fine_seek scope within (ElementBy ty e) f s t l le = let h = (fine_way scope within e f s).low t l le in
+    fine_seek scope within (ElementBy ty e) f s t l le = let h = (fine_way scope within e f s.1).low t l le in
         record { grows = h.grows; items = h.items; place = h.tree }
 
     pub fine_way : (scope : ℕ → Type 0) (within : (n : ℕ) → scope n → n < size) (e : AnExpression) → Fits scope e
         → Stands There takes scene.objects e → Lowering e
-    fine_way scope within (Constant n) f s = fine_valued scene size count _ (λ t l le. fine_due scene size count (Num n) t l tt)
-    fine_way scope within (LiteralAt n bytes) f s = fine_valued scene size count _ (λ t l le. fine_due scene size count (Gaddr n) t l s)
-    fine_way scope within (ArrayAt ty v bytes) f s = fine_valued scene size count _
-        (λ t l le. fine_due scene size count (address_tree (where_of v)) t l (ok_array v t s))
-    fine_way scope within (ReadOf a) f s = fine_valued scene size count _
+    fine_way scope within (Constant n) f s = fine_valued scene size count first _ (λ t l le. fine_due scene size count first (Num n) t l tt)
+    fine_way scope within (LiteralAt n bytes) f s = fine_valued scene size count first _ (λ t l le. fine_due scene size count first (Gaddr n) t l s)
+    fine_way scope within (ArrayAt ty v bytes) f s = fine_valued scene size count first _
+        (λ t l le. fine_due scene size count first (address_tree (where_of size v)) t l (ok_array v t le s))
+    fine_way scope within (ReadOf a) f s = fine_valued scene size count first _
         (λ t l le. fine_read scene t (Expressions.seek size count a t l) (fine_seek scope within a f s t l le))
-    fine_way scope within (SizeOfExpression n e) f s = fine_valued scene size count _ (λ t l le. fine_due scene size count (Num n) t l tt)
-    fine_way scope within (SizeOf n) f s = fine_valued scene size count _ (λ t l le. fine_due scene size count (Num n) t l tt)
-    fine_way scope within (AddressOf ty a) f s = fine_valued scene size count _
+    fine_way scope within (SizeOfExpression n e) f s = fine_valued scene size count first _ (λ t l le. fine_due scene size count first (Num n) t l tt)
+    fine_way scope within (SizeOf n) f s = fine_valued scene size count first _ (λ t l le. fine_due scene size count first (Num n) t l tt)
+    fine_way scope within (AddressOf ty a) f s = fine_valued scene size count first _
         (λ t l le. fine_address scene t (Expressions.seek size count a t l) (fine_seek scope within a f s t l le))
     fine_way scope within (CallOf ty g to es) f s = record {
       low = λ t l le. fine_called_low scene (callee_number count g) t (Expressions.pass size count es to t l) (callable_so g es to t l s.0)
@@ -89,61 +95,61 @@ module _ (scene : Scene) (size count : ℕ) (takes : Callee → ℕ → Type 0)
       deliver = λ at t l le r. fine_called_deliver scene at (callee_number count g) t (Expressions.pass size count es to t l) r
           (callable_so g es to t l s.0) (fine_passing scope within es to f s.1 t l le);
     }
-    fine_way scope within (StepOf m by a) f s = fine_effective scene size count _ _
-        (λ t l le. fine_step scene size count m by t (Expressions.seek size count a t l) (fine_seek scope within a f s t l le))
+    fine_way scope within (StepOf m by a) f s = fine_effective scene size count first _ _
+        (λ t l le. fine_step scene size count first m by t (Expressions.seek size count a t l) (fine_seek scope within a f s t l le))
         (λ t l le. fine_store_drop scene t (Assignments.step_ready size count by (Expressions.seek size count a t l))
-        (fine_step_ready scene size count by t (Expressions.seek size count a t l) (fine_seek scope within a f s t l le)))
-    fine_way scope within (UnaryOf op e) f s = fine_unary scene size count op (Expressions.way size count e) (fine_way scope within e f s)
-    fine_way scope within (CastTo ty e) f s = fine_converting scene size count ty (Expressions.way size count e) (fine_way scope within e f s)
-    fine_way scope within (ConvertTo ty e) f s = fine_converting scene size count ty (Expressions.way size count e) (fine_way scope within e f s)
-    fine_way scope within (ArithmeticOf op a b) f s = fine_binary scene size count (Bin op) (λ u x y h g. (h, g))
+        (fine_step_ready scene size count first by t (Expressions.seek size count a t l) (fine_seek scope within a f s t l le)))
+    fine_way scope within (UnaryOf op e) f s = fine_unary scene size count first op (Expressions.way size count e) (fine_way scope within e f s)
+    fine_way scope within (CastTo ty e) f s = fine_converting scene size count first ty (Expressions.way size count e) (fine_way scope within e f s)
+    fine_way scope within (ConvertTo ty e) f s = fine_converting scene size count first ty (Expressions.way size count e) (fine_way scope within e f s)
+    fine_way scope within (ArithmeticOf op a b) f s = fine_binary scene size count first (Bin op) (λ u x y h g. (h, g))
         (Expressions.way size count a) (Expressions.way size count b) (fine_way scope within a f.0 s.0) (fine_way scope within b f.1 s.1)
-    fine_way scope within (CompareOf r a b) f s = fine_relation scene size count r (Expressions.way size count a)
+    fine_way scope within (CompareOf r a b) f s = fine_relation scene size count first r (Expressions.way size count a)
         (Expressions.way size count b) (fine_way scope within a f.0 s.0) (fine_way scope within b f.1 s.1)
     fine_way scope within (BothOf a b) f s =
         let x = fine_way scope within a f.0 s.0 in
         let y = fine_way scope within b f.1 s.1 in
-        fine_conditional scene size count _ _ (fine_chain scene size count false (Expressions.way size count a)
-        (Expressions.way size count b) x y) (fine_chain_drop scene size count false (Expressions.way size count a)
+        fine_conditional scene size count first _ _ (fine_chain scene size count first false (Expressions.way size count a)
+        (Expressions.way size count b) x y) (fine_chain_drop scene size count first false (Expressions.way size count a)
         (Expressions.way size count b) x y)
     fine_way scope within (EitherOf a b) f s =
         let x = fine_way scope within a f.0 s.0 in
         let y = fine_way scope within b f.1 s.1 in
-        fine_conditional scene size count _ _ (fine_chain scene size count true (Expressions.way size count a)
-        (Expressions.way size count b) x y) (fine_chain_drop scene size count true (Expressions.way size count a)
+        fine_conditional scene size count first _ _ (fine_chain scene size count first true (Expressions.way size count a)
+        (Expressions.way size count b) x y) (fine_chain_drop scene size count first true (Expressions.way size count a)
         (Expressions.way size count b) x y)
-    fine_way scope within (AdvanceOf ty a b) f s = fine_binary scene size count (advance ty)
+    fine_way scope within (AdvanceOf ty a b) f s = fine_binary scene size count first (advance ty)
         (λ u x y h g. ok_advance scene ty u x y h g) (Expressions.way size count a) (Expressions.way size count b)
         (fine_way scope within a f.0 s.0) (fine_way scope within b f.1 s.1)
-    fine_way scope within (AdvanceByOf ty a b) f s = fine_binary scene size count (advance_by ty)
+    fine_way scope within (AdvanceByOf ty a b) f s = fine_binary scene size count first (advance_by ty)
         (λ u x y h g. ok_advance_by scene ty u x y h g) (Expressions.way size count a) (Expressions.way size count b)
         (fine_way scope within a f.0 s.0) (fine_way scope within b f.1 s.1)
-    fine_way scope within (RetreatOf ty a b) f s = fine_binary scene size count (retreat ty)
+    fine_way scope within (RetreatOf ty a b) f s = fine_binary scene size count first (retreat ty)
         (λ u x y h g. ok_retreat scene ty u x y h g) (Expressions.way size count a) (Expressions.way size count b)
         (fine_way scope within a f.0 s.0) (fine_way scope within b f.1 s.1)
-    fine_way scope within (DistanceOf ty a b) f s = fine_binary scene size count (apart ty) (λ u x y h g. ok_apart scene ty u x y h g)
+    fine_way scope within (DistanceOf ty a b) f s = fine_binary scene size count first (apart ty) (λ u x y h g. ok_apart scene ty u x y h g)
         (Expressions.way size count a) (Expressions.way size count b) (fine_way scope within a f.0 s.0) (fine_way scope within b f.1 s.1)
-    fine_way scope within (ChoiceOf ty c a b) f s = fine_choose scene size count (Expressions.way size count c)
+    fine_way scope within (ChoiceOf ty c a b) f s = fine_choose scene size count first (Expressions.way size count c)
         (Expressions.way size count a) (Expressions.way size count b) (fine_way scope within c f.0 s.0)
         (fine_way scope within a f.1 s.1) (fine_way scope within b f.2 s.2)
-    fine_way scope within (AssignTo a e) f s = fine_effective scene size count _ _
+    fine_way scope within (AssignTo a e) f s = fine_effective scene size count first _ _
         (λ t l le. let p = Expressions.seek size count a t l in
-        fine_assign_low scene size count (Assignments.local_of size count p) t p (Expressions.way size count e) refl le
+        fine_assign_low scene size count first (Assignments.local_of size count p) t p (Expressions.way size count e) refl le
         (fine_seek scope within a f.0 s.0 t l le) (fine_way scope within e f.1 s.1))
         (λ t l le. let p = Expressions.seek size count a t l in
-        fine_assign_drop scene size count (Assignments.local_of size count p) t p (Expressions.way size count e) refl le
+        fine_assign_drop scene size count first (Assignments.local_of size count p) t p (Expressions.way size count e) refl le
         (fine_seek scope within a f.0 s.0 t l le) (fine_way scope within e f.1 s.1))
-    fine_way scope within (ArithmeticAssignTo op a e) f s = fine_update_by scene size count (λ ty. Bin op) (λ ty u x y h g. (h, g))
+    fine_way scope within (ArithmeticAssignTo op a e) f s = fine_update_by scene size count first (λ ty. Bin op) (λ ty u x y h g. (h, g))
         (Expressions.seek size count a) (Expressions.way size count e) (fine_seek scope within a f.0 s.0) (fine_way scope within e f.1 s.1)
-    fine_way scope within (AdvanceAssignTo a e) f s = fine_update_by scene size count advance (ok_advance scene)
+    fine_way scope within (AdvanceAssignTo a e) f s = fine_update_by scene size count first advance (ok_advance scene)
         (Expressions.seek size count a) (Expressions.way size count e) (fine_seek scope within a f.0 s.0) (fine_way scope within e f.1 s.1)
-    fine_way scope within (RetreatAssignTo a e) f s = fine_update_by scene size count retreat (ok_retreat scene)
+    fine_way scope within (RetreatAssignTo a e) f s = fine_update_by scene size count first retreat (ok_retreat scene)
         (Expressions.seek size count a) (Expressions.way size count e) (fine_seek scope within a f.0 s.0) (fine_way scope within e f.1 s.1)
-    fine_way scope within (CommaOf ty a b) f s = fine_comma scene size count (Expressions.way size count a)
+    fine_way scope within (CommaOf ty a b) f s = fine_comma scene size count first (Expressions.way size count a)
         (Expressions.way size count b) (fine_way scope within a f.0 s.0) (fine_way scope within b f.1 s.1)
 
     fine_passing : (scope : ℕ → Type 0) (within : (n : ℕ) → scope n → n < size) (es : SomeExpressions) (to : List CType) → FitsAll scope es to
-        → StandAll There takes scene.objects es → (t l : ℕ) → size ≤ t → FinePassing scene t (Expressions.pass size count es to t l)
+        → StandAll There takes scene.objects es → (t l : ℕ) → first ≤ t → FinePassing scene t (Expressions.pass size count es to t l)
     fine_passing scope within NoExpressions to f s t l le = record { grows = omega arith; items = fine_nil scene t; trees = tt }
     fine_passing scope within (MoreExpressions e es) [] f s t l le = absurd f
     fine_passing scope within (MoreExpressions e es) (ty ∷ to) f s t l le =

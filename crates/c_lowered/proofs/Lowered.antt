@@ -20,7 +20,7 @@ has_parts p s =
     let stay = functions_stay p in
     record {
       count = stay.count;
-      functions = λ n g f e d. record { same = stay.functions n g f e d; fits = each_function_fits p n g f e d };
+      functions = λ n g f e d. record { same = stay.functions n g f e d; fits = each_function_fits p s n g f e d };
       objects = stay.objects;
       few = few_args p ∣ s ∣₁;
       labels = labels_stay p s;
@@ -37,7 +37,7 @@ sound_programs_are_lowered p s = record {
 }
 
 pub typed_programs_are_lowered : TypedProgramsAreLowered
-typed_programs_are_lowered p t = sound_programs_are_lowered p (typed_is_sound p t.unit t.tokens t.typed)
+typed_programs_are_lowered p t = sound_programs_are_lowered p (typed_is_sound p t.unit t.ends t.tokens t.typed)
 
 pub sources_are_lowered : SourcesAreLowered
 sources_are_lowered bytes p are reads = sound_programs_are_lowered p (sources_are_sound bytes p are reads)

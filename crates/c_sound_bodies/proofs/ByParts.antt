@@ -14,7 +14,7 @@ use Rattle.c_types.specs.Types.{size_of}
 use Rattle.c_types.specs.Typed.{APlace, VariableAt, PointedBy, ElementBy, AnExpression, Constant, LiteralAt, ArrayAt, ReadOf, SizeOfExpression, SizeOf, AddressOf, CallOf, StepOf}
 use Rattle.c_types.specs.Typed.{UnaryOf, CastTo, ConvertTo, ArithmeticOf, CompareOf, BothOf, EitherOf, AdvanceOf, AdvanceByOf, RetreatOf, DistanceOf, ChoiceOf, AssignTo}
 use Rattle.c_types.specs.Typed.{ArithmeticAssignTo, AdvanceAssignTo, RetreatAssignTo, CommaOf, SomeExpressions, NoExpressions, MoreExpressions, operand_size}
-use Rattle.c_sound.specs.Stands.{arguments}
+use Rattle.c_sound.specs.Stands.{arguments, IsAddition}
 
 -- of each argument
 abbrev pub Every : (AnExpression → Type 0) → SomeExpressions → Type 0
@@ -22,13 +22,13 @@ Every P NoExpressions = Unit {0}
 Every P (MoreExpressions e es) = P e × Every P es
 
 -- where something holds of each token, variables are known, calls have their functions, and there are so many objects; what holds of a place is what holds of reading it
-pub record Closed (T : Token → Type 0) (known : Variable → Type 0) (calls : Callee → ℕ → Type 0) (objects : ℕ) (P : AnExpression → Type 0) : Type 0 where
+pub record Closed (T : Token → Type 0) (known : Variable → ℕ → Type 0) (calls : Callee → ℕ → Type 0) (objects : ℕ) (P : AnExpression → Type 0) : Type 0 where
   pub number : (n : ℕ) → T (token.Number n) → P (Constant n)
   pub literal : (n size : ℕ) → n < objects → size < 2 ^ 32 → P (LiteralAt n size)
-  pub array : (t : CType) (v : Variable) (size : ℕ) → known v → size < 2 ^ 32 → P (ArrayAt t v size)
-  pub variable : (t : CType) (v : Variable) → known v → P (ReadOf (VariableAt t v))
+  pub array : (t : CType) (v : Variable) (size : ℕ) → known v size → P (ArrayAt t v size)
+  pub variable : (t : CType) (v : Variable) → known v 0 → P (ReadOf (VariableAt t v))
   pub pointed : (t : CType) (x : AnExpression) → P x → P (ReadOf (PointedBy t x))
-  pub element : (t : CType) (x : AnExpression) → P x → P (ReadOf (ElementBy t x))
+  pub element : (t : CType) (x : AnExpression) → IsAddition x → P x → P (ReadOf (ElementBy t x))
   pub size_of_expression : (x : AnExpression) → P x → P (SizeOfExpression (operand_size x) x)
   pub size : (t : CType) → P (SizeOf (size_of t))
   pub address : (t : CType) (p : APlace) → P (ReadOf p) → P (AddressOf t p)

@@ -22,7 +22,7 @@ use Rattle.c_typed_expressions.specs.Calls.{callee_of, count, call_unless, calle
 use Rattle.c_typed_expressions.specs.Relations.{IsNamed, NamesVariable, NamesArray, IsTyped, AreTyped}
 use Rattle.c_sound.specs.Stands.{arguments}
 use Rattle.c_typed_words.specs.Phrases.{ExpOf, ExpsOf}
-use Rattle.c_sound_bodies.specs.Claim.{ScopeOf, Extends}
+use Rattle.c_sound_bodies.specs.States.{ScopeOf, Extends}
 use Rattle.c_sound_bodies.proofs.ByParts.{Every, Closed}
 use Rattle.c_sound_bodies.proofs.Rules.{binary_has, index_has, prefix_has, step_has, cast_has, sizeof_has, sizeof_type_has, choice_has, assign_has}
 use Rattle.c_sound_bodies.proofs.Names.{found}
@@ -51,7 +51,7 @@ held : {A : Type 0} (test : Bool) (m : Result A Fault) (f : Fault) (u : A) → (
 held true m f u e = record { holds = refl; rest = e }
 held false m f u e = absurd (cc)
 
-module _ (T : Token → Type 0) (known : Variable → Type 0) (calls : Callee → ℕ → Type 0) (objects : ℕ) (P : AnExpression → Type 0)
+module _ (T : Token → Type 0) (known : Variable → ℕ → Type 0) (calls : Callee → ℕ → Type 0) (objects : ℕ) (P : AnExpression → Type 0)
     (c : Closed T known calls objects P) where
   literal_has : (at : ℕ) (bytes : List ℕ) (a : Area) (t : AnExpression × Area) → literal at bytes a ≡ Ok t → Room objects a t.1 → P t.0
   literal_has at bytes a t e r =
@@ -84,9 +84,7 @@ module _ (T : Token → Type 0) (known : Variable → Type 0) (calls : Callee �
       (defined : (n : ℕ) (s : Signature) → slice_get signatures n ≡ Some s → calls (callee_of n) (length s.parameters)) where
     named_has : (n : List ℕ) (t : AnExpression) → IsNamed names signatures scope n t → P t
     named_has n t (NamesVariable of v found_it is) = rw is (c.variable of v (found known scope n (entries.Variable of v) in_scope found_it))
-    named_has n t (NamesArray of v size found_it is) =
-        let h = found known scope n (entries.Array of v size) in_scope found_it in
-        rw is (c.array of v size h.0 h.1)
+    named_has n t (NamesArray of v size found_it is) = rw is (c.array of v size (found known scope n (entries.Array of v size) in_scope found_it))
 
     called_has : (o : Option Signature) (n opened : ℕ) (es : SomeExps) (xs : SomeExpressions) (u : AnExpression) → slice_get signatures n ≡ o →
         called_by o n opened es xs ≡ Ok u → arguments xs ≡ count es → Every P xs → P u

@@ -17,7 +17,7 @@ use Rattle.c_phrases.specs.Phrases.{exps}
 use Rattle.c_typed_expressions.specs.Relations.{Beside, IsTyped, AreTyped}
 use Rattle.c_typed_words.specs.Phrases.{ExpOf, ExpsOf}
 use Rattle.c_typed_words.proofs.Any.{AnyToken, any_exp, any_exps}
-use Rattle.c_sound_bodies.specs.Claim.{Extends}
+use Rattle.c_sound_bodies.specs.States.{Extends}
 
 -- a relation between data areas that holds where nothing is added, across what holds it, and where a literal is added of which something holds
 pub record Laying (T : Token → Type 0) (R : Area → Area → Type 0) : Type 0 where

@@ -1,47 +1,33 @@
 -- Typed statements are sound, by one induction over statements.
-use Rattle.std.proofs.Common.{◌≡◌, ℕ, Bool, true, List, Option, Some, None, refl}
+use Rattle.std.proofs.Common.{◌≡◌, ℕ, Bool, true, List, Option, Some, None}
 use Rattle.c_types.specs.declared.types.CType.{CType}
 use Rattle.c_types.specs.Typed.{AnExpression, ConvertTo}
 use Rattle.c_typed_scope.specs.declared.entry.Entry.{Entry}
 use Rattle.c_typed_scope.specs.declared.entry.Signature.{Signature}
-use Rattle.c_typed_scope.specs.Layout.{Area}
 use Rattle.c_phrases.specs.Phrases.{AnExp}
 use Rattle.c_phrases.specs.Units.{local_item, statement_item, AStatement, block, empty, expression, break_off}
 use Rattle.c_phrases.specs.Units.{continue_on, give_back, if_then, if_else, while_loop, do_loop, for_loop, SomeItems}
 use Rattle.c_phrases.specs.Units.{no_items}
 use Rattle.c_program.specs.Statements.{AnAction, SomeActions, ReturnOf}
 use Rattle.c_sound.specs.Fits.{behind_act, declaring, no_local}
-use Rattle.c_typed_expressions.specs.Relations.{IsTyped}
-use Rattle.c_typed_definition.specs.State.{State, with_area}
+use Rattle.c_typed_definition.specs.State.{State}
 use Rattle.c_typed_definition.specs.Statements.{entered}
 use Rattle.c_typed_law.specs.Statements.{IsFull, IsCondition, IsPart, IsTurn, IsReturn, IsStatement, AreItems}
 use Rattle.c_typed_law.proofs.Statements.{items_mean}
 use Rattle.c_typed_words.specs.Words.{IsToken}
 use Rattle.c_typed_words.specs.Phrases.{ExpOf, PartOf, StatementOf, ItemsOf}
-use Rattle.c_sound_bodies.specs.Claim.{InOrder, BodiesAreSound}
-use Rattle.c_sound_bodies.proofs.Growth.{exp_extends}
-use Rattle.c_sound_bodies.proofs.Closures.{exp_fits, exp_stands}
-use Rattle.c_sound_bodies.proofs.Locals.{grows_area, order_more, locals_sound}
-use Rattle.c_sound_bodies.proofs.Parts.{ExpressionIsSound, PartIsSound, ActIsSound, ActsAreSound, part_none, part_some, order_entered, block_sound, empty_sound, evaluate_sound}
+use Rattle.c_sound_bodies.specs.States.{InOrder}
+use Rattle.c_sound_bodies.specs.Claim.{BodiesAreSound}
+use Rattle.c_sound_bodies.proofs.Steps.{ExpressionIsSound, converted_sound, expression_is}
+use Rattle.c_sound_bodies.proofs.Locals.{locals_sound}
+use Rattle.c_sound_bodies.proofs.Parts.{PartIsSound, ActIsSound, ActsAreSound, part_none, part_some, order_entered, block_sound, empty_sound, evaluate_sound}
 use Rattle.c_sound_bodies.proofs.Parts.{return_sound, break_sound, continue_sound, if_sound, if_else_sound, while_sound, do_sound, for_sound, none_sound, order_plain}
 use Rattle.c_sound_bodies.proofs.Parts.{statement_first, declaration_first}
 
 module _ (names : List (List ℕ × Entry)) (signatures : List Signature) (scope : ℕ → Type 0) (parameters : ℕ) where
-  expression_is : (e : AnExp) (s : State) (x : AnExpression × Area) (r : AnExpression × State) → InOrder scope parameters s →
-      IsTyped names signatures s.scope e s.area x → r ≡ (x.0, with_area x.1 s) → ExpressionIsSound (ExpOf IsToken e) signatures scope parameters s r.0 r.1
-  expression_is e s x r o j is =
-      let further = grows_area s x.1 (exp_extends names signatures s.scope e s.area x j) in
-      rw is (record {
-        fits = exp_fits names signatures scope parameters s e x o j;
-        stands = λ gs objects l defined. exp_stands names signatures scope parameters s gs objects e x o l defined j;
-        names = refl;
-        order = order_more scope parameters s (with_area x.1 s) o refl further;
-        grows = further;
-      })
-
   pub full_sound : (e : AnExp) (s : State) (r : AnExpression × State) → InOrder scope parameters s → IsFull names signatures e s r →
       ExpressionIsSound (ExpOf IsToken e) signatures scope parameters s r.0 r.1
-  full_sound e s r o j = expression_is e s j.part r o j.typed j.whole
+  full_sound e s r o j = rw (j.whole) (expression_is names signatures scope parameters e s j.part o j.typed)
 
   condition_is : {W : Type 0} (s : State) (x r : AnExpression × State) (c : AnExpression) → ExpressionIsSound W signatures scope parameters s x.0 x.1 → c ≡ x.0 →
       r ≡ (c, x.1) → ExpressionIsSound W signatures scope parameters s r.0 r.1
@@ -69,10 +55,6 @@ module _ (names : List (List ℕ × Entry)) (signatures : List Signature) (scope
   turn_sound None s r o j = left_out s r o j
   turn_sound (Some e) s r o j = written_out s j.part r (condition_sound e s j.part o j.typed) j.whole
 
-  converted_sound : {W : Type 0} (t : CType) (s : State) (x : AnExpression) (r : State) → ExpressionIsSound W signatures scope parameters s x r →
-      ExpressionIsSound W signatures scope parameters s (ConvertTo t x) r
-  converted_sound t s x r h = record { fits = h.fits; stands = h.stands; names = h.names; order = h.order; grows = h.grows }
-
 module _ (names : List (List ℕ × Entry)) (signatures : List Signature) (result_type : CType) (parameters : ℕ) where
   returned_is : {W : Type 0} (scope : ℕ → Type 0) (looping : Bool) (s : State) (x : AnExpression × State) (r : AnAction × State) (y : AnExpression) →
       ExpressionIsSound W signatures scope parameters s x.0 x.1 → y ≡ ConvertTo result_type x.0 → r ≡ (ReturnOf (Some y), x.1) →
@@ -80,7 +62,7 @@ module _ (names : List (List ℕ × Entry)) (signatures : List Signature) (resul
   returned_is scope looping s x r y h same is =
       rw (is, same) (return_sound signatures scope parameters looping s (Some (ConvertTo result_type x.0)) x.1
       (part_some signatures scope parameters s (ConvertTo result_type x.0) x.1
-      (converted_sound names signatures scope parameters result_type s x.0 x.1 h)))
+      (converted_sound signatures scope parameters result_type s x.0 x.1 h)))
 
   returned_sound : (scope : ℕ → Type 0) (looping : Bool) (e : Option AnExp) (s : State) (r : AnAction × State) → InOrder scope parameters s →
       IsReturn names signatures result_type e s r → ActIsSound (PartOf IsToken e) signatures scope parameters looping s r.0 r.1

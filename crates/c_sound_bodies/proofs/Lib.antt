@@ -6,7 +6,11 @@ pub mod Names
 pub mod Growth
 pub mod Expressions
 pub mod Closures
+pub mod Steps
+pub mod Rooms
 pub mod Objects
+pub mod Declared
+pub mod Memory
 pub mod Locals
 pub mod Parts
 pub mod Law

@@ -1,5 +1,5 @@
 -- Declarations of objects: they add objects, and the names of what they add.
-use Rattle.std.proofs.Common.{◌≡◌, ℕ, ◌+◌, ◌*◌, ◌<◌, ◌≤◌, Bool, true, false, List, [], length, Option, Some, None, Result, Ok, Err, refl, ap, ◌∙◌, arith}
+use Rattle.std.proofs.Common.{◌≡◌, ℕ, ◌+◌, ◌*◌, ◌^◌, ◌<◌, ◌≤◌, Bool, true, false, List, [], length, Option, Some, None, Result, Ok, Err, refl, ap, ◌∙◌, arith}
 use Rattle.c_phrases.specs.declared.operator.Spec.{Spec}
 use Rattle.c_phrases.specs.Phrases.{AnExp, SomeExps, no_exps, exps}
 use Rattle.c_phrases.specs.Units.{AnInit, value, elements, ADeclarator}
@@ -19,13 +19,15 @@ use Rattle.c_sound.specs.Fits.{no_local}
 use Rattle.c_sound.proofs.Registers.{locals_same}
 use Rattle.c_typed_expressions.specs.Phrases.{init_in, brackets_in}
 use Rattle.c_typed_expressions.specs.Expressions.{written}
-use Rattle.c_typed_definition.specs.State.{State, with_area, variable_of, label_of, counted_static, array_entry, laid}
+use Rattle.c_typed_definition.specs.Rooms.{Room}
+use Rattle.c_typed_definition.specs.State.{State, with_area, named_state, variable_of, label_of, counted_static, array_entry, laid}
 use Rattle.c_typed_law.specs.Values.{IsLength, IsElement, AreElements}
 use Rattle.c_typed_law.specs.Objects.{IsCount, AreLaid, HoldsAtFirst, IsFilled, IsPlainObject, IsCountedArray}
 use Rattle.c_typed_law.specs.Objects.{IsArrayObject, IsObjectBy, IsObject}
 use Rattle.c_typed_law.proofs.Values.{length_means}
 use Rattle.c_typed_law.proofs.Objects.{object_means}
-use Rattle.c_sound_bodies.specs.Claim.{IsKnown, OfVariable, InOrder, Extends, Grows, ObjectsAreSound, LengthsAreSound}
+use Rattle.c_sound_bodies.specs.States.{IsKnown, OfVariable, ScopeOf, InOrder, Extends, Grows}
+use Rattle.c_sound_bodies.specs.Claim.{ObjectsAreSound, LengthsAreSound}
 use Rattle.c_sound_bodies.proofs.Names.{variable_more, scope_more, scope_named, known_more, named_outer}
 use Rattle.c_sound_bodies.proofs.Lengths.{count_stays}
 use Rattle.c_sound_bodies.proofs.Growth.{Added, placed_adds, placed_small, extends_same, extends_further, exp_extends}
@@ -67,28 +69,29 @@ pub added_extends : (a : Area) (l : ℕ × Area) → Added a l → Extends a l.1
 added_extends a l h = let more : length l.1.objects ≡ length a.objects + 1 = h.objects in
     record { objects = omega arith; measuring = h.measuring }
 
--- an object's variable, where there are so many objects
-abbrev pub IsObjectOf : ℕ → Variable → Type 0
-IsObjectOf objects (variables.Automatic n) = ⊥
-IsObjectOf objects (variables.Parameter n) = ⊥
-IsObjectOf objects (variables.Global n) = n < objects
-IsObjectOf objects (variables.Static n) = n < objects
+-- an object's variable, or an array of so many bytes, where there are so many objects
+abbrev pub IsObjectOf : ℕ → Variable → ℕ → Type 0
+IsObjectOf objects (variables.Automatic n) size = ⊥
+IsObjectOf objects (variables.Parameter n) size = ⊥
+IsObjectOf objects (variables.Global n) size = (n < objects) × (size < 2 ^ 32)
+IsObjectOf objects (variables.Static n) size = (n < objects) × (size < 2 ^ 32)
+IsObjectOf objects (variables.InBlock o) size = ⊥
 
-object_known : (scope : ℕ → Type 0) (locals parameters objects : ℕ) (v : Variable) → IsObjectOf objects v →
-    IsKnown scope locals parameters objects v
-object_known scope locals parameters objects (variables.Automatic n) h = absurd h
-object_known scope locals parameters objects (variables.Parameter n) h = absurd h
-object_known scope locals parameters objects (variables.Global n) h = h
-object_known scope locals parameters objects (variables.Static n) h = h
+object_known : (scope : ℕ → Type 0) (locals parameters objects block : ℕ) (v : Variable) (size : ℕ) → IsObjectOf objects v size →
+    IsKnown scope locals parameters objects block v size
+object_known scope locals parameters objects block (variables.Automatic n) size h = absurd h
+object_known scope locals parameters objects block (variables.Parameter n) size h = absurd h
+object_known scope locals parameters objects block (variables.Global n) size h = h
+object_known scope locals parameters objects block (variables.Static n) size h = h
+object_known scope locals parameters objects block (variables.InBlock o) size h = absurd h
 
-variable_is : (is_static : Bool) (n objects : ℕ) → n < objects → IsObjectOf objects (variable_of is_static n)
-variable_is true n objects h = h
-variable_is false n objects h = h
+variable_is : (is_static : Bool) (n size objects : ℕ) → size ≤ 1114112 → n < objects → IsObjectOf objects (variable_of is_static n) size
+variable_is true n size objects small h = (h, omega arith)
+variable_is false n size objects small h = (h, omega arith)
 
-array_is : (t : Option CType) (v : Variable) (size objects : ℕ) → size ≤ 1114112 → IsObjectOf objects v →
-    OfVariable (IsObjectOf objects) (array_entry t v size)
-array_is None v size objects small h = (h, omega arith)
-array_is (Some t) v size objects small h = (h, omega arith)
+array_is : (t : Option CType) (v : Variable) (size objects : ℕ) → IsObjectOf objects v size → OfVariable (IsObjectOf objects) (array_entry t v size)
+array_is None v size objects h = h
+array_is (Some t) v size objects h = h
 
 -- a name that stands for no function
 abbrev pub IsVariable : Entry → Type 0
@@ -108,16 +111,18 @@ pub record Declares (name : List ℕ) (s : State) (r : State) : Type 0 where
   pub of : OfVariable (IsObjectOf (length r.area.objects)) entry
   pub locals : r.locals ≡ s.locals
   pub registers : r.registers ≡ s.registers
+  pub room : r.room ≡ s.room
   pub extends : Extends s.area r.area
 
-object_more : (objects many : ℕ) → objects ≤ many → (v : Variable) → IsObjectOf objects v → IsObjectOf many v
-object_more objects many l (variables.Automatic n) h = h
-object_more objects many l (variables.Parameter n) h = h
-object_more objects many l (variables.Global n) h = omega arith
-object_more objects many l (variables.Static n) h = omega arith
+object_more : (objects many : ℕ) → objects ≤ many → (v : Variable) (size : ℕ) → IsObjectOf objects v size → IsObjectOf many v size
+object_more objects many l (variables.Automatic n) size h = h
+object_more objects many l (variables.Parameter n) size h = h
+object_more objects many l (variables.Global n) size h = let below : n < objects = h.0 in (omega arith, h.1)
+object_more objects many l (variables.Static n) size h = let below : n < objects = h.0 in (omega arith, h.1)
+object_more objects many l (variables.InBlock o) size h = h
 
 declares_is : (name : List ℕ) (e : Entry) (s : State) (n : ℕ) (a : Area) (r : ℕ × State) →
-    r ≡ (n, record { scope = with_name name e s.scope; locals = s.locals; registers = s.registers; area = a }) → Extends s.area a →
+    r ≡ (n, with_area a (named_state name e s)) → Extends s.area a →
     OfVariable (IsObjectOf (length s.area.objects)) e → IsVariable e → Declares name s r.1
 declares_is name e s n a r is h of variable = rw is (record {
   entry = e;
@@ -127,6 +132,7 @@ declares_is name e s n a r is h of variable = rw is (record {
       (object_more (length s.area.objects) (length a.objects) h.objects) e of;
   locals = refl;
   registers = refl;
+  room = refl;
   extends = h;
 })
 
@@ -138,6 +144,7 @@ declares_from name s r a h d = record {
   of = d.of;
   locals = d.locals;
   registers = d.registers;
+  room = d.room;
   extends = extends_further s.area a r.area h d.extends;
 }
 
@@ -191,7 +198,7 @@ module _ (names : List (List ℕ × Entry)) (signatures : List Signature) where
       let added = laid_adds is_static d.at d.name (size_of t) (size_of t) s.area j.part j.typed in
       declares_from d.name s r.1 j.part.1 (added_extends s.area j.part added)
       (filled_declares j.part.0 (size_of t) t false d (entries.Variable t (variable_of is_static j.part.0)) (with_area j.part.1 s) r j.whole
-      (variable_is is_static j.part.0 (length j.part.1.objects) (below_added s.area j.part.1 j.part added (extends_same j.part.1))) tt)
+      (variable_is is_static j.part.0 0 (length j.part.1.objects) (omega arith) (below_added s.area j.part.1 j.part added (extends_same j.part.1))) tt)
 
   counted_declares : (is_static : Bool) (t : CType) (d : ADeclarator) (e : Option AnExp) (n : ℕ) (s : State) (r : ℕ × State) →
       IsCountedArray names signatures is_static t d e n s r → Declares d.name s r.1
@@ -204,8 +211,8 @@ module _ (names : List (List ℕ × Entry)) (signatures : List Signature) where
       (filled_declares j.part.0 size t true d (array_entry (pointer_to t) (variable_of is_static j.part.0) size)
       (with_area k.part s) r k.whole
       (array_is (pointer_to t) (variable_of is_static j.part.0) size (length k.part.objects)
-      (laid_small is_static d.at d.name (size_of t) (n * size_of t) s.area j.part j.typed)
-      (variable_is is_static j.part.0 (length k.part.objects) (below_added s.area k.part j.part added behind)))
+      (variable_is is_static j.part.0 size (length k.part.objects) (laid_small is_static d.at d.name (size_of t) (n * size_of t) s.area j.part j.typed)
+      (below_added s.area k.part j.part added behind)))
       (array_is_variable (pointer_to t) (variable_of is_static j.part.0) size))
 
   array_declares : (is_static : Bool) (t : CType) (d : ADeclarator) (e : Option AnExp) (s : State) (r : ℕ × State) →
@@ -228,9 +235,12 @@ module _ (names : List (List ℕ × Entry)) (signatures : List Signature) where
 pub declares_grows : (name : List ℕ) (s r : State) → Declares name s r → Grows s r
 declares_grows name s r h =
     let same : length r.locals ≡ length s.locals = ap length h.locals in
+    let block : r.room.length ≡ s.room.length = ap (λ (z : Room). z.length) h.room in
     record {
       locals = omega arith;
       registers = locals_same (length r.locals) (length s.locals) r.registers s.registers same h.registers;
+      room = λ small. omega arith;
+      stores = ap (λ (z : Room). z.stores) h.room;
       area = h.extends;
       outer = ap (λ (z : Scope). z.outer) h.names ∙ named_outer name h.entry s.scope;
     }
@@ -240,19 +250,21 @@ pub declares_order : (scope : ℕ → Type 0) (parameters : ℕ) (name : List �
     Declares name s r → InOrder scope parameters r
 declares_order scope parameters name s r o h =
     let same : length r.locals ≡ length s.locals = ap length h.locals in
-    let old = IsKnown scope (length s.locals) parameters (length s.area.objects) in
-    let new = IsKnown scope (length r.locals) parameters (length r.area.objects) in
-    let more = scope_more old new s.scope (known_more scope scope (length s.locals) parameters (length s.area.objects) (length r.locals)
-    (length r.area.objects) (λ n k. k) (omega arith) h.extends.objects) o.names in
+    let block : r.room.length ≡ s.room.length = ap (λ (z : Room). z.length) h.room in
+    let old = IsKnown scope (length s.locals) parameters (length s.area.objects) s.room.length in
+    let new = IsKnown scope (length r.locals) parameters (length r.area.objects) r.room.length in
+    let more : s.room.length ≤ 262144 → ScopeOf new s.scope = λ small. scope_more old new s.scope
+    (known_more scope scope (length s.locals) parameters (length s.area.objects) s.room.length (length r.locals) (length r.area.objects) r.room.length
+    (λ n k. k) (omega arith) h.extends.objects (omega arith)) (o.names small) in
     let one = variable_more (IsObjectOf (length r.area.objects)) new
-    (object_known scope (length r.locals) parameters (length r.area.objects)) h.entry h.of in
-    record { names = rw (h.names) (scope_named new s.scope name h.entry more one); laying = h.extends.measuring ∙ o.laying }
+    (object_known scope (length r.locals) parameters (length r.area.objects) r.room.length) h.entry h.of in
+    record { names = λ small. rw (h.names) (scope_named new s.scope name h.entry (more (omega arith)) one); laying = h.extends.measuring ∙ o.laying }
 
 pub objects_are_sound : ObjectsAreSound
 objects_are_sound names signatures is_static spec d parameters n s r o e =
     let h = object_declares names signatures is_static spec d s (n, r) o.laying
     ((object_means names signatures is_static spec d s).found (n, r) e) in
-    record { order = declares_order no_local parameters d.name s r o h; locals = h.locals; grows = declares_grows d.name s r h }
+    record { order = declares_order no_local parameters d.name s r o h; locals = h.locals; room = h.room; grows = declares_grows d.name s r h }
 
 pub lengths_are_sound : LengthsAreSound
 lengths_are_sound names signatures scope e n a b is = length_extends names signatures scope e a (n, b)

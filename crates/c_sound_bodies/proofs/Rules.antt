@@ -35,6 +35,7 @@ use Rattle.c_typed_operators.specs.Stores.{minus_store, store_by, assign_of}
 use Rattle.c_typed_operators.specs.Table.{IsSum, SumOfIntegers, PointerPlus, PlusPointer, IsDifference, DifferenceOfIntegers, PointerMinus, DifferenceOfPointers, IsOrdered}
 use Rattle.c_typed_operators.specs.Table.{OrderOfIntegers, OrderOfPointers, IsBinary}
 use Rattle.c_typed_operators.proofs.Law.{binary_means}
+use Rattle.c_sound.specs.Stands.{IsAddition}
 use Rattle.c_sound_bodies.proofs.ByParts.{Closed}
 
 abbrev typed : AnExpression → Result AnExpression Fault
@@ -45,7 +46,7 @@ pub tested : {A : Type 0} (test : Bool) (m : Result A Fault) (f : Fault) (u : A)
 tested true m f u e = e
 tested false m f u e = absurd (cc)
 
-module _ (T : Token → Type 0) (known : Variable → Type 0) (calls : Callee → ℕ → Type 0) (objects : ℕ) (P : AnExpression → Type 0)
+module _ (T : Token → Type 0) (known : Variable → ℕ → Type 0) (calls : Callee → ℕ → Type 0) (objects : ℕ) (P : AnExpression → Type 0)
     (c : Closed T known calls objects P) where
   same : (t u : AnExpression) → typed t ≡ Ok u → P t → P u
   same t u e p = let is : u ≡ t = cc in rw is p
@@ -87,21 +88,27 @@ module _ (T : Token → Type 0) (known : Variable → Type 0) (calls : Callee �
   binary_has binaries.Divide x y t row p q = rw (row.is) (c.arithmetic ariths.Divide x y p q)
   binary_has binaries.Remainder x y t row p q = rw (row.is) (c.arithmetic ariths.Remainder x y p q)
 
-  element_by : (t : CType) (at : ℕ) (x u : AnExpression) → element_at t at x ≡ Ok u → P x → P u
-  element_by Void at x u e p = absurd (cc)
-  element_by (Integer b) at x u e p = absurd (cc)
-  element_by (Pointer b n) at x u e p = same _ u e (c.element (target b n) x p)
+  element_by : (t : CType) (at : ℕ) (x u : AnExpression) → element_at t at x ≡ Ok u → IsAddition x → P x → P u
+  element_by Void at x u e a p = absurd (cc)
+  element_by (Integer b) at x u e a p = absurd (cc)
+  element_by (Pointer b n) at x u e a p = same _ u e (c.element (target b n) x a p)
 
-  element_has : (at : ℕ) (x u : AnExpression) → element at x ≡ Ok u → P x → P u
+  element_has : (at : ℕ) (x u : AnExpression) → element at x ≡ Ok u → IsAddition x → P x → P u
   unfolding element
-  element_has at x u e p = element_by (type_of x) at x u e p
+  element_has at x u e a p = element_by (type_of x) at x u e a p
 
-  plus_has : (at : ℕ) (x y u : AnExpression) → plus at x y ≡ Ok u → P x → P y → P u
+  sum_adds : (x y t : AnExpression) → IsSum x y t → IsAddition t
+  sum_adds x y t (SumOfIntegers row) = rw (row.is) refl
+  sum_adds x y t (PointerPlus left right is) = rw is tt
+  sum_adds x y t (PlusPointer left right is) = rw is tt
+
+  plus_has : (at : ℕ) (x y u : AnExpression) → plus at x y ≡ Ok u → P x → P y → IsAddition u × P u
   unfolding binary_of
-  plus_has at x y u e p q = sum_has x y u ((binary_means binaries.Add at x y).found u e) p q
+  plus_has at x y u e p q = let sum = (binary_means binaries.Add at x y).found u e in (sum_adds x y u sum, sum_has x y u sum p q)
 
-  index_by : (m : Result AnExpression Fault) (at : ℕ) (u : AnExpression) → (m >>= λ sum. element at sum) ≡ Ok u → ((s : AnExpression) → m ≡ Ok s → P s) → P u
-  index_by (Ok s) at u e h = element_has at s u e (h s refl)
+  index_by : (m : Result AnExpression Fault) (at : ℕ) (u : AnExpression) → (m >>= λ sum. element at sum) ≡ Ok u →
+      ((s : AnExpression) → m ≡ Ok s → IsAddition s × P s) → P u
+  index_by (Ok s) at u e h = let k = h s refl in element_has at s u e k.0 k.1
   index_by (Err f) at u e h = absurd (cc)
 
   pub index_has : (at : ℕ) (x y u : AnExpression) → index_of at x y ≡ Ok u → P x → P y → P u
@@ -137,6 +144,8 @@ module _ (T : Token → Type 0) (known : Variable → Type 0) (calls : Callee �
       address_by_has (pointer_to (place_type (VariableAt t (variables.Global n)))) at (VariableAt t (variables.Global n)) u e h
   address_of_has at (VariableAt t (variables.Static n)) u e h =
       address_by_has (pointer_to (place_type (VariableAt t (variables.Static n)))) at (VariableAt t (variables.Static n)) u e h
+  address_of_has at (VariableAt t (variables.InBlock o)) u e h =
+      address_by_has (pointer_to (place_type (VariableAt t (variables.InBlock o)))) at (VariableAt t (variables.InBlock o)) u e h
   address_of_has at (PointedBy t x) u e h = address_by_has (pointer_to (place_type (PointedBy t x))) at (PointedBy t x) u e h
   address_of_has at (ElementBy t x) u e h = address_by_has (pointer_to (place_type (ElementBy t x))) at (ElementBy t x) u e h
 

@@ -1,14 +1,10 @@
 -- What is claimed of the typing of function bodies: the typed statements fit and stand, and what is in scope stays in order.
-use Rattle.std.specs.Prelude.{◌≡◌, ◌⊎◌, ℕ, ◌<◌, ◌≤◌, ◌^◌, Bool, false, List, ◌++◌, length, Some, slice_get, Ok}
-use Rattle.std.specs.List.{AllByRecursion}
+use Rattle.std.specs.Prelude.{◌≡◌, ℕ, Bool, false, List, ◌++◌, length, Some, slice_get, Ok}
 use Rattle.tree_core.specs.declared.program.Object.{Object}
-use Rattle.tree_core.specs.Locals.{LocalsStand}
 use Rattle.c_phrases.specs.declared.operator.Spec.{Spec}
 use Rattle.c_phrases.specs.Phrases.{AnExp}
 use Rattle.c_phrases.specs.Units.{ADeclarator, SomeItems}
 use Rattle.c_types.specs.declared.types.CType.{CType}
-use Rattle.c_types.specs.declared.typed.Variable.{Variable}
-use Rattle.c_types.specs.declared.typed.Variable.TheVariants as variables
 use Rattle.c_program.specs.Statements.{SomeActions, NoActions, MoreActions}
 use Rattle.c_program.specs.Programs.{ARoutine}
 use Rattle.c_typed_words.specs.Words.{IsToken}
@@ -16,7 +12,6 @@ use Rattle.c_typed_words.specs.Phrases.{ItemsOf}
 use Rattle.c_sound.specs.Fits.{FitsActs, behind_act, no_local}
 use Rattle.c_sound.specs.Stands.{IsThere, Takes, StandsActs}
 use Rattle.c_typed_scope.specs.declared.entry.Entry.{Entry}
-use Rattle.c_typed_scope.specs.declared.entry.Entry.TheVariants as entries
 use Rattle.c_typed_scope.specs.declared.entry.Signature.{Signature}
 use Rattle.c_typed_scope.specs.Scopes.{Scope}
 use Rattle.c_typed_scope.specs.Layout.{Area}
@@ -25,51 +20,7 @@ use Rattle.c_typed_definition.specs.Initialisers.{type_length}
 use Rattle.c_typed_definition.specs.State.{State}
 use Rattle.c_typed_definition.specs.Declarations.{type_object}
 use Rattle.c_typed_definition.specs.Statements.{type_items}
-
--- A variable of a function with so many locals, of which some are in scope, so many parameters and so many bytes of memory locals, where
--- there are so many objects. Bytes past their limit are not counted, and the function is refused then.
-abbrev pub IsKnown : (ℕ → Type 0) → (locals parameters objects block : ℕ) → Variable → Type 0
-IsKnown scope locals parameters objects block (variables.Automatic n) = scope n × (n < locals)
-IsKnown scope locals parameters objects block (variables.Parameter n) = n < parameters
-IsKnown scope locals parameters objects block (variables.Global n) = n < objects
-IsKnown scope locals parameters objects block (variables.Static n) = n < objects
-IsKnown scope locals parameters objects block (variables.InBlock o) = (262144 < block) ⊎ (o < block)
-
--- what a name stands for, where it is a variable, or an array, whose size is a longword
-abbrev pub OfVariable : (Variable → Type 0) → Entry → Type 0
-OfVariable known (entries.Variable t v) = known v
-OfVariable known (entries.Array t v size) = known v × (size < 2 ^ 32)
-OfVariable known (entries.Function n) = Unit {0}
-
--- each variable that a block's names stand for
-abbrev pub NamesOf : (Variable → Type 0) → List (List ℕ × Entry) → Type 0
-NamesOf known es = AllByRecursion (λ (e : List ℕ × Entry). OfVariable known e.1) es
-
-abbrev pub BlocksOf : (Variable → Type 0) → List (List (List ℕ × Entry)) → Type 0
-BlocksOf known bs = AllByRecursion (NamesOf known) bs
-
--- each variable that a name stands for, in each block that is open
-pub record ScopeOf (known : Variable → Type 0) (s : Scope) : Type 0 where
-  pub here : NamesOf known s.here
-  pub outer : BlocksOf known s.outer
-
--- each variable that is in scope is there, and literals take room
-pub record InOrder (scope : ℕ → Type 0) (parameters : ℕ) (s : State) : Type 0 where
-  pub names : ScopeOf (IsKnown scope (length s.locals) parameters (length s.area.objects) s.room.length) s.scope
-  pub laying : s.area.measuring ≡ false
-
--- objects are added to an area, and literals take as much room as before
-pub record Extends (a b : Area) : Type 0 where
-  pub objects : length a.objects ≤ length b.objects
-  pub measuring : b.measuring ≡ a.measuring
-
--- locals and objects are added, numbers of `register` locals still differ, and the blocks around the innermost stay
-pub record Grows (s r : State) : Type 0 where
-  pub locals : length s.locals ≤ length r.locals
-  pub registers : LocalsStand (length s.locals) s.registers → LocalsStand (length r.locals) r.registers
-  pub room : s.room.length ≤ r.room.length
-  pub area : Extends s.area r.area
-  pub outer : r.scope.outer ≡ s.scope.outer
+use Rattle.c_sound_bodies.specs.States.{InOrder, Extends, Grows, HasRoom, HasPlaces}
 
 -- behind a row of statements
 abbrev pub behind_acts : (ℕ → Type 0) → SomeActions → ℕ → Type 0
@@ -83,9 +34,9 @@ AreDefined signatures gs = (n : ℕ) (s : Signature) → slice_get signatures n 
 -- what a body is typed as, from one state to another
 pub record BodyIsSound (signatures : List Signature) (looping : Bool) (parameters : ℕ) (row : SomeItems) (s : State)
     (acts : SomeActions) (r : State) : Type 0 where
-  pub fits : (size : ℕ) → length r.locals ≤ size → ItemsOf IsToken row → FitsActs size no_local looping acts
-  pub stands : (gs : List ARoutine) (objects block : ℕ) → length r.area.objects ≤ objects → r.room.length ≤ block → block ≤ 262144 →
-      AreDefined signatures gs → StandsActs (IsThere objects parameters block) (Takes gs) objects acts
+  pub fits : (size : ℕ) → HasRoom size r → ItemsOf IsToken row → FitsActs size no_local looping acts
+  pub stands : (gs : List ARoutine) (objects block : ℕ) → HasPlaces objects block r → AreDefined signatures gs →
+      StandsActs (IsThere objects parameters block) (Takes gs) objects acts
   pub order : InOrder (behind_acts no_local acts) parameters r
   pub grows : Grows s r
 
@@ -101,6 +52,7 @@ BodiesAreSound =
 pub record ObjectIsSound (parameters : ℕ) (s r : State) : Type 0 where
   pub order : InOrder no_local parameters r
   pub locals : r.locals ≡ s.locals
+  pub room : r.room ≡ s.room
   pub grows : Grows s r
 
 -- The declaration of a variable at file level leaves what is in scope in order.

@@ -10,5 +10,5 @@ pub sources_are_sound : SourcesAreSound
 sources_are_sound bytes p low reads =
     let s = reads.spells in
     let is = s.phrases in
-    text_is_sound p reads.unit.externals
+    text_is_sound p reads.unit.externals reads.ends reads.unit.end
     (unit_of IsToken reads.unit (subst (EachIs IsToken) is.text (each_token 0 bytes s.list s.tokens low))) reads.typed

@@ -79,7 +79,7 @@ value_holds objects size wide v f h =
 ends_before : (objects size : ℕ) (l : Link) → link_lies objects size l ≡ true → l.at + 4 ≤ size
 ends_before objects size l h = grind (arith, nat_tests)
 
-link_holds : (objects size n : ℕ) (os : List Object) (f : Filled) → n < objects → Holds objects size f →
+pub link_holds : (objects size n : ℕ) (os : List Object) (f : Filled) → n < objects → Holds objects size f →
     Holds objects (size + 4) (with_link os n f)
 link_holds objects size n os f below h =
     let low = low_length 4 (address_at os n) in

@@ -21,7 +21,7 @@ use Rattle.c_typed_definition.specs.State.{State}
 use Rattle.c_typed_definition.specs.Signatures.{signature_of, services, service_names, Known, with_function, known_by}
 use Rattle.c_typed_definition.specs.Signatures.{known_with, known_from}
 use Rattle.c_typed_definition.specs.Headings.{Text, is_below, with_declared}
-use Rattle.c_typed_definition.specs.Bodies.{body_of}
+use Rattle.c_typed_definition.specs.Bodies.{routine_of}
 use Rattle.c_typed_law.specs.Texts.{IsBody, IsFunction, IsExternalBy, AreExternals}
 use Rattle.c_typed_law.proofs.Declared.{declared_bodies}
 use Rattle.c_sound_bodies.specs.Claim.{AreDefined}
@@ -239,7 +239,7 @@ module _ (names : List (List ℕ × Entry)) (signatures : List Signature) where
       Corresponds (if is_some o then with_function spec f k else k) r.bodies
   body_corresponds spec f None k s t r j c new = rw j c
   body_corresponds spec f (Some row) k s t r j c new =
-      rw (j.whole) (corresponds_more k t.bodies spec f (body_of spec f j.part.1.locals j.part.1.registers j.part.0) refl refl (new refl) c)
+      rw (j.whole.typed) (corresponds_more k t.bodies spec f (routine_of spec f j.part.1 j.part.0) refl refl (new refl) c)
 
   function_corresponds : (spec : Spec) (f : AFunction) (es : List AnExternal) (k : Known) (t r : Text) →
       names ≡ (known_from es (known_by spec (function f) k)).names → IsFunction names signatures spec f t r → Corresponds k t.bodies →

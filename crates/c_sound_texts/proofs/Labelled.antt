@@ -1,5 +1,5 @@
 -- The labels of a typed program's objects, as `AreLabelled` has them, and the addresses at their links.
-use Rattle.std.proofs.Common.{◌≡◌, ◌≢◌, ℕ, zero, suc, ◌+◌, ◌^◌, ◌<◌, ◌≤◌, ◌==◌, ◌&&◌, true, List, [], ◌∷◌, length, map, Some, refl}
+use Rattle.std.proofs.Common.{◌≡◌, ◌≢◌, ℕ, zero, suc, ◌+◌, ◌^◌, ◌<◌, ◌≤◌, ◌==◌, ◌&&◌, true, List, [], ◌∷◌, length, map, Some, inl, inr, refl}
 use Rattle.std.proofs.Common.{sym, ap, subst, ◌∙◌, arith}
 use Rattle.std.proofs.lemmas.Bool.{and_from, and_parts, le-leb, leb-true, eqb-true}
 use Rattle.std.proofs.lemmas.Fmt.{length-decimal-le}
@@ -8,7 +8,7 @@ use Rattle.std.specs.Fmt.{decimal}
 use Rattle.std.specs.Int.{w32, to_le_bytes}
 use Rattle.std.specs.List.{All, list_all}
 use Rattle.std.specs.Prelude.{codes, nat_le, slice_get}
-use Rattle.gg_base.proofs.Facts.{tail_same}
+use Rattle.gg_base.proofs.Facts.{tail_same, head_same}
 use Rattle.gg_base.specs.Names.{is_name_part}
 use Rattle.gg_base.proofs.Names.{digits_are_parts}
 use Rattle.tree_core.specs.declared.program.Object.{Object}
@@ -31,6 +31,7 @@ use Rattle.c_sound_texts.proofs.Areas.{LieTo}
 use Rattle.c_sound_texts.proofs.Held.{places_of, Addressed, Contains, contents, AreContained}
 use Rattle.c_sound_texts.proofs.Labels.{Each, Differ, labels, OfStatic, OfLiteral, HasFew}
 use Rattle.c_sound_texts.proofs.Named.{start, IsFunctionEntry, not_named, IsLabel, Numbered, Variable, NamesFunction, IsNamed}
+use Rattle.c_sound_texts.proofs.Finished.{IsLabelled, Plain, OfStack}
 
 numbered_spelled : (c k : ℕ) → is_label_start c ≡ true → k < 2 ^ 32 → is_label (c ∷ decimal k) ≡ true
 numbered_spelled c k begins small =
@@ -62,6 +63,19 @@ no_function s name x f (Variable n e is_name found variable is) same =
     let here : find s.scope.here name ≡ Some e = subst (λ (z : List ℕ). find s.scope.here z ≡ Some e) names found in
     let both : Some e ≡ Some f.entry = sym here ∙ f.found in
     not_function e f.entry (cc) variable f.function
+
+-- the labels of the second stack are spelled, and no function's
+labelled_spelled : (s : State) → HasFew s.area → (x : List ℕ) → IsLabelled s x → is_label x ≡ true
+labelled_spelled s few x (Plain h) = label_spelled s few x h
+labelled_spelled s few x (OfStack (inl is)) = rw is refl
+labelled_spelled s few x (OfStack (inr is)) = rw is refl
+
+labelled_apart : (s : State) (name x : List ℕ) → NamesFunction s.scope name → IsLabelled s x → x ≢ function_label name
+labelled_apart s name x f (Plain h) = no_function s name x f h
+labelled_apart s name x f (OfStack (inl is)) =
+    λ e. let equal = head_same 84 95 (95 ∷ 115 ∷ 112 ∷ []) name (sym is ∙ e) in omega arith
+labelled_apart s name x f (OfStack (inr is)) =
+    λ e. let equal = head_same 84 95 (95 ∷ 97 ∷ 114 ∷ 101 ∷ 97 ∷ []) name (sym is ∙ e) in omega arith
 
 -- by number
 each_at : (P : List ℕ → Type 0) (os : List Object) → Each P (labels os) → (i : ℕ) (o : Object) → slice_get os i ≡ Some o → P o.label
@@ -122,24 +136,22 @@ few_objects at (o ∷ os) last le lie some =
     let rest = few_objects (o.address + o.size) os last within lie.1 (All-tail (λ (x : Object). 1 ≤ x.size) o os some) in
     omega arith
 
-has_few : (s : State) (bodies : List ARoutine) (last : ℕ) → IsNamed s bodies → LieTo 65536 s.area.objects last →
+pub has_few : (s : State) (bodies : List ARoutine) (last : ℕ) → IsNamed s bodies → LieTo 65536 s.area.objects last →
     All (λ (o : Object). 1 ≤ o.size) s.area.objects → HasFew s.area
 has_few s bodies last h lie some =
     let counted : s.area.statics + s.area.literals ≤ length s.area.objects = h.counted in
     let most = few_objects 65536 s.area.objects last (omega arith) lie some in
     record { statics = omega arith; literals = omega arith }
 
-pub are_labelled : (s : State) (bodies : List ARoutine) (last : ℕ) → IsNamed s bodies → LieTo 65536 s.area.objects last →
-    All (λ (o : Object). 1 ≤ o.size) s.area.objects → AreContained (places_of s.area.objects) s.area.objects →
-    AreLabelled s.area.objects (map (λ (g : ARoutine). g.name) bodies)
-are_labelled s bodies last h lie some contained =
-    let os = s.area.objects in
-    let few = has_few s bodies last h lie some in
+pub are_labelled : (s : State) (bodies : List ARoutine) (os : List Object) → IsNamed s bodies → HasFew s.area → Each (IsLabelled s) (labels os) →
+    Differ (labels os) → AreContained (places_of os) os → AreLabelled os (map (λ (g : ARoutine). g.name) bodies)
+are_labelled s bodies os h few each differ contained =
+    let at = each_at (IsLabelled s) os each in
     record {
-      differ = differ_at os (h.differ few);
-      spelled = λ i o here. label_spelled s few o.label (each_at (IsLabel s) os h.each i o here);
-      functions = λ i f o name here there. no_function s name o.label (function_at s.scope bodies h.functions f name there) (each_at (IsLabel s) os h.each i o here);
-      putchar = λ i o here. no_function s (codes "putchar") o.label h.putchar (each_at (IsLabel s) os h.each i o here);
-      getchar = λ i o here. no_function s (codes "getchar") o.label h.getchar (each_at (IsLabel s) os h.each i o here);
+      differ = differ_at os differ;
+      spelled = λ i o here. labelled_spelled s few o.label (at i o here);
+      functions = λ i f o name here there. labelled_apart s name o.label (function_at s.scope bodies h.functions f name there) (at i o here);
+      putchar = λ i o here. labelled_apart s (codes "putchar") o.label h.putchar (at i o here);
+      getchar = λ i o here. labelled_apart s (codes "getchar") o.label h.getchar (at i o here);
       addresses = All-weaker (λ (o : Object). Contains (places_of os) (contents o)) (HoldsAddresses os) (λ o k. addresses_held os o k) os contained;
     }

@@ -8,8 +8,11 @@ pub mod Objects
 pub mod Places
 pub mod Functions
 pub mod Main
+pub mod Stores
 pub mod Bodies
 pub mod Labels
 pub mod Named
+pub mod Stack
+pub mod Finished
 pub mod Labelled
 pub mod Law

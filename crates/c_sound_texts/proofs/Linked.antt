@@ -3,7 +3,7 @@ use Rattle.std.proofs.Common.{◌≡◌, ℕ, ◌<◌, ◌≤◌, List, length, 
 use Rattle.c_phrases.specs.Phrases.{AnExp}
 use Rattle.c_types.specs.declared.typed.Variable.{Variable}
 use Rattle.c_types.specs.declared.typed.Variable.TheVariants as variables
-use Rattle.c_types.specs.Typed.{APlace, VariableAt, PointedBy, ElementBy, AnExpression, LiteralAt, ArrayAt, AddressOf, SomeExpressions, NoExpressions, MoreExpressions}
+use Rattle.c_types.specs.Typed.{APlace, VariableAt, AnExpression, LiteralAt, ArrayAt, AddressOf, SomeExpressions, NoExpressions, MoreExpressions}
 use Rattle.c_typed_scope.specs.declared.entry.Entry.{Entry}
 use Rattle.c_typed_scope.specs.declared.entry.Signature.{Signature}
 use Rattle.c_typed_scope.specs.Scopes.{Scope}
@@ -12,7 +12,7 @@ use Rattle.c_typed_scope.specs.Contents.{linked_place, linked}
 use Rattle.c_sound.specs.Stands.{Stands, StandsAt, StandAll}
 use Rattle.c_typed_expressions.specs.Relations.{IsTyped}
 use Rattle.c_typed_words.proofs.Any.{AnyToken, any_exp}
-use Rattle.c_sound_bodies.specs.Claim.{ScopeOf}
+use Rattle.c_sound_bodies.specs.States.{ScopeOf}
 use Rattle.c_sound_bodies.proofs.ByParts.{Every, Closed}
 use Rattle.c_sound_bodies.proofs.Names.{scope_more}
 use Rattle.c_sound_bodies.proofs.Closures.{any_call}
@@ -25,12 +25,18 @@ IsLaid objects (variables.Automatic n) = Unit {0}
 IsLaid objects (variables.Parameter n) = Unit {0}
 IsLaid objects (variables.Global n) = n < objects
 IsLaid objects (variables.Static n) = n < objects
+IsLaid objects (variables.InBlock o) = Unit {0}
 
-pub laid_more : (objects many : ℕ) → objects ≤ many → (v : Variable) → IsLaid objects v → IsLaid many v
-laid_more objects many l (variables.Automatic n) h = tt
-laid_more objects many l (variables.Parameter n) h = tt
-laid_more objects many l (variables.Global n) h = omega arith
-laid_more objects many l (variables.Static n) h = omega arith
+-- so is an array's, whatever its size
+abbrev pub LaidIn : ℕ → Variable → ℕ → Type 0
+LaidIn objects v size = IsLaid objects v
+
+pub laid_more : (objects many : ℕ) → objects ≤ many → (v : Variable) (size : ℕ) → LaidIn objects v size → LaidIn many v size
+laid_more objects many l (variables.Automatic n) size h = tt
+laid_more objects many l (variables.Parameter n) size h = tt
+laid_more objects many l (variables.Global n) size h = omega arith
+laid_more objects many l (variables.Static n) size h = omega arith
+laid_more objects many l (variables.InBlock o) size h = tt
 
 -- an expression names objects that are there
 abbrev pub NamesObjects : ℕ → AnExpression → Type 0
@@ -40,14 +46,14 @@ all_name : (objects : ℕ) (es : SomeExpressions) → Every (NamesObjects object
 all_name objects NoExpressions all = tt
 all_name objects (MoreExpressions e es) all = (all.0, all_name objects es all.1)
 
-closed : (objects : ℕ) → Closed AnyToken (IsLaid objects) any_call objects (NamesObjects objects)
+closed : (objects : ℕ) → Closed AnyToken (LaidIn objects) any_call objects (NamesObjects objects)
 closed objects = record {
   number = λ n w. tt;
   literal = λ n size h small. h;
-  array = λ t v size k small. k;
+  array = λ t v size k. k;
   variable = λ t v k. k;
   pointed = λ t x p. p;
-  element = λ t x p. p;
+  element = λ t x a p. (a, p);
   size_of_expression = λ x p. tt;
   size = λ t. tt;
   address = λ t p h. h;
@@ -74,12 +80,12 @@ closed objects = record {
 
 -- what an expression is typed as, in a scope whose variables are laid out
 pub exp_names : (names : List (List ℕ × Entry)) (signatures : List Signature) (scope : Scope) (e : AnExp) (a : Area)
-    (t : AnExpression × Area) → ScopeOf (IsLaid (length a.objects)) scope → a.measuring ≡ false → Lays a t.1 →
+    (t : AnExpression × Area) → ScopeOf (LaidIn (length a.objects)) scope → a.measuring ≡ false → Lays a t.1 →
     IsTyped names signatures scope e a t → NamesObjects (length t.1.objects) t.0
 exp_names names signatures scope e a t o free h j =
-    exp_has AnyToken (IsLaid (length t.1.objects)) any_call (length t.1.objects) (NamesObjects (length t.1.objects)) (closed (length t.1.objects))
+    exp_has AnyToken (LaidIn (length t.1.objects)) any_call (length t.1.objects) (NamesObjects (length t.1.objects)) (closed (length t.1.objects))
     names signatures scope
-    (scope_more (IsLaid (length a.objects)) (IsLaid (length t.1.objects)) scope
+    (scope_more (LaidIn (length a.objects)) (LaidIn (length t.1.objects)) scope
     (laid_more (length a.objects) (length t.1.objects) (longer a t.1 h)) o)
     (λ n g is. tt) e (any_exp e) a t j (record { laying = free; most = omega arith })
 

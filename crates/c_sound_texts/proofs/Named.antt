@@ -6,7 +6,6 @@ use Rattle.std.specs.Prelude.{codes, is_some, slice_get, if◌then◌else◌}
 use Rattle.std.specs.Str.{bytes_eq}
 use Rattle.std.proofs.lemmas.Slice.Eq.{bytes_eq-Decides}
 use Rattle.gg_base.proofs.Facts.{slice_cases, tail_same, head_same, not_some}
-use Rattle.c_tokens.specs.declared.token.Token.TheVariants as token
 use Rattle.c_phrases.specs.declared.operator.Spec.{Spec}
 use Rattle.c_phrases.specs.Phrases.{AnExp}
 use Rattle.c_phrases.specs.Units.{SomeItems, ADeclarator, AParam, AFunction, ADeclared, function, globals, AnExternal}
@@ -24,8 +23,7 @@ use Rattle.c_typed_expressions.specs.Expressions.{written}
 use Rattle.c_typed_definition.specs.State.{State, with_area}
 use Rattle.c_typed_definition.specs.Signatures.{parameter_type}
 use Rattle.c_typed_definition.specs.Headings.{Text, with_declared}
-use Rattle.c_typed_definition.specs.Bodies.{body_of}
-use Rattle.c_typed_definition.specs.Bodies.{entered_function}
+use Rattle.c_typed_definition.specs.Bodies.{routine_of, entered_function}
 use Rattle.c_typed_definition.specs.Texts.{empty_text}
 use Rattle.c_typed_law.specs.Headings.{IsEarlier}
 use Rattle.c_typed_law.specs.Texts.{IsParameterLength, AreParameters, IsBody, IsFunction, AreGlobals, IsExternalBy}
@@ -36,7 +34,7 @@ use Rattle.c_typed_law.proofs.Declared.{parameter_area}
 use Rattle.c_typed_words.specs.Words.{IsName, IsToken}
 use Rattle.c_typed_words.specs.Phrases.{DeclaratorsOf, DeclaredOf, ExternalsOf}
 use Rattle.c_typed_words.proofs.Any.{AnyToken, any_exp, any_items}
-use Rattle.c_sound_bodies.specs.Claim.{InOrder}
+use Rattle.c_sound_bodies.specs.States.{InOrder}
 use Rattle.c_sound_bodies.proofs.Names.{left_scope}
 use Rattle.c_sound_bodies.proofs.Growth.{exp_lays}
 use Rattle.c_sound_bodies.proofs.Areas.{items_lay, order_any}
@@ -49,7 +47,7 @@ use Rattle.c_sound_texts.proofs.Bodies.{TextIsSound, function_begins, parameters
 
 -- where nothing is laid
 abbrev pub start : Area
-start = empty_text.state.area
+start = (empty_text []).state.area
 
 -- what a name stands for at file level
 abbrev pub Finds : Scope → List ℕ → Entry → Type 0
@@ -291,7 +289,7 @@ module _ (names : List (List ℕ × Entry)) (signatures : List Signature) where
       let sound = bodies_are_sound names signatures (written spec f.stars) false row parameters s x.1 x.0 order
       ((items_mean names signatures (written spec f.stars) false row s).only x j.typed) in
       let further = items_number (written spec f.stars) row parameters s x order j.typed in
-      rw (j.whole) (record {
+      rw (j.whole.typed) (record {
         area = numbers_further u.state.area s.area x.1.area k further;
         scope = left_scope u.state.scope x.1.scope (sound.grows.outer ∙ outer);
       })
@@ -304,10 +302,10 @@ module _ (names : List (List ℕ × Entry)) (signatures : List Signature) where
       subst (IsNamed r.state) (sym bodies) after
   body_named spec f (Some row) s u r j named e h =
       let x = j.part in
-      let b = body_of spec f x.1.locals x.1.registers x.0 in
+      let b = routine_of spec f x.1 x.0 in
       let after = named_numbers u.state r.state u.bodies h (subst (More u.state.scope) (sym e.scope) (same_names u.state.scope)) e.area in
       let name : NamesFunction r.state.scope f.name = subst (λ (z : Scope). NamesFunction z f.name) (sym e.scope) named in
-      let bodies : r.bodies ≡ u.bodies ++ b ∷ [] = ap (λ (z : Text). z.bodies) j.whole in
+      let bodies : r.bodies ≡ u.bodies ++ b ∷ [] = ap (λ (z : Text). z.bodies) j.whole.typed in
       subst (IsNamed r.state) (sym bodies) (function_added r.state u.bodies b after name)
 
   declared_named : (earlier : Option ℕ) (spec : Spec) (f : AFunction) (t : Text) → IsNamed t.state t.bodies →
@@ -328,12 +326,12 @@ module _ (names : List (List ℕ × Entry)) (signatures : List Signature) where
       let many : length (map parameter_type (params_in f.params)) ≡ length (params_in f.params) =
       length-map (params_in f.params) parameter_type in
       let k = declared_sound names signatures j.part spec f t sound in
-      let p = parameters_order names signatures parameters (is_some f.body) (params_in f.params) 0 (entered_function u.state) m.part (omega arith)
-      (function_begins parameters u.state k.order) m.typed in
-      let numbers = parameters_number (is_some f.body) (params_in f.params) 0 (entered_function u.state) m.part m.typed in
+      let p = parameters_order names signatures parameters (is_some f.body) (params_in f.params) 0 (entered_function f u.state) m.part (omega arith)
+      (function_begins f parameters u.state k.order k.room) m.typed in
+      let numbers = parameters_number (is_some f.body) (params_in f.params) 0 (entered_function f u.state) m.part m.typed in
       let named = declared_finds j.part spec f t (find t.state.scope.here f.name) refl j.typed in
       body_named spec f f.body m.part u r q.whole named
-      (body_ends spec f f.body parameters m.part u r p.order p.grows.outer numbers q.whole) (declared_named j.part spec f t h)
+      (body_ends spec f f.body parameters m.part u r p.order p.outer numbers q.whole) (declared_named j.part spec f t h)
 
   globals_named : (spec : Spec) (ds : List ADeclarator) → DeclaratorsOf IsToken ds → (s r : State) (bodies : List ARoutine) → s.area.measuring ≡ false →
       IsNamed s bodies → AreGlobals names signatures spec ds s r → IsNamed r bodies

@@ -4,11 +4,10 @@ use Rattle.std.proofs.Common.{length-append, arith}
 use Rattle.std.proofs.Math.Nat.{mul-le-mul_left, mul-le-mul_right}
 use Rattle.std.proofs.lemmas.Bool.Decides.{nat_tests}
 use Rattle.std.proofs.lemmas.List.Elements.{All-nil, All-cons}
-use Rattle.std.specs.Prelude.{nat_lt, ◌&&◌, if◌then◌else◌}
 use Rattle.tree_core.specs.declared.program.Object.{Object}
 use Rattle.tree_core.specs.Valid.{LinksLie}
 use Rattle.c_phrases.specs.declared.operator.Spec.{Spec}
-use Rattle.c_phrases.specs.Phrases.{AnExp, str, paren, SomeExps, no_exps, exps}
+use Rattle.c_phrases.specs.Phrases.{AnExp, SomeExps, no_exps, exps}
 use Rattle.c_phrases.specs.Units.{AnInit, value, elements, ADeclarator}
 use Rattle.c_types.specs.declared.types.CType.{CType}
 use Rattle.c_types.specs.declared.types.CType.TheVariants as types
@@ -17,35 +16,33 @@ use Rattle.c_types.specs.declared.types.Integer.TheVariants as ints
 use Rattle.c_types.specs.declared.typed.Variable.{Variable}
 use Rattle.c_types.specs.declared.typed.Variable.TheVariants as variables
 use Rattle.c_types.specs.Answers.{Fault, ◌>>=◌}
-use Rattle.c_types.specs.Types.{integer_size, size_of, is_integer, is_scalar, pointer_to}
+use Rattle.c_types.specs.Types.{integer_size, size_of, is_scalar, pointer_to}
 use Rattle.c_typed_scope.specs.declared.entry.Entry.{Entry}
 use Rattle.c_typed_scope.specs.declared.entry.Entry.TheVariants as entries
 use Rattle.c_typed_scope.specs.declared.entry.Signature.{Signature}
 use Rattle.c_typed_scope.specs.Scopes.{Scope, with_name}
 use Rattle.c_typed_scope.specs.Layout.{Area, aligned}
-use Rattle.c_types.specs.Typed.{AnExpression, type_of}
-use Rattle.c_types.specs.Constants.{constant_of}
-use Rattle.c_typed_scope.specs.Contents.{in_range, length_of, Filled, filled_to, holding, with_contents, filled}
+use Rattle.c_typed_scope.specs.Contents.{Filled, filled_to, holding, with_contents, filled}
 use Rattle.c_typed_scope.proofs.Written.{held_length}
 use Rattle.c_typed_expressions.specs.Phrases.{init_in, brackets_in}
 use Rattle.c_typed_expressions.specs.Calls.{count}
 use Rattle.c_typed_expressions.specs.Expressions.{written}
-use Rattle.c_typed_definition.specs.Forms.{text_of, array_form, form_fits, text_length, given_count, own_length}
+use Rattle.c_typed_definition.specs.Forms.{text_of, array_form, form_fits, text_length, given_count}
 use Rattle.c_typed_definition.specs.State.{State, with_area, measuring, variable_of, label_of, counted_static}
 use Rattle.c_typed_definition.specs.State.{array_entry, laid, text_contents}
 use Rattle.c_typed_law.specs.Values.{IsElement, AreElements}
 use Rattle.c_typed_law.specs.Objects.{IsCount, AreLaid, HoldsAtFirst, IsFilled, IsPlainObject, IsCountedArray}
 use Rattle.c_typed_law.specs.Objects.{IsArrayObject, IsObjectBy, IsObject}
-use Rattle.c_sound.specs.Fits.{AreBytes}
 use Rattle.c_typed_words.specs.Words.{IsToken}
 use Rattle.c_typed_words.specs.Phrases.{ExpOf, ExpsOf, PartOf, BracketsOf, InitOf, DeclaratorOf}
-use Rattle.c_sound_bodies.specs.Claim.{OfVariable, ScopeOf}
+use Rattle.c_sound_bodies.specs.States.{OfVariable, ScopeOf}
 use Rattle.c_sound_bodies.proofs.Names.{variable_more, scope_more, scope_named}
-use Rattle.c_sound_bodies.proofs.Objects.{IsObjectOf, object_declares, laid_small}
+use Rattle.c_sound_bodies.proofs.Objects.{IsObjectOf, object_declares}
 use Rattle.c_sound_bodies.proofs.Growth.{exp_lays}
+use Rattle.c_sound_bodies.proofs.Memory.{TextOf, text_is, own_some, length_some, many_enough}
 use Rattle.c_sound_texts.proofs.Held.{places_of, Addressed, Contains, contents, contains_nothing, filled_contained}
 use Rattle.c_sound_texts.proofs.Areas.{Lays, lays_same, lays_further, contains_laid, longer, Placed, placed_is, is_alignment, object_at, object_lies_at, laying}
-use Rattle.c_sound_texts.proofs.Linked.{IsLaid, laid_more, exp_names}
+use Rattle.c_sound_texts.proofs.Linked.{IsLaid, LaidIn, laid_more, exp_names}
 use Rattle.c_sound_texts.proofs.Contents.{Holds, nothing, holds_nothing, holds_more, written_holds, written_contained, filled_holds}
 
 -- an object that is laid out, and holds nothing yet
@@ -76,7 +73,7 @@ laid_at is_static at name align size a l e =
     laid_by is_static (label_of is_static name a) align size _ a l e
     (λ r is. placed_is at (label_of is_static name a) align size [] a r is)
 
-laid_longer : (label : List ℕ) (align size : ℕ) (a : Area) (l : ℕ × Area) → LaidAt label align size a l →
+pub laid_longer : (label : List ℕ) (align size : ℕ) (a : Area) (l : ℕ × Area) → LaidAt label align size a l →
     length l.1.objects ≡ length a.objects + 1
 laid_longer label align size a l h =
     ap length h.objects ∙ length-append a.objects (object_at label align size [] [] a ∷ [])
@@ -88,12 +85,12 @@ held g [] o more = refl
 held g (x ∷ os) o more = ap (λ (z : List Object). x ∷ z) (held g os o more)
 
 -- an object that gets what it holds, once others were laid behind it
-held_places : (n : ℕ) (g : Filled) (os : List Object) → places_of (with_contents n g os) ≡ places_of os
+pub held_places : (n : ℕ) (g : Filled) (os : List Object) → places_of (with_contents n g os) ≡ places_of os
 held_places n g [] = refl
 held_places zero g (o ∷ os) = refl
 held_places (suc n) g (o ∷ os) = ap (λ (z : List ℕ). o.address ∷ z) (held_places n g os)
 
-filled_lays : (label : List ℕ) (align size : ℕ) (g : Filled) (a : Area) (l : ℕ × Area) (b : Area) → is_alignment align ≡ true →
+pub filled_lays : (label : List ℕ) (align size : ℕ) (g : Filled) (a : Area) (l : ℕ × Area) (b : Area) → is_alignment align ≡ true →
     LaidAt label align size a l → Lays l.1 b → Holds (length b.objects) size g → Contains (places_of b.objects) g → 1 ≤ size → Lays a (filled l.0 g b)
 unfolding filled
 filled_lays label align size g a l b fits h k holds contains some =
@@ -116,9 +113,9 @@ variable_laid : (is_static : Bool) (n objects : ℕ) → n < objects → IsLaid 
 variable_laid true n objects h = h
 variable_laid false n objects h = h
 
-array_laid : (t : Option CType) (v : Variable) (size objects : ℕ) → size ≤ 1114112 → IsLaid objects v → OfVariable (IsLaid objects) (array_entry t v size)
-array_laid None v size objects small h = (h, omega arith)
-array_laid (Some t) v size objects small h = (h, omega arith)
+pub array_laid : (t : Option CType) (v : Variable) (size objects : ℕ) → IsLaid objects v → OfVariable (LaidIn objects) (array_entry t v size)
+array_laid None v size objects h = h
+array_laid (Some t) v size objects h = h
 
 integer_aligned : (b : Integer) → is_alignment (integer_size b) ≡ true
 unfolding integer_size
@@ -169,59 +166,26 @@ bytes_within many n wide one le =
     let most : n * 1 ≤ n * wide = mul-le-mul_left n one in
     omega arith
 
--- the bytes of a literal
-abbrev TextBytes : Option (List ℕ) → Type 0
-TextBytes None = Unit {0}
-TextBytes (Some b) = AreBytes b
-
-text_bytes : (e : AnExp) → ExpOf IsToken e → TextBytes (text_of e)
-unfolding text_of
-text_bytes (str b at) w = w
-text_bytes (paren o e) w = text_bytes e w
-text_bytes e w = tt
-
-text_contains : (places : List ℕ) (o : Option (List ℕ)) → TextBytes o → Contains places (text_contents o)
+text_contains : (places : List ℕ) (o : Option (List ℕ)) → TextOf o → Contains places (text_contents o)
 text_contains places None w = contains_nothing places
 text_contains places (Some b) w = record { bytes = w; links = All-nil (Addressed places b) }
 
-text_writes : (o : Option (List ℕ)) → TextBytes o → (a : Area) (r : Filled × Area) → r ≡ (text_contents o, a) →
+text_writes : (o : Option (List ℕ)) → TextOf o → (a : Area) (r : Filled × Area) → r ≡ (text_contents o, a) →
     Writes (text_length o) (nothing, a) r
 text_writes o w a r is =
     rw is (record { lays = lays_same a; holds = text_holds (length a.objects) o; contains = text_contains (places_of a.objects) o w })
 
 -- the scope of an object's own initialiser
 object_scope : (scope : Scope) (name : List ℕ) (e : Entry) (a b : Area) (n : ℕ) → length b.objects ≡ length a.objects + 1 →
-    n ≡ length a.objects → ScopeOf (IsLaid (length a.objects)) scope →
-    ((objects : ℕ) → n < objects → OfVariable (IsLaid objects) e) → ScopeOf (IsLaid (length b.objects)) (with_name name e scope)
+    n ≡ length a.objects → ScopeOf (LaidIn (length a.objects)) scope →
+    ((objects : ℕ) → n < objects → OfVariable (LaidIn objects) e) → ScopeOf (LaidIn (length b.objects)) (with_name name e scope)
 object_scope scope name e a b n more last o of =
-    scope_named (IsLaid (length b.objects)) scope name e
-    (scope_more (IsLaid (length a.objects)) (IsLaid (length b.objects)) scope
+    scope_named (LaidIn (length b.objects)) scope name e
+    (scope_more (LaidIn (length a.objects)) (LaidIn (length b.objects)) scope
     (laid_more (length a.objects) (length b.objects) (omega arith)) o)
     (of (length b.objects) (omega arith))
 
 -- an array has at least one element
-own_some : (t : CType) (i : Option AnInit) → array_form t None i ≡ true → 1 ≤ own_length i
-own_some t None form = absurd (cc)
-own_some t (Some (elements no_exps comma)) form = absurd (cc)
-own_some t (Some (elements (exps e es) comma)) form = omega arith
-own_some t (Some (value e)) form = omega arith
-
-range_some : (o : Option ℕ) (n : ℕ) → in_range o ≡ Some n → 1 ≤ n
-range_some None n e = absurd (cc)
-range_some (Some v) n e = by (nat_lt 0 v && nat_lt v 1048577) refl e
-  where
-    by : (test : Bool) → test ≡ (nat_lt 0 v && nat_lt v 1048577) → (if test then Some v else None) ≡ Some n → 1 ≤ n
-    by true is k = let same : n ≡ v = cc in rw same (grind (arith, nat_tests))
-    by false is k = absurd (cc)
-
-length_some : (x : AnExpression) (n : ℕ) → length_of x ≡ Some n → 1 ≤ n
-unfolding length_of
-length_some x n e = by (is_integer (type_of x)) e
-  where
-    by : (test : Bool) → (if test then in_range (constant_of x) else None) ≡ Some n → 1 ≤ n
-    by true k = range_some (constant_of x) n k
-    by false k = absurd (cc)
-
 counted_some : (names : List (List ℕ × Entry)) (signatures : List Signature) (t : CType) (c : Option AnExp) (i : Option AnInit) (scope : Scope)
     (a : Area) (r : ℕ × Area) → array_form t c i ≡ true → IsCount names signatures c i scope a r → 1 ≤ r.0
 counted_some names signatures t None i scope a r form j = rw j (own_some t i form)
@@ -233,12 +197,9 @@ counted_some names signatures t (Some e) i scope a r form j =
     let same : r.0 ≡ j.part.0 = ap (λ (x : ℕ × Area). x.0) j.whole in
     rw (same, number) some
 
-counted_within : (m given n : ℕ) → nat_lt m given ≡ false → n ≡ m → given ≤ n
-counted_within m given n fails is = grind (arith, nat_tests)
-
 module _ (names : List (List ℕ × Entry)) (signatures : List Signature) where
   element_writes : (scope : Scope) (t : CType) (e : AnExp) → ExpOf IsToken e → (size : ℕ) (s r : Filled × Area) →
-      ScopeOf (IsLaid (length s.1.objects)) scope → s.1.measuring ≡ false → Holds (length s.1.objects) size s.0 →
+      ScopeOf (LaidIn (length s.1.objects)) scope → s.1.measuring ≡ false → Holds (length s.1.objects) size s.0 →
       Contains (places_of s.1.objects) s.0 → IsElement names signatures scope t e s r → Writes (size + size_of t) s r
   element_writes scope t e w size s r o free h c j =
       let k = j.whole in
@@ -253,7 +214,7 @@ module _ (names : List (List ℕ × Entry)) (signatures : List Signature) where
       })
 
   elements_write : (scope : Scope) (t : CType) (es : SomeExps) → ExpsOf IsToken es → (size : ℕ) (s r : Filled × Area) →
-      ScopeOf (IsLaid (length s.1.objects)) scope → s.1.measuring ≡ false → Holds (length s.1.objects) size s.0 →
+      ScopeOf (LaidIn (length s.1.objects)) scope → s.1.measuring ≡ false → Holds (length s.1.objects) size s.0 →
       Contains (places_of s.1.objects) s.0 → AreElements names signatures scope t es s r → Writes (size + count es * size_of t) s r
   elements_write scope t no_exps w size s r o free h c j =
       subst (λ n. Writes n s r) (none_further size (size_of t)) (writes_none size s r h c j)
@@ -262,14 +223,14 @@ module _ (names : List (List ℕ × Entry)) (signatures : List Signature) where
       let first = element_writes scope t e w.0 size s m o free h c j.typed in
       let lays = first.lays in
       let rest = elements_write scope t es w.1 (size + size_of t) m r
-      (scope_more (IsLaid (length s.1.objects)) (IsLaid (length m.1.objects)) scope
+      (scope_more (LaidIn (length s.1.objects)) (LaidIn (length m.1.objects)) scope
       (laid_more (length s.1.objects) (length m.1.objects) (longer s.1 m.1 lays)) o)
       (lays.measuring ∙ free) first.holds first.contains j.whole in
       subst (λ n. Writes n s r) (one_further (count es) size (size_of t))
       (record { lays = lays_further s.1 m.1 r.1 lays rest.lays; holds = rest.holds; contains = rest.contains })
 
   plain_writes : (scope : Scope) (t : CType) (i : Option AnInit) → InitOf IsToken i → (a : Area) (r : Filled × Area) →
-      ScopeOf (IsLaid (length a.objects)) scope → a.measuring ≡ false → form_fits t None i ≡ true →
+      ScopeOf (LaidIn (length a.objects)) scope → a.measuring ≡ false → form_fits t None i ≡ true →
       HoldsAtFirst names signatures t false i scope a r → WritesWithin (size_of t) (nothing, a) r
   plain_writes scope t None w a r o free form j = record {
     size = 0;
@@ -284,7 +245,7 @@ module _ (names : List (List ℕ × Entry)) (signatures : List Signature) where
   }
 
   array_writes : (scope : Scope) (t : CType) (i : Option AnInit) → InitOf IsToken i → (n : ℕ) (a : Area) (r : Filled × Area) →
-      ScopeOf (IsLaid (length a.objects)) scope → a.measuring ≡ false → 1 ≤ size_of t → given_count i ≤ n →
+      ScopeOf (LaidIn (length a.objects)) scope → a.measuring ≡ false → 1 ≤ size_of t → given_count i ≤ n →
       HoldsAtFirst names signatures t true i scope a r → WritesWithin (n * size_of t) (nothing, a) r
   array_writes scope t None w n a r o free one fits j = record {
     size = 0;
@@ -301,7 +262,7 @@ module _ (names : List (List ℕ × Entry)) (signatures : List Signature) where
   array_writes scope t (Some (value e)) w n a r o free one fits j = record {
     size = text_length (text_of e);
     within = bytes_within (text_length (text_of e)) n (size_of t) one fits;
-    writes = text_writes (text_of e) (text_bytes e w) a r j;
+    writes = text_writes (text_of e) (text_is e w) a r j;
   }
 
   lays_count : (l : Option AnExp) → PartOf IsToken l → (i : Option AnInit) (scope : Scope) (a : Area) (r : ℕ × Area) → a.measuring ≡ false →
@@ -333,7 +294,7 @@ module _ (names : List (List ℕ × Entry)) (signatures : List Signature) where
       (filled_contained (places_of h.1.objects) size h.0 p.contains) some)
 
   plain_lays : (is_static : Bool) (t : CType) (d : ADeclarator) → InitOf IsToken (init_in d.init) → (s : State) (r : ℕ × State) →
-      ScopeOf (IsLaid (length s.area.objects)) s.scope → s.area.measuring ≡ false → is_scalar t ≡ true →
+      ScopeOf (LaidIn (length s.area.objects)) s.scope → s.area.measuring ≡ false → is_scalar t ≡ true →
       form_fits t None (init_in d.init) ≡ true → IsPlainObject names signatures is_static t d s r → Lays s.area r.1.area
   plain_lays is_static t d words s r o free scalar form j =
       let l = j.part in
@@ -346,7 +307,7 @@ module _ (names : List (List ℕ × Entry)) (signatures : List Signature) where
       (λ w held. plain_writes (with_name d.name e s.scope) t (init_in d.init) words l.1 w inner (h.measuring ∙ free) form held)
 
   counted_lays : (is_static : Bool) (t : CType) (d : ADeclarator) (c : Option AnExp) → PartOf IsToken c × InitOf IsToken (init_in d.init) → (n : ℕ) (s : State) (r : ℕ × State) →
-      ScopeOf (IsLaid (length s.area.objects)) s.scope → s.area.measuring ≡ false → is_scalar t ≡ true →
+      ScopeOf (LaidIn (length s.area.objects)) s.scope → s.area.measuring ≡ false → is_scalar t ≡ true →
       given_count (init_in d.init) ≤ n → 1 ≤ n → IsCountedArray names signatures is_static t d c n s r → Lays s.area r.1.area
   counted_lays is_static t d c words n s r o free scalar fits some j =
       let k = j.whole in
@@ -358,9 +319,8 @@ module _ (names : List (List ℕ × Entry)) (signatures : List Signature) where
       let behind = lays_literals c words.0 s.scope l.1 m k.typed in
       let inner = object_scope s.scope d.name e s.area l.1 l.0 (laid_longer _ _ _ s.area l h) h.number o
       (λ objects below. array_laid (pointer_to t) (variable_of is_static l.0) (n * size_of t) objects
-      (laid_small is_static d.at d.name (size_of t) (n * size_of t) s.area l j.typed)
       (variable_laid is_static l.0 objects below)) in
-      let outer = scope_more (IsLaid (length l.1.objects)) (IsLaid (length m.objects)) (with_name d.name e s.scope)
+      let outer = scope_more (LaidIn (length l.1.objects)) (LaidIn (length m.objects)) (with_name d.name e s.scope)
       (laid_more (length l.1.objects) (length m.objects) (longer l.1 m behind)) inner in
       filled_object (label_of is_static d.name s.area) (size_of t) (n * size_of t) s.area l m t true d e s r
       (bytes_within 1 n (size_of t) (alignment_positive (size_of t) (scalar_aligned t scalar)) some) h (scalar_aligned t scalar)
@@ -369,30 +329,30 @@ module _ (names : List (List ℕ × Entry)) (signatures : List Signature) where
       (alignment_positive (size_of t) (scalar_aligned t scalar)) fits held)
 
   array_lays : (is_static : Bool) (t : CType) (d : ADeclarator) (c : Option AnExp) → PartOf IsToken c × InitOf IsToken (init_in d.init) → (s : State) (r : ℕ × State) →
-      ScopeOf (IsLaid (length s.area.objects)) s.scope → s.area.measuring ≡ false → is_scalar t ≡ true →
+      ScopeOf (LaidIn (length s.area.objects)) s.scope → s.area.measuring ≡ false → is_scalar t ≡ true →
       array_form t c (init_in d.init) ≡ true → IsArrayObject names signatures is_static t d c s r → Lays s.area r.1.area
   array_lays is_static t d c words s r o free scalar form j =
       let k = j.whole in
       let a = j.part.1 in
       let first = lays_count c words.0 (init_in d.init) s.scope s.area j.part free j.typed in
-      let given : given_count (init_in d.init) ≤ k.part = counted_within j.part.0 (given_count (init_in d.init)) k.part k.typed.fails
+      let given : given_count (init_in d.init) ≤ k.part = many_enough j.part.0 (given_count (init_in d.init)) k.part k.typed.fails
       k.typed.typed in
       lays_further s.area a r.1.area first
       (counted_lays is_static t d c words k.part (with_area a s) r
-      (scope_more (IsLaid (length s.area.objects)) (IsLaid (length a.objects)) s.scope
+      (scope_more (LaidIn (length s.area.objects)) (LaidIn (length a.objects)) s.scope
       (laid_more (length s.area.objects) (length a.objects) (longer s.area a first)) o)
       (first.measuring ∙ free) scalar given
       (subst (λ n. 1 ≤ n) (sym k.typed.typed) (counted_some names signatures t c (init_in d.init) s.scope s.area j.part form j.typed)) k.whole)
 
   object_by_lays : (is_static : Bool) (t : CType) (d : ADeclarator) (l : Option (Option AnExp)) → BracketsOf IsToken l × InitOf IsToken (init_in d.init) → (s : State) (r : ℕ × State) →
-      ScopeOf (IsLaid (length s.area.objects)) s.scope → s.area.measuring ≡ false → is_scalar t ≡ true →
+      ScopeOf (LaidIn (length s.area.objects)) s.scope → s.area.measuring ≡ false → is_scalar t ≡ true →
       form_fits t l (init_in d.init) ≡ true → IsObjectBy names signatures is_static t d l s r → Lays s.area r.1.area
   object_by_lays is_static t d None words s r o free scalar form j = plain_lays is_static t d words.1 s r o free scalar form j
   object_by_lays is_static t d (Some c) words s r o free scalar form j = array_lays is_static t d c words s r o free scalar form j
 
   -- a global variable or a static local
   object_lays : (is_static : Bool) (spec : Spec) (d : ADeclarator) → DeclaratorOf IsToken d → (s : State) (r : ℕ × State) →
-      ScopeOf (IsLaid (length s.area.objects)) s.scope → s.area.measuring ≡ false →
+      ScopeOf (LaidIn (length s.area.objects)) s.scope → s.area.measuring ≡ false →
       IsObject names signatures is_static spec d s r → Lays s.area r.1.area
   object_lays is_static spec d words s r o free j =
       let form = j.typed.typed in
@@ -401,20 +361,21 @@ module _ (names : List (List ℕ × Entry)) (signatures : List Signature) where
 
 -- the names in scope stand for objects that are laid out behind those of an area
 pub record InPlace (start : Area) (s : State) : Type 0 where
-  pub names : ScopeOf (IsLaid (length s.area.objects)) s.scope
+  pub names : ScopeOf (LaidIn (length s.area.objects)) s.scope
   pub laying : s.area.measuring ≡ false
   pub lays : Lays start s.area
 
-object_laid : (objects : ℕ) (v : Variable) → IsObjectOf objects v → IsLaid objects v
-object_laid objects (variables.Automatic n) h = tt
-object_laid objects (variables.Parameter n) h = tt
-object_laid objects (variables.Global n) h = h
-object_laid objects (variables.Static n) h = h
+object_laid : (objects : ℕ) (v : Variable) (size : ℕ) → IsObjectOf objects v size → LaidIn objects v size
+object_laid objects (variables.Automatic n) size h = tt
+object_laid objects (variables.Parameter n) size h = tt
+object_laid objects (variables.Global n) size h = h.0
+object_laid objects (variables.Static n) size h = h.0
+object_laid objects (variables.InBlock o) size h = tt
 
 -- where literals or objects are added
 pub place_more : (start : Area) (s : State) (a : Area) → InPlace start s → Lays s.area a → InPlace start (with_area a s)
 place_more start s a o h = record {
-  names = scope_more (IsLaid (length s.area.objects)) (IsLaid (length a.objects)) s.scope
+  names = scope_more (LaidIn (length s.area.objects)) (LaidIn (length a.objects)) s.scope
       (laid_more (length s.area.objects) (length a.objects) (longer s.area a h)) o.names;
   laying = h.measuring ∙ o.laying;
   lays = lays_further start s.area a o.lays h;
@@ -426,10 +387,10 @@ object_in_place start names signatures is_static spec d w s r o j =
     let h = object_lays names signatures is_static spec d w s r o.names o.laying j in
     let k = object_declares names signatures is_static spec d s r o.laying j in
     let more = place_more start s r.1.area o h in
-    let one = variable_more (IsObjectOf (length r.1.area.objects)) (IsLaid (length r.1.area.objects))
+    let one = variable_more (IsObjectOf (length r.1.area.objects)) (LaidIn (length r.1.area.objects))
     (object_laid (length r.1.area.objects)) k.entry k.of in
     record {
-      names = rw (k.names) (scope_named (IsLaid (length r.1.area.objects)) s.scope d.name k.entry more.names one);
+      names = rw (k.names) (scope_named (LaidIn (length r.1.area.objects)) s.scope d.name k.entry more.names one);
       laying = more.laying;
       lays = more.lays;
     }

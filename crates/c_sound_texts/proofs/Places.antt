@@ -1,11 +1,11 @@
 -- Statements, functions and whole texts keep the names in scope and the objects in place.
-use Rattle.std.proofs.Common.{◌≡◌, ℕ, zero, suc, ◌+◌, ◌-◌, Bool, true, false, List, [], ◌∷◌, ◌++◌, length, take, Option, Some, None, ap, ◌∙◌}
-use Rattle.std.specs.Prelude.{is_some, slice_index_or}
+use Rattle.std.proofs.Common.{◌≡◌, ℕ, zero, suc, ◌+◌, ◌-◌, Bool, true, false, List, [], ◌∷◌, ◌++◌, length, take, Option, Some, None, ap, ◌∙◌, ◌*◌}
+use Rattle.std.specs.Prelude.{is_some, slice_index_or, not, ◌&&◌, if◌then◌else◌}
 use Rattle.c_phrases.specs.declared.operator.Spec.{Spec}
 use Rattle.c_phrases.specs.declared.operator.Storage.{Storage}
 use Rattle.c_phrases.specs.declared.operator.Storage.TheVariants as storages
 use Rattle.c_phrases.specs.declared.tree.Named.{Named}
-use Rattle.c_phrases.specs.Phrases.{AnExp}
+use Rattle.c_phrases.specs.Phrases.{AnExp, SomeExps, no_exps, exps}
 use Rattle.c_phrases.specs.Units.{AnInit, value, elements, ADeclarator, local_item, statement_item, AStatement, block}
 use Rattle.c_phrases.specs.Units.{empty, expression, break_off, continue_on, give_back, if_then, if_else, while_loop}
 use Rattle.c_phrases.specs.Units.{do_loop, for_loop, SomeItems, no_items, AParam, AFunction, ADeclared, function}
@@ -13,46 +13,52 @@ use Rattle.c_phrases.specs.Units.{globals, AnExternal}
 use Rattle.c_types.specs.declared.types.CType.{CType}
 use Rattle.c_types.specs.declared.typed.Variable.{Variable}
 use Rattle.c_types.specs.declared.typed.Variable.TheVariants as variables
-use Rattle.c_types.specs.Typed.{AnExpression}
+use Rattle.c_types.specs.Typed.{AnExpression, Constant}
+use Rattle.c_types.specs.Types.{size_of, pointer_to}
 use Rattle.c_typed_scope.specs.declared.entry.Entry.{Entry}
 use Rattle.c_typed_scope.specs.declared.entry.Entry.TheVariants as entries
 use Rattle.c_typed_scope.specs.declared.entry.Signature.{Signature}
 use Rattle.c_typed_scope.specs.Scopes.{Scope, leave}
 use Rattle.c_typed_scope.specs.Layout.{Area}
-use Rattle.c_program.specs.Statements.{ADeclaration, AnAction, SomeActions}
+use Rattle.c_program.specs.Statements.{ADeclaration, AnAction, SomeActions, StoreOf}
 use Rattle.c_typed_expressions.specs.Phrases.{init_in, brackets_in, params_in}
 use Rattle.c_typed_expressions.specs.Expressions.{written}
-use Rattle.c_typed_definition.specs.State.{State, with_area, with_local, with_register, named_state}
+use Rattle.c_typed_definition.specs.State.{State, with_area, with_local, with_register, named_state, with_room, with_memory, array_entry}
 use Rattle.c_typed_definition.specs.Statements.{entered, left}
 use Rattle.c_typed_definition.specs.Signatures.{parameter_type}
 use Rattle.c_typed_definition.specs.Headings.{Text, with_parameter, with_declared}
 use Rattle.c_typed_definition.specs.Bodies.{entered_function, left_function}
-use Rattle.c_typed_law.specs.Locals.{IsBegun, IsLocal, AreLocals}
+use Rattle.c_typed_definition.specs.Rooms.{offset_in, is_next_addressed, is_parameter_addressed, with_parameter_in}
+use Rattle.c_typed_definition.specs.Automatics.{memory_variable, memory_array}
+use Rattle.c_typed_law.specs.Locals.{IsBegun, IsLocal, AreLocals, IsMemoryBegun, IsVariable, IsAutomaticBy}
 use Rattle.c_typed_law.specs.Statements.{IsFull, IsCondition, IsPart, IsTurn, IsReturn, IsStatement, AreItems}
 use Rattle.c_typed_law.specs.Texts.{IsParameterLength, AreParameters, IsBody, IsFunction, AreGlobals, IsExternalBy}
 use Rattle.c_typed_law.specs.Texts.{AreExternals}
+use Rattle.c_typed_law.specs.Values.{IsLength}
+use Rattle.c_typed_law.specs.Arrays.{IsGiven, IsStored, AreStored, IsArrayBegun, IsAutomaticLength}
 use Rattle.c_typed_words.specs.Words.{IsToken}
 use Rattle.c_typed_words.specs.Phrases.{ExpOf, PartOf, BracketsOf, InitOf, DeclaratorOf, DeclaratorsOf, StatementOf, ItemsOf, ParamsOf, BodyOf, DeclaredOf, ExternalsOf}
-use Rattle.c_sound_bodies.specs.Claim.{OfVariable, NamesOf, BlocksOf, ScopeOf}
+use Rattle.c_typed_words.specs.Phrases.{ExpsOf}
+use Rattle.c_sound_bodies.specs.States.{OfVariable, NamesOf, BlocksOf, ScopeOf}
 use Rattle.c_sound_bodies.proofs.Names.{scope_named, scope_entered}
 use Rattle.c_sound_bodies.proofs.Growth.{exp_lays}
 use Rattle.c_sound_texts.proofs.Areas.{Lays, lays_same, laying}
-use Rattle.c_sound_texts.proofs.Linked.{IsLaid}
-use Rattle.c_sound_texts.proofs.Objects.{InPlace, place_more, object_in_place}
+use Rattle.c_sound_texts.proofs.Linked.{LaidIn}
+use Rattle.c_sound_texts.proofs.Objects.{InPlace, place_more, object_in_place, array_laid}
 
-blocks_take : (known : Variable → Type 0) (n : ℕ) (bs : List (List (List ℕ × Entry))) → BlocksOf known bs → BlocksOf known (take n bs)
+blocks_take : (known : Variable → ℕ → Type 0) (n : ℕ) (bs : List (List (List ℕ × Entry))) → BlocksOf known bs → BlocksOf known (take n bs)
 blocks_take known zero bs all = tt
 blocks_take known (suc n) [] all = tt
 blocks_take known (suc n) (b ∷ bs) all = (all.0, blocks_take known n bs all.1)
 
-block_at : (known : Variable → Type 0) (bs : List (List (List ℕ × Entry))) (n : ℕ) (here : List (List ℕ × Entry)) →
+block_at : (known : Variable → ℕ → Type 0) (bs : List (List (List ℕ × Entry))) (n : ℕ) (here : List (List ℕ × Entry)) →
     BlocksOf known bs → NamesOf known here → NamesOf known (slice_index_or bs n here)
 block_at known [] n here all h = h
 block_at known (b ∷ bs) zero here all h = all.0
 block_at known (b ∷ bs) (suc n) here all h = block_at known bs n here all.1 h
 
 -- the innermost block ends
-scope_left : (known : Variable → Type 0) (s : Scope) → ScopeOf known s → ScopeOf known (leave s)
+scope_left : (known : Variable → ℕ → Type 0) (s : Scope) → ScopeOf known s → ScopeOf known (leave s)
 unfolding leave
 scope_left known s all = record {
   here = block_at known s.outer (length s.outer - 1) s.here all.outer all.here;
@@ -61,9 +67,9 @@ scope_left known s all = record {
 
 -- another name, which is no object's
 named_in_place : (start : Area) (s : State) (n : List ℕ) (e : Entry) → InPlace start s →
-    ((objects : ℕ) → OfVariable (IsLaid objects) e) → InPlace start (named_state n e s)
+    ((objects : ℕ) → OfVariable (LaidIn objects) e) → InPlace start (named_state n e s)
 named_in_place start s n e o of = record {
-  names = scope_named (IsLaid (length s.area.objects)) s.scope n e o.names (of (length s.area.objects));
+  names = scope_named (LaidIn (length s.area.objects)) s.scope n e o.names (of (length s.area.objects));
   laying = o.laying;
   lays = o.lays;
 }
@@ -71,47 +77,59 @@ named_in_place start s n e o of = record {
 module _ (start : Area) where
   entered_in_place : (s : State) → InPlace start s → InPlace start (entered s)
   entered_in_place s o = record {
-    names = scope_entered (IsLaid (length s.area.objects)) s.scope o.names;
+    names = scope_entered (LaidIn (length s.area.objects)) s.scope o.names;
     laying = o.laying;
     lays = o.lays;
   }
 
   left_in_place : (s : State) → InPlace start s → InPlace start (left s)
   left_in_place s o = record {
-    names = scope_left (IsLaid (length s.area.objects)) s.scope o.names;
+    names = scope_left (LaidIn (length s.area.objects)) s.scope o.names;
     laying = o.laying;
     lays = o.lays;
   }
 
   local_in_place : (t : CType) (n : List ℕ) (s : State) → InPlace start s → InPlace start (with_local t n s)
   local_in_place t n s o = record {
-    names = scope_named (IsLaid (length s.area.objects)) s.scope n (entries.Variable t (variables.Automatic (length s.locals))) o.names tt;
+    names = scope_named (LaidIn (length s.area.objects)) s.scope n (entries.Variable t (variables.Automatic (length s.locals))) o.names tt;
     laying = o.laying;
     lays = o.lays;
   }
+
+  -- a memory local
+  block_in_place : (align size : ℕ) (n : List ℕ) (e : Entry) (s : State) → InPlace start s → ((objects : ℕ) → OfVariable (LaidIn objects) e) →
+      InPlace start (with_memory align size n e s)
+  block_in_place align size n e s o of = let q = named_in_place start s n e o of in record { names = q.names; laying = q.laying; lays = q.lays }
 
   noted_in_place : (s : State) → InPlace start s → InPlace start (with_register s)
   noted_in_place s o = record { names = o.names; laying = o.laying; lays = o.lays }
 
   -- a function begins, with no locals, and ends
-  function_entered : (s : State) → InPlace start s → InPlace start (entered_function s)
-  function_entered s o = record {
-    names = scope_entered (IsLaid (length s.area.objects)) s.scope o.names;
+  function_entered : (f : AFunction) (s : State) → InPlace start s → InPlace start (entered_function f s)
+  function_entered f s o = record {
+    names = scope_entered (LaidIn (length s.area.objects)) s.scope o.names;
     laying = o.laying;
     lays = o.lays;
   }
 
   function_left : (s : State) → InPlace start s → InPlace start (left_function s)
   function_left s o = record {
-    names = scope_left (IsLaid (length s.area.objects)) s.scope o.names;
+    names = scope_left (LaidIn (length s.area.objects)) s.scope o.names;
     laying = o.laying;
     lays = o.lays;
   }
 
+  parameter_by : (in_memory : Bool) (name : List ℕ) (t : CType) (n : ℕ) (s : State) → InPlace start s → InPlace start (if in_memory
+      then with_room (with_parameter_in t n s.room) (named_state name (entries.Variable t (variables.InBlock (offset_in (size_of t) s.room))) s)
+      else named_state name (entries.Variable t (variables.Parameter n)) s)
+  parameter_by true name t n s o =
+      let q = named_in_place start s name (entries.Variable t (variables.InBlock (offset_in (size_of t) s.room))) o (λ objects. tt) in
+      record { names = q.names; laying = q.laying; lays = q.lays }
+  parameter_by false name t n s o = named_in_place start s name (entries.Variable t (variables.Parameter n)) o (λ objects. tt)
+
   parameter_in_place : (name : Option Named) (t : CType) (n : ℕ) (s : State) → InPlace start s → InPlace start (with_parameter name t n s)
   parameter_in_place None t n s o = o
-  parameter_in_place (Some name) t n s o =
-      named_in_place start s name.name (entries.Variable t (variables.Parameter n)) o (λ objects. tt)
+  parameter_in_place (Some name) t n s o = parameter_by (is_parameter_addressed n s.room) name.name t n s o
 
   function_named : (earlier : Option ℕ) (spec : Spec) (f : AFunction) (t : Text) → InPlace start t.state →
       InPlace start (with_declared earlier spec f t).state
@@ -120,32 +138,90 @@ module _ (start : Area) where
       named_in_place start t.state f.name (entries.Function (length t.declared)) o (λ objects. tt)
 
   module _ (names : List (List ℕ × Entry)) (signatures : List Signature) where
-    begun_in_place : (t : CType) (n : ℕ) (i : Option AnInit) → InitOf IsToken i → (s : State) (r : ADeclaration × State) → InPlace start s →
-        IsBegun names signatures t n i s r → InPlace start r.1
-    begun_in_place t n None w s r o j = rw j o
-    begun_in_place t n (Some (elements es comma)) w s r o j = rw j o
-    begun_in_place t n (Some (value e)) w s r o j =
+    given_in_place : (t : CType) (e : AnExp) → ExpOf IsToken e → (s : State) (x : AnExpression × State) → InPlace start s →
+        IsGiven names signatures t e s x → InPlace start x.1
+    given_in_place t e w s x o j =
         let k = j.whole in
         rw (k.whole) (place_more start s j.part.1 o (exp_lays IsToken Lays laying names signatures s.scope e w s.area j.part j.typed))
 
-    declared_in_place : (storage : Storage) (spec : Spec) (d : ADeclarator) → DeclaratorOf IsToken d → (s : State) (r : ADeclaration × State) → InPlace start s →
-        IsLocal names signatures storage spec d s r → InPlace start r.1
-    declared_in_place storages.Automatic spec d w s r o j =
-        let t = written spec d.stars in
-        begun_in_place t (length s.locals) (init_in d.init) w.2 (with_local t d.name s) r (local_in_place t d.name s o) j.whole
-    declared_in_place (storages.Register at) spec d w s r o j =
-        let t = written spec d.stars in
-        let q = with_register s in
-        begun_in_place t (length q.locals) (init_in d.init) w.2 (with_local t d.name q) r (local_in_place t d.name q (noted_in_place s o)) j.whole
-    declared_in_place (storages.Static at) spec d w s r o j =
+    begun_in_place : (t : CType) (n : ℕ) (i : Option AnInit) → InitOf IsToken i → (done : List ADeclaration) (s : State) (r : List ADeclaration × State) →
+        InPlace start s → IsBegun names signatures t n i done s r → InPlace start r.1
+    begun_in_place t n None w done s r o j = rw j o
+    begun_in_place t n (Some (elements es comma)) w done s r o j = rw j o
+    begun_in_place t n (Some (value e)) w done s r o j = rw (j.whole) (given_in_place t e w s j.part o j.typed)
+
+    stored_in_place : (t : CType) (at : ℕ) (e : AnExp) → ExpOf IsToken e → (done : List ADeclaration) (s : State) (r : List ADeclaration × State) →
+        InPlace start s → IsStored names signatures t at e done s r → InPlace start r.1
+    stored_in_place t at e w done s r o j = rw (j.whole) (given_in_place t e w s j.part o j.typed)
+
+    stores_in_place : (t : CType) (at : ℕ) (es : SomeExps) → ExpsOf IsToken es → (done : List ADeclaration) (s : State) (r : List ADeclaration × State) →
+        InPlace start s → AreStored names signatures t at es done s r → InPlace start r.1
+    stores_in_place t at no_exps w done s r o j = rw j o
+    stores_in_place t at (exps e es) w done s r o j =
+        stores_in_place t (at + size_of t) es w.1 j.part.0 j.part.1 r (stored_in_place t at e w.0 done s j.part o j.typed) j.whole
+
+    memory_in_place : (t : CType) (at : ℕ) (i : Option AnInit) → InitOf IsToken i → (done : List ADeclaration) (s : State) (r : List ADeclaration × State) →
+        InPlace start s → IsMemoryBegun names signatures t at i done s r → InPlace start r.1
+    memory_in_place t at None w done s r o j = rw j o
+    memory_in_place t at (Some (elements es comma)) w done s r o j = rw j o
+    memory_in_place t at (Some (value e)) w done s r o j = stored_in_place t at e w (done ++ StoreOf t at (Constant 0) ∷ []) s r o j
+
+    array_in_place : (t : CType) (at : ℕ) (i : Option AnInit) → InitOf IsToken i → (done : List ADeclaration) (s : State) (r : List ADeclaration × State) →
+        InPlace start s → IsArrayBegun names signatures t at i done s r → InPlace start r.1
+    array_in_place t at None w done s r o j = rw j o
+    array_in_place t at (Some (elements es comma)) w done s r o j = stores_in_place t at es w done s r o j
+    array_in_place t at (Some (value e)) w done s r o j = rw j o
+
+    measured_in_place : (e : AnExp) → ExpOf IsToken e → (s : State) (m : ℕ × Area) → InPlace start s → IsLength names signatures s.scope e s.area m →
+        InPlace start (with_area m.1 s)
+    measured_in_place e w s m o j =
+        let k = j.whole in
+        rw (k.whole) (place_more start s j.part.1 o (exp_lays IsToken Lays laying names signatures s.scope e w s.area j.part j.typed))
+
+    length_in_place : (c : Option AnExp) (i : Option AnInit) → PartOf IsToken c → (s : State) (m : ℕ × State) → InPlace start s →
+        IsAutomaticLength names signatures c i s m → InPlace start m.1
+    length_in_place None i w s m o j = rw j o
+    length_in_place (Some e) i w s m o j = rw (j.whole) (measured_in_place e w s j.part o j.typed)
+
+    variable_in_place : (in_memory : Bool) (t : CType) (d : ADeclarator) → InitOf IsToken (init_in d.init) → (done : List ADeclaration) (s : State)
+        (r : List ADeclaration × State) → InPlace start s → IsVariable names signatures in_memory t d done s r → InPlace start r.1
+    variable_in_place true t d w done s r o j =
+        memory_in_place t (offset_in (size_of t) s.room) (init_in d.init) w done (memory_variable t d s) r
+        (block_in_place (size_of t) (size_of t) d.name (entries.Variable t (variables.InBlock (offset_in (size_of t) s.room))) s o (λ objects. tt)) j
+    variable_in_place false t d w done s r o j =
+        begun_in_place t (length s.locals) (init_in d.init) w done (with_local t d.name s) r (local_in_place t d.name s o) j
+
+    automatic_in_place : (c : Option (Option AnExp)) → BracketsOf IsToken c → (is_register : Bool) (t : CType) (d : ADeclarator) →
+        InitOf IsToken (init_in d.init) → (done : List ADeclaration) (s : State) (r : List ADeclaration × State) → InPlace start s →
+        IsAutomaticBy names signatures c is_register t d done s r → InPlace start r.1
+    automatic_in_place None v is_register t d w done s r o j =
+        variable_in_place (not is_register && is_next_addressed s.room) t d w done s r o j
+    automatic_in_place (Some c) v is_register t d w done s r o j =
+        let m = j.part in
+        let k = j.whole in
+        let q = k.whole in
+        let at = offset_in (size_of t) m.1.room in
+        let size = k.part * size_of t in
+        let counted = length_in_place c (init_in d.init) v s m o j.typed in
+        let inside = block_in_place (size_of t) size d.name (array_entry (pointer_to t) (variables.InBlock at) size) m.1 counted
+        (λ objects. array_laid (pointer_to t) (variables.InBlock at) size objects tt) in
+        rw (q.whole) (array_in_place t at (init_in d.init) w done (memory_array t size d m.1) q.part inside q.typed)
+
+    declared_in_place : (storage : Storage) (spec : Spec) (d : ADeclarator) → DeclaratorOf IsToken d → (done : List ADeclaration) (s : State)
+        (r : List ADeclaration × State) → InPlace start s → IsLocal names signatures storage spec d done s r → InPlace start r.1
+    declared_in_place storages.Automatic spec d w done s r o j =
+        automatic_in_place (brackets_in d.length) w.1 false (written spec d.stars) d w.2 done s r o j.whole
+    declared_in_place (storages.Register at) spec d w done s r o j =
+        automatic_in_place (brackets_in d.length) w.1 true (written spec d.stars) d w.2 done (with_register s) r (noted_in_place s o) j.whole
+    declared_in_place (storages.Static at) spec d w done s r o j =
         rw (j.whole) (object_in_place start names signatures true spec d w s j.part o j.typed)
 
     locals_in_place : (storage : Storage) (spec : Spec) (ds : List ADeclarator) → DeclaratorsOf IsToken ds → (done : List ADeclaration) (s : State)
         (r : List ADeclaration × State) → InPlace start s → AreLocals names signatures storage spec ds done s r → InPlace start r.1
     locals_in_place storage spec [] w done s r o j = rw j o
     locals_in_place storage spec (d ∷ ds) w done s r o j =
-        locals_in_place storage spec ds w.1 (done ++ j.part.0 ∷ []) j.part.1 r
-        (declared_in_place storage spec d w.0 s j.part o j.typed) j.whole
+        locals_in_place storage spec ds w.1 j.part.0 j.part.1 r
+        (declared_in_place storage spec d w.0 done s j.part o j.typed) j.whole
 
     full_in_place : (e : AnExp) → ExpOf IsToken e → (s : State) (r : AnExpression × State) → InPlace start s → IsFull names signatures e s r → InPlace start r.1
     full_in_place e w s r o j =
@@ -238,7 +314,7 @@ module _ (start : Area) where
         IsBody names signatures spec f row s t r → InPlace start r.state
     body_in_place spec f None w s t r o j = rw j (function_left s o)
     body_in_place spec f (Some row) w s t r o j =
-        rw (j.whole) (function_left j.part.1 (items_in_place (written spec f.stars) false row w s j.part o j.typed))
+        rw (j.whole.typed) (function_left j.part.1 (items_in_place (written spec f.stars) false row w s j.part o j.typed))
 
     function_in_place : (spec : Spec) (f : AFunction) → DeclaredOf IsToken (function f) → (t r : Text) → InPlace start t.state → IsFunction names signatures spec f t r →
         InPlace start r.state
@@ -248,8 +324,8 @@ module _ (start : Area) where
         let m = i.whole in
         let named = function_named j.part spec f t o in
         body_in_place spec f f.body w.2 i.part (with_declared j.part spec f t) r
-        (parameters_in_place (is_some f.body) (params_in f.params) w.1 0 (entered_function (with_declared j.part spec f t).state) i.part
-        (function_entered (with_declared j.part spec f t).state named) i.typed) m.whole
+        (parameters_in_place (is_some f.body) (params_in f.params) w.1 0 (entered_function f (with_declared j.part spec f t).state) i.part
+        (function_entered f (with_declared j.part spec f t).state named) i.typed) m.whole
 
     globals_in_place : (spec : Spec) (ds : List ADeclarator) → DeclaratorsOf IsToken ds → (s r : State) → InPlace start s → AreGlobals names signatures spec ds s r →
         InPlace start r

@@ -59,7 +59,7 @@ module _ (p : AProgram) (q : TreeProgram) (parts : HasParts p q) (fit : AllFit p
       by : ((g : ARoutine) × (n < length p.routines) × (slice_get p.routines n ≡ Some g) × (get_or p.routines n g ≡ g)) ⊎ ((length p.routines ≤ n) × (slice_get p.routines n ≡ None))
           → Fits f
       by (inl x) =
-          let need : need_at p n ≡ need_of x.0.locals x.0.body = ap need_in x.2 in
+          let need : need_at p n ≡ need_of x.0.locals x.0.block x.0.body = ap need_in x.2 in
           let small = fit n x.1 in
           let room = (parts.functions n x.0 f x.2 here).fits.locals in
           omega (arith, need, small, room)

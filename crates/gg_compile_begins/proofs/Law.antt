@@ -30,5 +30,5 @@ selectable p s limits =
 
 pub typed_programs_begin : TypedProgramsBegin
 typed_programs_begin p d c input t few fit s bytes =
-    let ok = selectable p (typed_is_sound p t.unit t.tokens t.typed) (typed_programs_are_within_limits p t few) in
+    let ok = selectable p (typed_is_sound p t.unit t.ends t.tokens t.typed) (typed_programs_are_within_limits p t few) in
     written_programs_begin (lowered p) c input ok.names (is_written (lowered p) d c ok fit s) (all_below input bytes)

@@ -1,5 +1,5 @@
--- An expression takes at most two labels for each of its nodes.
-use Rattle.std.proofs.Common.{ℕ, ◌+◌, ◌*◌, ◌≤◌, List, arith}
+-- An expression takes at most two labels for each of its nodes but one.
+use Rattle.std.proofs.Common.{ℕ, ◌+◌, ◌*◌, ◌≤◌, List, arith, ◌-◌}
 use Rattle.std.specs.Prelude.{true, false, Option, Some, None}
 use Rattle.c_types.specs.declared.types.CType.{CType}
 use Rattle.c_types.specs.declared.typed.UnaryOperator.{UnaryOperator}
@@ -20,6 +20,41 @@ use Rattle.c_lower_scheme.specs.Assignments.{assigned, assign_low, assign_drop, 
 use Rattle.c_lower_scheme.specs.Expressions.{unary, seek, way, pass}
 use Rattle.gg_compile_counts.proofs.Lowerings.{Takes, valued_takes, effective_takes, mapped_takes, not_takes, chain_takes, choose_takes, comma_takes, store_labels, converting_takes, called_labels}
 use Rattle.gg_compile_counts.proofs.Lowerings.{binary_takes, relation_takes}
+
+-- each expression has a node
+mutual
+  place_has_nodes : (p : APlace) → 1 ≤ place_nodes p
+  place_has_nodes (VariableAt t v) = omega arith
+  place_has_nodes (PointedBy t e) = omega arith
+  place_has_nodes (ElementBy t sum) = has_nodes sum
+
+  pub has_nodes : (e : AnExpression) → 1 ≤ nodes e
+  has_nodes (Constant n) = omega arith
+  has_nodes (LiteralAt object size) = omega arith
+  has_nodes (ArrayAt t v size) = omega arith
+  has_nodes (ReadOf p) = place_has_nodes p
+  has_nodes (SizeOfExpression n e) = omega arith
+  has_nodes (SizeOf n) = omega arith
+  has_nodes (AddressOf t p) = omega arith
+  has_nodes (CallOf t f to es) = omega arith
+  has_nodes (StepOf m op p) = omega arith
+  has_nodes (UnaryOf op e) = omega arith
+  has_nodes (CastTo t e) = omega arith
+  has_nodes (ConvertTo t e) = has_nodes e
+  has_nodes (ArithmeticOf op l r) = omega arith
+  has_nodes (CompareOf rel l r) = omega arith
+  has_nodes (BothOf l r) = omega arith
+  has_nodes (EitherOf l r) = omega arith
+  has_nodes (AdvanceOf t l r) = omega arith
+  has_nodes (AdvanceByOf t l r) = omega arith
+  has_nodes (RetreatOf t l r) = omega arith
+  has_nodes (DistanceOf t l r) = omega arith
+  has_nodes (ChoiceOf t c l r) = omega arith
+  has_nodes (AssignTo p e) = omega arith
+  has_nodes (ArithmeticAssignTo op p e) = omega arith
+  has_nodes (AdvanceAssignTo p e) = omega arith
+  has_nodes (RetreatAssignTo p e) = omega arith
+  has_nodes (CommaOf t l r) = omega arith
 
 module _ (size count : ℕ) where
   unary_takes : (n most : ℕ) (op : UnaryOperator) (e : Lowering) → Takes n e → n + 1 ≤ most → Takes most (unary size count op e)
@@ -70,12 +105,12 @@ module _ (size count : ℕ) where
       omega arith)
 
   mutual
-    place_takes : (p : APlace) (t l : ℕ) → (seek size count p t l).labels ≤ l + 2 * place_nodes p
+    place_takes : (p : APlace) (t l : ℕ) → (seek size count p t l).labels ≤ l + (2 * place_nodes p - 2)
     place_takes (VariableAt ty v) t l = omega arith
     place_takes (PointedBy ty e) t l = let x = (way_takes e).low t l in omega arith
     place_takes (ElementBy ty e) t l = (way_takes e).low t l
 
-    pub way_takes : (e : AnExpression) → Takes (2 * nodes e) (way size count e)
+    pub way_takes : (e : AnExpression) → Takes (2 * nodes e - 2) (way size count e)
     way_takes (Constant n) = valued_takes _ _ (λ t l. omega arith)
     way_takes (LiteralAt n bytes) = valued_takes _ _ (λ t l. omega arith)
     way_takes (ArrayAt ty v bytes) = valued_takes _ _ (λ t l. omega arith)
@@ -95,18 +130,19 @@ module _ (size count : ℕ) where
     way_takes (StepOf m by p) = effective_takes _ _ _
         (λ t l. let x = place_takes p t l in step_takes _ l m by (seek size count p t l) (omega arith))
         (λ t l. let x = place_takes p t l in omega arith)
-    way_takes (UnaryOf op e) = unary_takes _ _ op _ (way_takes e) (omega arith)
+    way_takes (UnaryOf op e) = let one = has_nodes e in unary_takes _ _ op _ (way_takes e) (omega arith)
     way_takes (CastTo ty e) = converting_takes _ _ ty _ (way_takes e) (omega arith)
     way_takes (ConvertTo ty e) = converting_takes _ _ ty _ (way_takes e) (omega arith)
     way_takes (ArithmeticOf op a b) = binary_takes size count _ _ _ (Bin op) _ _ (way_takes a) (way_takes b) (omega arith)
-    way_takes (CompareOf r a b) = relation_takes size count _ _ _ r _ _ (way_takes a) (way_takes b) (omega arith)
-    way_takes (BothOf a b) = chain_takes _ _ _ false _ _ (way_takes a) (way_takes b) (omega arith)
-    way_takes (EitherOf a b) = chain_takes _ _ _ true _ _ (way_takes a) (way_takes b) (omega arith)
+    way_takes (CompareOf r a b) = let one = has_nodes a in relation_takes size count _ _ _ r _ _ (way_takes a) (way_takes b) (omega arith)
+    way_takes (BothOf a b) = let one = has_nodes a in chain_takes _ _ _ false _ _ (way_takes a) (way_takes b) (omega arith)
+    way_takes (EitherOf a b) = let one = has_nodes a in chain_takes _ _ _ true _ _ (way_takes a) (way_takes b) (omega arith)
     way_takes (AdvanceOf ty a b) = binary_takes size count _ _ _ (advance ty) _ _ (way_takes a) (way_takes b) (omega arith)
     way_takes (AdvanceByOf ty a b) = binary_takes size count _ _ _ (advance_by ty) _ _ (way_takes a) (way_takes b) (omega arith)
     way_takes (RetreatOf ty a b) = binary_takes size count _ _ _ (retreat ty) _ _ (way_takes a) (way_takes b) (omega arith)
     way_takes (DistanceOf ty a b) = binary_takes size count _ _ _ (apart ty) _ _ (way_takes a) (way_takes b) (omega arith)
-    way_takes (ChoiceOf ty c a b) = choose_takes _ _ _ _ _ _ _ (way_takes c) (way_takes a) (way_takes b) (omega arith)
+    way_takes (ChoiceOf ty c a b) =
+        let one = has_nodes c in choose_takes _ _ _ _ _ _ _ (way_takes c) (way_takes a) (way_takes b) (omega arith)
     way_takes (AssignTo p e) = assign_takes _ _ _ (seek size count p) _ (place_takes p) (way_takes e) (omega arith)
     way_takes (ArithmeticAssignTo op p e) = update_takes _ _ _ (λ ty. Bin op) (seek size count p) _ (place_takes p) (way_takes e) (omega arith)
     way_takes (AdvanceAssignTo p e) = update_takes _ _ _ advance (seek size count p) _ (place_takes p) (way_takes e) (omega arith)

@@ -5,4 +5,5 @@ pub mod Labels
 pub mod Operators
 pub mod Phrases
 pub mod Statements
+pub mod Stores
 pub mod Law

@@ -6,12 +6,22 @@ use Rattle.c_types.specs.declared.types.Integer.{Integer}
 use Rattle.c_types.specs.declared.types.Integer.TheVariants as ints
 use Rattle.c_types.specs.declared.types.CType.{CType}
 use Rattle.c_lower_scheme.specs.Trees.{Tree}
-use Rattle.c_lower_scheme.specs.Parts.{Lowered, Emitted, Lowering, Where, InLoc, InArg, InMem, Assignable, Destination, InLocal, AsResult, Passing}
-use Rattle.c_lower_scheme.specs.Places.{integer_of, fitted}
+use Rattle.c_lower_scheme.specs.Parts.{Lowered, Emitted, Lowering, Where, InLoc, InArg, InMem, Assignable, Destination, InLocal, AsResult, Passing, Releasing, over, delivered}
+use Rattle.c_lower_scheme.specs.Places.{integer_of, fitted, conv}
 use Rattle.c_lower_scheme.specs.Conditions.{valued, conditional, effective, mapped, chained, same, goal, chain, chain_drop, drop_two, deliver_as, converting, choose_deliver, choose, comma}
 use Rattle.c_lower_scheme.specs.Values.{binary, relation}
 use Rattle.c_lower_scheme.specs.Assignments.{store_low_at}
 use Rattle.c_lower_scheme.specs.Calls.{called_deliver}
+use Rattle.c_lower_scheme.specs.Conditions.{truth_of}
+
+-- a value takes no label of its own where it goes
+pub delivered_labels : (to : Destination) (p : Lowered) → (delivered to p).labels ≡ p.labels
+delivered_labels (InLocal n) p = refl
+delivered_labels AsResult p = refl
+delivered_labels (Releasing pointer n) p = refl
+
+delivered_takes : (most l : ℕ) (to : Destination) (p : Lowered) → p.labels ≤ l + most → (delivered to p).labels ≤ l + most
+delivered_takes most l to p h = let is = delivered_labels to p in omega arith
 
 -- each of the four ways takes at most so many labels
 pub record Takes (most : ℕ) (e : Lowering) : Type 0 where
@@ -21,11 +31,13 @@ pub record Takes (most : ℕ) (e : Lowering) : Type 0 where
   pub deliver : (to : Destination) (t l : ℕ) → (e.deliver to t l).labels ≤ l + most
 
 pub valued_takes : (most : ℕ) (f : ℕ → ℕ → Lowered) → ((t l : ℕ) → (f t l).labels ≤ l + most) → Takes most (valued f)
-valued_takes most f h = record { low = h; branch = λ sense to t l. h t l; drop = h; deliver = λ to t l. h t l }
+valued_takes most f h =
+    record { low = h; branch = λ sense to t l. h t l; drop = h; deliver = λ to t l. delivered_takes most l to (f t l) (h t l) }
 
 pub effective_takes : (most : ℕ) (f : ℕ → ℕ → Lowered) (d : ℕ → ℕ → Emitted) → ((t l : ℕ) → (f t l).labels ≤ l + most)
     → ((t l : ℕ) → (d t l).labels ≤ l + most) → Takes most (effective f d)
-effective_takes most f d h g = record { low = h; branch = λ sense to t l. h t l; drop = g; deliver = λ to t l. h t l }
+effective_takes most f d h g =
+    record { low = h; branch = λ sense to t l. h t l; drop = g; deliver = λ to t l. delivered_takes most l to (f t l) (h t l) }
 
 -- a condition takes one label fewer than its value
 pub conditional_takes : (most : ℕ) (f : Bool → ℕ → ℕ → ℕ → Emitted) (d : ℕ → ℕ → Emitted)
@@ -35,7 +47,9 @@ conditional_takes most f d h g = record {
   low = λ t l. let c = h false l (suc t) (suc l) in omega arith;
   branch = λ sense to t l. let c = h sense to t l in omega arith;
   drop = g;
-  deliver = λ to t l. let c = h false l (suc t) (suc l) in omega arith;
+  deliver = λ to t l.
+      let c = h false l (suc t) (suc l) in
+      delivered_takes most l to (truth_of t l (f false l (suc t) (suc l))) (omega arith);
 }
 
 pub mapped_takes : (n most : ℕ) (f : Tree → Tree) (e : Lowering) → Takes n e → n ≤ most → Takes most (mapped f e)
@@ -43,10 +57,14 @@ mapped_takes n most f e h le =
     effective_takes most _ _ (λ t l. let x = h.low t l in omega arith) (λ t l. let x = h.drop t l in omega arith)
 
 deliver_as_takes : (i : Integer) (n most : ℕ) (e : Lowering) → Takes n e → n ≤ most → (to : Destination) (t l : ℕ) → (deliver_as i e to t l).labels ≤ l + most
-deliver_as_takes ints.Char n most e h le to t l = let x = h.low t l in omega arith
-deliver_as_takes ints.UnsignedChar n most e h le to t l = let x = h.low t l in omega arith
-deliver_as_takes ints.Short n most e h le to t l = let x = h.low t l in omega arith
-deliver_as_takes ints.UnsignedShort n most e h le to t l = let x = h.low t l in omega arith
+deliver_as_takes ints.Char n most e h le to t l =
+    let x = h.low t l in delivered_takes most l to (over (conv ints.Char) (e.low t l)) (omega arith)
+deliver_as_takes ints.UnsignedChar n most e h le to t l =
+    let x = h.low t l in delivered_takes most l to (over (conv ints.UnsignedChar) (e.low t l)) (omega arith)
+deliver_as_takes ints.Short n most e h le to t l =
+    let x = h.low t l in delivered_takes most l to (over (conv ints.Short) (e.low t l)) (omega arith)
+deliver_as_takes ints.UnsignedShort n most e h le to t l =
+    let x = h.low t l in delivered_takes most l to (over (conv ints.UnsignedShort) (e.low t l)) (omega arith)
 deliver_as_takes ints.Int n most e h le to t l = let x = h.deliver to t l in omega arith
 
 pub converting_takes : (n most : ℕ) (ty : CType) (e : Lowering) → Takes n e → n ≤ most → Takes most (converting ty e)
@@ -88,6 +106,7 @@ chain_takes n m most stop a b h g le = conditional_takes most _ _
 choose_labels : (to : Destination) (l : ℕ) (p q r : Emitted) → (choose_deliver to l p q r).labels ≡ r.labels
 choose_labels (InLocal n) l p q r = refl
 choose_labels AsResult l p q r = refl
+choose_labels (Releasing pointer n) l p q r = refl
 
 pub choose_takes : (k n m most : ℕ) (c a b : Lowering) → Takes k c → Takes n a → Takes m b → k + n + m + 2 ≤ most → Takes most (choose c a b)
 choose_takes k n m most c a b f h g le = record {
@@ -143,6 +162,7 @@ comma_takes n m most a b h g le = record {
 pub called_labels : (to : Destination) (f : ℕ) (p : Passing) → (called_deliver to f p).labels ≡ p.labels
 called_labels (InLocal n) f p = refl
 called_labels AsResult f p = refl
+called_labels (Releasing pointer n) f p = refl
 
 pub store_labels : (s : Where) (r : Assignable) → (store_low_at s r).labels ≡ r.labels
 store_labels (InLoc n) r = refl

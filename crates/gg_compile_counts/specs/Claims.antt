@@ -14,8 +14,10 @@ LabelsAreFew = (p : AProgram) → label_count p ≤ 3 * program_size p
 
 -- A typed program has fewer of these than its unit has tokens.
 abbrev pub ProgramsAreSmall : Type 0
-ProgramsAreSmall = (p : AProgram) (unit : AUnit) (ends : List ℕ) → IsText unit.externals ends unit.end p → program_size p < length (unit_tokens unit)
+ProgramsAreSmall =
+    (p : AProgram) (unit : AUnit) (ends : List ℕ) → IsText unit.externals ends unit.end p → program_size p < length (unit_tokens unit)
 
 -- So lowering takes at most 3,145,728 labels, where the tokens of the unit are those of a source.
 abbrev pub TypedHaveFewLabels : Type 0
-TypedHaveFewLabels = (p : AProgram) (unit : AUnit) (ends : List ℕ) → HasTokens unit → IsText unit.externals ends unit.end p → label_count p ≤ 3145728
+TypedHaveFewLabels =
+    (p : AProgram) (unit : AUnit) (ends : List ℕ) → HasTokens unit → IsText unit.externals ends unit.end p → label_count p ≤ 3145728

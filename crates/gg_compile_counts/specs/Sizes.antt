@@ -1,5 +1,5 @@
 -- How large a program is: its nodes, branches and loops, its runs of zeros and its blocks.
-use Rattle.std.specs.Prelude.{ℕ, zero, suc, pred, ◌+◌, List, [], ◌∷◌}
+use Rattle.std.specs.Prelude.{ℕ, zero, suc, ◌+◌, ◌-◌, List, [], ◌∷◌}
 use Rattle.c_program.specs.Need.{nodes, maybe_nodes}
 use Rattle.c_program.specs.Programs.{ARoutine, AProgram}
 use Rattle.c_program.specs.Statements.{ADeclaration, KeepOf, ClearOf, BeginOf, StoreOf, ZerosOf, AnAction}
@@ -13,7 +13,7 @@ declared_size [] = 0
 declared_size (KeepOf object ∷ ds) = declared_size ds
 declared_size (ClearOf n ∷ ds) = declared_size ds
 declared_size (BeginOf n e ∷ ds) = nodes e + declared_size ds
-declared_size (StoreOf t o e ∷ ds) = pred (nodes e) + declared_size ds
+declared_size (StoreOf t o e ∷ ds) = (nodes e - 1) + declared_size ds
 declared_size (ZerosOf t o count ∷ ds) = 1 + declared_size ds
 
 -- the nodes of all expressions of a statement, and one for each branch and each loop

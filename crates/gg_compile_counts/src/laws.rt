@@ -1,7 +1,7 @@
 // The laws. The functions do nothing; their clauses are the laws.
 ghost use Rattle.gg_compile_counts.specs.Claims.{LabelsAreFew, ProgramsAreSmall, TypedHaveFewLabels};
 
-/// The law: lowering takes at most three labels for each node, branch and loop of a program.
+/// The law: lowering takes at most three labels for each node, branch, loop, run of zeros and block of a program.
 pub fn labels_are_few()
     ensures { LabelsAreFew }
 {}

@@ -50,7 +50,7 @@ selectable p s limits =
 
 pub typed_codes_keep_registers : TypedCodesKeepRegisters
 typed_codes_keep_registers p d c input m t few fit s r =
-    let ok = selectable p (typed_is_sound p t.unit t.tokens t.typed) (typed_programs_are_within_limits p t few) in
+    let ok = selectable p (typed_is_sound p t.unit t.ends t.tokens t.typed) (typed_programs_are_within_limits p t few) in
     guarded_runs_keep_registers c input m (selected_codes_are_guarded (lowered p) d c ok fit s) r
 
 -- ---- a call up to its return

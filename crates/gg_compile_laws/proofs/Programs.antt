@@ -47,4 +47,4 @@ selected_programs_can_be_written p d c s limits fit selected =
 
 pub typed_codes_can_be_written : TypedCodesCanBeWritten
 typed_codes_can_be_written p d c t fit shown selected =
-    selected_programs_can_be_written p d c (typed_is_sound p t.unit t.tokens t.typed) (typed_programs_are_within_limits p t fit) shown selected
+    selected_programs_can_be_written p d c (typed_is_sound p t.unit t.ends t.tokens t.typed) (typed_programs_are_within_limits p t fit) shown selected

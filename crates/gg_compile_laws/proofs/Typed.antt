@@ -8,11 +8,11 @@ use Rattle.gg_compile_laws.proofs.Limits.{need_few, typed_programs_are_within_li
 
 pub typed_programs_are_ready : TypedProgramsAreReady
 typed_programs_are_ready p t fit =
-    let sound = typed_is_sound p t.unit t.tokens t.typed in
+    let sound = typed_is_sound p t.unit t.ends t.tokens t.typed in
     let within = typed_programs_are_within_limits p t fit in
     record {
       valid = lowered_is_valid p sound;
-      rooms = lowered_programs_have_rooms p (need_few p fit);
+      rooms = lowered_programs_have_rooms p sound (need_few p fit);
       names = record { objects = objects_named p.objects sound.labels.spelled; functions = within.names };
       longwords = within.longwords;
     }

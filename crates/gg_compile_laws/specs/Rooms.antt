@@ -7,6 +7,7 @@ use Rattle.tree_core.specs.declared.program.TreeProgram.{TreeProgram}
 use Rattle.tree_core_forks.specs.Forks.{forks}
 use Rattle.c_program.specs.Need.{need_of}
 use Rattle.c_program.specs.Programs.{ARoutine, AProgram}
+use Rattle.c_sound.specs.Sound.{IsSound}
 use Rattle.c_lower_scheme.specs.Programs.{lowered}
 
 -- For each tree of each function, the function's locals and, behind them, one word more and one for each token with two kids lie among the
@@ -15,7 +16,8 @@ abbrev pub HasRooms : TreeProgram → Type 0
 HasRooms q = (f n : ℕ) (g : TreeFn) (w : List Leaf) → slice_get q.functions f ≡ Some g → slice_get g.items n ≡ Some (tree_item.Root w)
     → g.locals + (forks w + 1) ≤ 1024
 
--- Where no function of a C program needs more than 1,024 words of its frame, its trees have room.
+-- Where no function of a sound C program needs more than 1,024 words of its frame, its trees have room.
 abbrev pub LoweredProgramsHaveRooms : Type 0
 LoweredProgramsHaveRooms =
-    (p : AProgram) → ((n : ℕ) (g : ARoutine) → slice_get p.routines n ≡ Some g → need_of g.locals g.block g.body ≤ 1024) → HasRooms (lowered p)
+    (p : AProgram) → IsSound p
+    → ((n : ℕ) (g : ARoutine) → slice_get p.routines n ≡ Some g → need_of g.locals g.block g.body ≤ 1024) → HasRooms (lowered p)

@@ -5,7 +5,6 @@ use Rattle.c_tokens.specs.declared.token.Token.TheVariants as token
 use Rattle.c_tokens.specs.declared.marks.Mark.TheVariants as marks
 use Rattle.c_tokens.specs.declared.words.Key.TheVariants as keys
 use Rattle.c_phrases.specs.declared.operator.Spec.{Spec}
-use Rattle.c_phrases.specs.declared.operator.Storage.TheVariants as storages
 use Rattle.c_phrases.specs.declared.tree.Named.{Named}
 use Rattle.c_phrases.specs.Classes.{Placed, word, sign}
 use Rattle.c_phrases.specs.Phrases.{AnExp}
@@ -35,6 +34,7 @@ use Rattle.c_typed_definition.specs.Bodies.{entered_function}
 use Rattle.c_typed_definition.specs.Texts.{empty_text}
 use Rattle.c_typed_law.specs.Statements.{IsFull, IsCondition, IsPart, IsTurn, IsReturn, IsStatement, AreItems}
 use Rattle.c_typed_law.specs.Texts.{IsParameterLength, IsParameter, AreParameters, IsBody, AreGlobals, IsExternalBy, AreExternals}
+use Rattle.c_typed_law.proofs.Declared.{parameter_area}
 use Rattle.gg_compile_needs.specs.Claims.{Weight, StatementsAddLittle, TextsAddLittle}
 use Rattle.gg_compile_needs.proofs.Locals.{statement_adds}
 use Rattle.gg_compile_needs.proofs.Data.{exp_adds}
@@ -168,8 +168,7 @@ module _ (names : List (List ℕ × Entry)) (signatures : List Signature) where
 -- ---- functions and texts
 
 parameter_weighs : (o : Option Named) (t : CType) (n : ℕ) (s : State) → Held (with_parameter o t n s) ≡ Held s
-parameter_weighs None t n s = refl
-parameter_weighs (Some name) t n s = refl
+parameter_weighs o t n s = ap Weight (parameter_area o t n s)
 
 -- the weight of the text so far
 abbrev All : Text → ℕ
@@ -232,7 +231,7 @@ module _ (names : List (List ℕ × Entry)) (signatures : List Signature) where
   body_adds spec f None s t r j w = let is = ap All j in omega arith
   body_adds spec f (Some row) s t r j w =
       let x = items_weigh names signatures (written spec f.stars) false row s j.part j.typed (sign marks.CloseBrace 0 ∷ w) in
-      let is = ap All j.whole in
+      let is = ap All j.whole.typed in
       omega arith
 
   globals_add : (spec : Spec) (ds : List ADeclarator) (s r : State) → AreGlobals names signatures spec ds s r → (w : List Placed)
@@ -257,7 +256,7 @@ module _ (names : List (List ℕ × Entry)) (signatures : List Signature) where
       let k = j.whole.whole in
       let u : Text = with_declared j.part spec f t in
       let behind : List Placed = sign marks.CloseParenthesis 0 ∷ onto_body f.body w in
-      let x = heading_adds (is_some f.body) f.params (entered_function u.state) k.part k.typed behind in
+      let x = heading_adds (is_some f.body) f.params (entered_function f u.state) k.part k.typed behind in
       let y = body_adds spec f f.body k.part u r k.whole.whole w in
       let same = declared_same j.part spec f t in
       omega (arith, longer_stars f.stars (onto_name f.name f.at (sign marks.OpenParenthesis f.opened ∷ onto_params f.params behind)))
@@ -290,9 +289,9 @@ statements_add_little names signatures result looping a s r j =
     record { locals = omega arith; weight = omega arith }
 
 pub texts_add_little : TextsAddLittle
-texts_add_little unit tokens before behind is names signatures t j =
+texts_add_little unit ends tokens before behind is names signatures t j =
     let end : List Placed = record { kind = token.End; at = unit.end } ∷ [] in
-    let x = externals_add names signatures before empty_text t j (onto_externals behind end) in
+    let x = externals_add names signatures before (empty_text ends) t j (onto_externals behind end) in
     let front = ap (λ (l : List Placed). length l) (front_of before behind end) in
     let whole = ap (λ (es : List AnExternal). length (onto_externals es end)) is in
     let few = tokens.few in

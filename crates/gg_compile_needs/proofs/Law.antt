@@ -1,6 +1,6 @@
 -- Each function of a typed program needs little, and there are few.
-use Rattle.std.proofs.Common.{◌≡◌, ℕ, zero, suc, ◌+◌, ◌*◌, ◌≤◌, Bool, List, [], ◌∷◌, ◌++◌, length, Option, Some, None, refl, ap, sym, subst, arith}
-use Rattle.std.specs.Prelude.{slice_get, is_some}
+use Rattle.std.proofs.Common.{◌≡◌, ℕ, zero, suc, ◌+◌, ◌*◌, ◌≤◌, Bool, List, [], ◌∷◌, ◌++◌, length, Option, Some, None, refl, ap, sym, subst, arith, true, false}
+use Rattle.std.specs.Prelude.{slice_get, is_some, if◌then◌else◌}
 use Rattle.std.proofs.lemmas.List.{length-append}
 use Rattle.c_syntax.proofs.UnitLaws.{longer_declared}
 use Rattle.c_tokens.specs.declared.token.Token.TheVariants as token
@@ -10,37 +10,50 @@ use Rattle.c_phrases.specs.Classes.{Placed}
 use Rattle.c_phrases.specs.Units.{SomeItems, AParam, AFunction, ADeclared, function, globals, AnExternal}
 use Rattle.c_phrases.specs.UnitSpelling.{onto_body, onto_declared, onto_externals}
 use Rattle.c_types.specs.declared.types.CType.{CType}
+use Rattle.c_types.specs.Types.{size_of}
+use Rattle.c_types.specs.declared.typed.Variable.TheVariants as variables
 use Rattle.c_program.specs.Need.{need_of}
 use Rattle.c_program.specs.Programs.{ARoutine, AProgram}
 use Rattle.c_typed_scope.specs.declared.entry.Entry.{Entry}
 use Rattle.c_typed_scope.specs.declared.entry.Signature.{Signature}
+use Rattle.c_typed_scope.specs.declared.entry.Entry.TheVariants as entries
+use Rattle.c_typed_scope.specs.Layout.{aligned}
 use Rattle.c_typed_expressions.specs.Phrases.{params_in}
 use Rattle.c_typed_expressions.specs.Expressions.{written}
-use Rattle.c_typed_definition.specs.State.{State, with_area}
+use Rattle.c_typed_definition.specs.State.{State, with_area, with_room, named_state}
 use Rattle.c_typed_definition.specs.Headings.{Text, with_parameter, with_declared}
-use Rattle.c_typed_definition.specs.Bodies.{body_of, entered_function}
+use Rattle.c_typed_definition.specs.Bodies.{entered_function, routine_of}
 use Rattle.c_typed_definition.specs.Signatures.{known, parameter_type}
 use Rattle.c_typed_definition.specs.Texts.{empty_text}
+use Rattle.c_typed_definition.specs.Rooms.{offset_in, is_parameter_addressed, with_parameter_in}
 use Rattle.c_typed_law.specs.Texts.{AreParameters, IsBody, IsFunction, IsExternalBy, AreExternals, IsText}
 use Rattle.c_typed_law.proofs.Declared.{declared_bodies}
 use Rattle.gg_compile_spelled.specs.Claims.{NeedAtMost}
 use Rattle.gg_compile_spelled.proofs.Locals.{locals_are_few}
 use Rattle.gg_compile_counts.proofs.Law.{typed_have_few_labels}
+use Rattle.gg_compile_counts.proofs.Stores.{AreStores, items_keep, parameters_store}
 use Rattle.gg_compile_needs.specs.Claims.{CountsFit}
 use Rattle.gg_compile_needs.proofs.Locals.{Count}
-use Rattle.gg_compile_needs.proofs.Needs.{body_need}
 use Rattle.gg_compile_needs.proofs.Units.{function_takes, external_takes}
+use Rattle.gg_compile_needs.proofs.Needs.{stored_need}
+use Rattle.c_sound_texts.proofs.Law.{typed_is_sound}
 
 -- ---- parameters are no automatic locals
 
+parameter_by : (in_memory : Bool) (n : List ℕ) (t : CType) (k : ℕ) (s : State) → Count (if in_memory
+    then with_room (with_parameter_in t k s.room) (named_state n (entries.Variable t (variables.InBlock (offset_in (size_of t) s.room))) s)
+    else named_state n (entries.Variable t (variables.Parameter k)) s) ≡ Count s
+parameter_by true n t k s = refl
+parameter_by false n t k s = refl
+
 parameter_keeps : (o : Option Named) (t : CType) (n : ℕ) (s : State) → Count (with_parameter o t n s) ≡ Count s
 parameter_keeps None t n s = refl
-parameter_keeps (Some name) t n s = refl
+parameter_keeps (Some name) t n s = parameter_by (is_parameter_addressed n s.room) name.name t n s
 
 -- ---- functions, each of which needs at most four longwords for each token before the end
 
 abbrev Little : ℕ → ARoutine → Type 0
-Little m g = need_of g.locals g.body + 4 ≤ 4 * m
+Little m g = need_of g.locals g.block g.body + 4 ≤ 4 * m
 
 abbrev AllLittle : ℕ → List ARoutine → Type 0
 AllLittle m [] = Unit {0}
@@ -70,19 +83,22 @@ module _ (names : List (List ℕ × Entry)) (signatures : List Signature) where
       omega arith
 
   body_little : (spec : Spec) (f : AFunction) (o : Option SomeItems) (s : State) (t r : Text) → IsBody names signatures spec f o s t r
-      → Count s ≡ 0 → (m : ℕ) (w : List Placed) → length (onto_body o w) ≤ m → AllLittle m t.bodies → AllLittle m r.bodies
-  body_little spec f None s t r j none m w most all = subst (λ (x : Text). AllLittle m x.bodies) (sym j) all
-  body_little spec f (Some row) s t r j none m w most all =
-      let x = body_need names signatures (written spec f.stars) row s j.part j.typed none w in
-      let b : ARoutine = body_of spec f j.part.1.locals j.part.1.registers j.part.0 in
-      subst (λ (x : Text). AllLittle m x.bodies) (sym j.whole) (little_behind m t.bodies b all (omega arith))
+      → Count s ≡ 0 → AreStores s.room.stores → (m : ℕ) (w : List Placed) → 2 + length (onto_body o w) ≤ m → AllLittle m t.bodies
+      → AllLittle m r.bodies
+  body_little spec f None s t r j none stores m w most all = subst (λ (x : Text). AllLittle m x.bodies) (sym j) all
+  body_little spec f (Some row) s t r j none stores m w most all =
+      let y = j.part in
+      let b : ARoutine = routine_of spec f y.1 y.0 in
+      let kept = subst AreStores (sym (items_keep names signatures (written spec f.stars) false row s y j.typed)) stores in
+      let x = stored_need names signatures (written spec f.stars) row s y j.typed none (aligned y.1.room.length 4) w y.1.room.stores kept in
+      subst (λ (x : Text). AllLittle m x.bodies) (sym j.whole.typed) (little_behind m t.bodies b all (omega arith))
 
   body_done : (spec : Spec) (f : AFunction) (o : Option SomeItems) (s : State) (t r : Text) → IsBody names signatures spec f o s t r
       → Done r ≤ 1 + Done t
   body_done spec f None s t r j = let is = ap Done j in omega arith
   body_done spec f (Some row) s t r j =
-      let is = ap Done j.whole in
-      let one = length-append t.bodies (body_of spec f j.part.1.locals j.part.1.registers j.part.0 ∷ []) in
+      let is = ap Done j.whole.typed in
+      let one = length-append t.bodies (routine_of spec f j.part.1 j.part.0 ∷ []) in
       omega arith
 
   function_little : (spec : Spec) (f : AFunction) (t r : Text) → IsFunction names signatures spec f t r → (m : ℕ) (w : List Placed)
@@ -90,9 +106,10 @@ module _ (names : List (List ℕ × Entry)) (signatures : List Signature) where
   function_little spec f t r j m w most all =
       let k = j.whole.whole in
       let u : Text = with_declared j.part spec f t in
-      let zero_locals : Count k.part ≡ 0 = parameters_keep (is_some f.body) (params_in f.params) 0 (entered_function u.state) k.part k.typed in
+      let zero_locals : Count k.part ≡ 0 = parameters_keep (is_some f.body) (params_in f.params) 0 (entered_function f u.state) k.part k.typed in
+      let stores = parameters_store names signatures (is_some f.body) (params_in f.params) 0 (entered_function f u.state) k.part k.typed tt in
       let takes = function_takes f w in
-      body_little spec f f.body k.part u r k.whole.whole zero_locals m w (omega arith)
+      body_little spec f f.body k.part u r k.whole.whole zero_locals stores m w (omega arith)
       (subst (AllLittle m) (sym (declared_bodies j.part spec f t)) all)
 
   function_done : (spec : Spec) (f : AFunction) (t r : Text) → IsFunction names signatures spec f t r → Done r ≤ 1 + Done t
@@ -131,30 +148,33 @@ module _ (names : List (List ℕ × Entry)) (signatures : List Signature) where
       let longer = longer_declared e.declared v in
       omega arith
 
-text_little : (p : AProgram) (text : List AnExternal) → IsText text p → (m : ℕ) (w : List Placed) → length (onto_externals text w) ≤ m
-    → AllLittle m p.routines
+text_little : (p : AProgram) (text : List AnExternal) (ends : List ℕ) (end : ℕ) → IsText text ends end p → (m : ℕ) (w : List Placed)
+    → length (onto_externals text w) ≤ m → AllLittle m p.routines
 unfolding IsText
-text_little p text j m w most =
-    let all = externals_little (known text).names (known text).signatures text empty_text j.part j.typed m w most tt in
-    subst (λ (x : AProgram). AllLittle m x.routines) (sym j.whole.whole) all
+text_little p text ends end j m w most =
+    let all = externals_little (known text).names (known text).signatures text (empty_text ends) j.part j.typed m w most tt in
+    let k = j.whole.whole in
+    subst (λ (x : AProgram). AllLittle m x.routines) (sym k.whole) all
 
-text_done : (p : AProgram) (text : List AnExternal) → IsText text p → (w : List Placed) → length p.routines + length w ≤ length (onto_externals text w)
+text_done : (p : AProgram) (text : List AnExternal) (ends : List ℕ) (end : ℕ) → IsText text ends end p → (w : List Placed)
+    → length p.routines + length w ≤ length (onto_externals text w)
 unfolding IsText
-text_done p text j w =
-    let x = externals_done (known text).names (known text).signatures text empty_text j.part j.typed w in
-    let is = ap (λ (x : AProgram). length x.routines) j.whole.whole in
+text_done p text ends end j w =
+    let x = externals_done (known text).names (known text).signatures text (empty_text ends) j.part j.typed w in
+    let k = j.whole.whole in
+    let is = ap (λ (x : AProgram). length x.routines) k.whole in
     omega arith
 
 pub counts_fit : CountsFit
-counts_fit p unit tokens typed =
+counts_fit p unit ends tokens typed =
     let end : List Placed = record { kind = token.End; at = unit.end } ∷ [] in
-    let all = text_little p unit.externals typed 1048577 end tokens.few in
+    let all = text_little p unit.externals ends unit.end typed 1048577 end tokens.few in
     let needs : NeedAtMost p 4194304 = λ n g there. (let x = little_at 1048577 p.routines all n g there in omega arith) in
-    let done = text_done p unit.externals typed end in
+    let done = text_done p unit.externals ends unit.end typed end in
     let few = tokens.few in
     record {
       functions = omega arith;
-      labels = typed_have_few_labels p unit tokens typed;
+      labels = typed_have_few_labels p unit ends tokens typed;
       needs = needs;
-      temporaries = locals_are_few p 4194304 needs;
+      temporaries = locals_are_few p 4194304 (typed_is_sound p unit ends tokens typed) needs;
     }

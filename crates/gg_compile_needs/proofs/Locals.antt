@@ -1,20 +1,22 @@
 -- A phrase that is typed adds at most as many automatic locals as it has tokens.
-use Rattle.std.proofs.Common.{◌≡◌, ℕ, ◌+◌, ◌≤◌, Bool, true, List, [], ◌∷◌, ◌++◌, length, Option, Some, None, ap, arith}
+use Rattle.std.proofs.Common.{◌≡◌, ℕ, ◌+◌, ◌≤◌, Bool, true, List, [], ◌∷◌, ◌++◌, length, Option, Some, None, ap, arith, ◌*◌, ◌∙◌, false}
 use Rattle.std.proofs.lemmas.List.{length-append}
+use Rattle.std.specs.Prelude.{not, ◌&&◌}
 use Rattle.c_tokens.specs.declared.marks.Mark.TheVariants as marks
 use Rattle.c_tokens.specs.declared.words.Key.TheVariants as keys
 use Rattle.c_phrases.specs.declared.operator.Spec.{Spec}
 use Rattle.c_phrases.specs.declared.operator.Storage.{Storage}
 use Rattle.c_phrases.specs.declared.operator.Storage.TheVariants as storages
 use Rattle.c_phrases.specs.Classes.{Placed, word, sign}
-use Rattle.c_phrases.specs.Phrases.{AnExp}
+use Rattle.c_phrases.specs.Phrases.{AnExp, SomeExps, no_exps, exps}
 use Rattle.c_phrases.specs.Spelling.{onto_spec}
 use Rattle.c_phrases.specs.Units.{AnInit, value, elements, ADeclarator, AStatement, block, empty, expression, break_off, continue_on, give_back, if_then, if_else, while_loop, do_loop, for_loop}
 use Rattle.c_phrases.specs.Units.{SomeItems, no_items, local_item, statement_item}
 use Rattle.c_phrases.specs.UnitSpelling.{onto_part, onto_declarator, onto_more_declarators, onto_declarators, onto_condition, onto_statement, onto_items}
 use Rattle.c_types.specs.declared.types.CType.{CType}
-use Rattle.c_types.specs.Typed.{AnExpression}
-use Rattle.c_program.specs.Statements.{ADeclaration, AnAction, SomeActions}
+use Rattle.c_types.specs.Typed.{AnExpression, Constant}
+use Rattle.c_types.specs.Types.{size_of}
+use Rattle.c_program.specs.Statements.{ADeclaration, AnAction, SomeActions, StoreOf}
 use Rattle.c_syntax.proofs.ExpressionLaws.{longer_exp}
 use Rattle.c_syntax.proofs.ListLaws.{longer_declarator, longer_part}
 use Rattle.c_syntax.proofs.ItemLaws.{longer_spec, longer_storage}
@@ -24,13 +26,19 @@ use Rattle.c_typed_expressions.specs.Phrases.{init_in, brackets_in}
 use Rattle.c_typed_expressions.specs.Expressions.{written}
 use Rattle.c_typed_definition.specs.State.{State, with_local, with_register}
 use Rattle.c_typed_definition.specs.Statements.{entered}
+use Rattle.c_typed_definition.specs.Rooms.{offset_in, is_next_addressed}
+use Rattle.c_typed_definition.specs.Automatics.{memory_variable, memory_array}
 use Rattle.c_typed_law.specs.Objects.{IsObjectBy}
-use Rattle.c_typed_law.specs.Locals.{IsBegun, IsAutomatic, IsLocal, AreLocals}
+use Rattle.c_typed_law.specs.Locals.{IsBegun, IsAutomatic, IsLocal, AreLocals, IsMemoryBegun, IsVariable, IsAutomaticBy}
 use Rattle.c_typed_law.specs.Statements.{IsFull, IsCondition, IsPart, IsTurn, IsReturn, IsStatement, AreItems}
+use Rattle.c_typed_law.specs.Arrays.{IsGiven, IsStored, AreStored, IsArrayBegun, IsAutomaticLength}
 
 -- how many automatic locals there are so far
 abbrev pub Count : State → ℕ
 Count s = length s.locals
+
+abbrev Counted : List ADeclaration × State → ℕ
+Counted z = Count z.1
 
 module _ (names : List (List ℕ × Entry)) (signatures : List Signature) where
   -- ---- declarations
@@ -40,44 +48,93 @@ module _ (names : List (List ℕ × Entry)) (signatures : List Signature) where
   object_keeps is_static t d None s r j = ap (λ (z : ℕ × State). Count z.1) j.whole.whole
   object_keeps is_static t d (Some e) s r j = ap (λ (z : ℕ × State). Count z.1) j.whole.whole.whole.whole.whole
 
-  begun_keeps : (t : CType) (n : ℕ) (i : Option AnInit) (s : State) (r : ADeclaration × State) → IsBegun names signatures t n i s r
-      → Count r.1 ≡ Count s
-  begun_keeps t n None s r j = ap (λ (z : ADeclaration × State). Count z.1) j
-  begun_keeps t n (Some (elements es trailing)) s r j = ap (λ (z : ADeclaration × State). Count z.1) j
-  begun_keeps t n (Some (value e)) s r j = ap (λ (z : ADeclaration × State). Count z.1) j.whole.whole
+  given_keeps : (t : CType) (e : AnExp) (s : State) (x : AnExpression × State) → IsGiven names signatures t e s x → Count x.1 ≡ Count s
+  given_keeps t e s x j = ap (λ (z : AnExpression × State). Count z.1) j.whole.whole
 
-  automatic_adds : (spec : Spec) (d : ADeclarator) (s : State) (r : ADeclaration × State) → IsAutomatic names signatures spec d s r
-      → (w : List Placed) → Count r.1 + length w ≤ Count s + length (onto_declarator d w)
-  automatic_adds spec d s r j w =
-      let t : CType = written spec d.stars in
-      let x = begun_keeps t (length s.locals) (init_in d.init) (with_local t d.name s) r j.whole in
+  begun_keeps : (t : CType) (n : ℕ) (i : Option AnInit) (done : List ADeclaration) (s : State) (r : List ADeclaration × State)
+      → IsBegun names signatures t n i done s r → Count r.1 ≡ Count s
+  begun_keeps t n None done s r j = ap Counted j
+  begun_keeps t n (Some (elements es trailing)) done s r j = ap Counted j
+  begun_keeps t n (Some (value e)) done s r j = ap Counted j.whole ∙ given_keeps t e s j.part j.typed
+
+  -- what lies in the block is no automatic local
+  stored_keeps : (t : CType) (o : ℕ) (e : AnExp) (done : List ADeclaration) (s : State) (r : List ADeclaration × State)
+      → IsStored names signatures t o e done s r → Count r.1 ≡ Count s
+  stored_keeps t o e done s r j = ap Counted j.whole ∙ given_keeps t e s j.part j.typed
+
+  list_keeps : (t : CType) (o : ℕ) (es : SomeExps) (done : List ADeclaration) (s : State) (r : List ADeclaration × State)
+      → AreStored names signatures t o es done s r → Count r.1 ≡ Count s
+  list_keeps t o no_exps done s r j = ap Counted j
+  list_keeps t o (exps e es) done s r j =
+      list_keeps t (o + size_of t) es j.part.0 j.part.1 r j.whole ∙ stored_keeps t o e done s j.part j.typed
+
+  memory_keeps : (t : CType) (o : ℕ) (i : Option AnInit) (done : List ADeclaration) (s : State) (r : List ADeclaration × State)
+      → IsMemoryBegun names signatures t o i done s r → Count r.1 ≡ Count s
+  memory_keeps t o None done s r j = ap Counted j
+  memory_keeps t o (Some (elements es trailing)) done s r j = ap Counted j
+  memory_keeps t o (Some (value e)) done s r j = stored_keeps t o e (done ++ StoreOf t o (Constant 0) ∷ []) s r j
+
+  array_keeps : (t : CType) (o : ℕ) (i : Option AnInit) (done : List ADeclaration) (s : State) (r : List ADeclaration × State)
+      → IsArrayBegun names signatures t o i done s r → Count r.1 ≡ Count s
+  array_keeps t o None done s r j = ap Counted j
+  array_keeps t o (Some (elements es trailing)) done s r j = list_keeps t o es done s r j
+  array_keeps t o (Some (value e)) done s r j = ap Counted j
+
+  length_keeps : (l : Option AnExp) (i : Option AnInit) (s : State) (m : ℕ × State) → IsAutomaticLength names signatures l i s m → Count m.1 ≡ Count s
+  length_keeps None i s m j = ap (λ (z : ℕ × State). Count z.1) j
+  length_keeps (Some e) i s m j = ap (λ (z : ℕ × State). Count z.1) j.whole
+
+  variable_adds : (in_memory : Bool) (t : CType) (d : ADeclarator) (done : List ADeclaration) (s : State) (r : List ADeclaration × State)
+      → IsVariable names signatures in_memory t d done s r → Count r.1 ≤ 1 + Count s
+  variable_adds true t d done s r j =
+      let x = memory_keeps t (offset_in (size_of t) s.room) (init_in d.init) done (memory_variable t d s) r j in omega arith
+  variable_adds false t d done s r j =
+      let x = begun_keeps t (length s.locals) (init_in d.init) done (with_local t d.name s) r j in
       let one = length-append s.locals (t ∷ []) in
+      omega arith
+
+  automatic_by_adds : (l : Option (Option AnExp)) (is_register : Bool) (t : CType) (d : ADeclarator) (done : List ADeclaration) (s : State)
+      (r : List ADeclaration × State) → IsAutomaticBy names signatures l is_register t d done s r → Count r.1 ≤ 1 + Count s
+  automatic_by_adds None is_register t d done s r j = variable_adds (not is_register && is_next_addressed s.room) t d done s r j
+  automatic_by_adds (Some l) is_register t d done s r j =
+      let m = j.part in
+      let k = j.whole in
+      let q = k.whole in
+      let x = length_keeps l (init_in d.init) s m j.typed in
+      let y = array_keeps t (offset_in (size_of t) m.1.room) (init_in d.init) done (memory_array t (k.part * size_of t) d m.1) q.part q.typed in
+      let is = ap Counted q.whole in
+      omega arith
+
+  automatic_adds : (is_register : Bool) (spec : Spec) (d : ADeclarator) (done : List ADeclaration) (s : State) (r : List ADeclaration × State)
+      → IsAutomatic names signatures is_register spec d done s r → (w : List Placed) → Count r.1 + length w ≤ Count s + length (onto_declarator d w)
+  automatic_adds is_register spec d done s r j w =
+      let x = automatic_by_adds (brackets_in d.length) is_register (written spec d.stars) d done s r j.whole in
       omega (arith, longer_declarator d w)
 
-  local_adds : (storage : Storage) (spec : Spec) (d : ADeclarator) (s : State) (r : ADeclaration × State)
-      → IsLocal names signatures storage spec d s r → (w : List Placed) → Count r.1 + length w ≤ Count s + length (onto_declarator d w)
-  local_adds storages.Automatic spec d s r j w = automatic_adds spec d s r j w
-  local_adds (storages.Register at) spec d s r j w = automatic_adds spec d (with_register s) r j w
-  local_adds (storages.Static at) spec d s r j w =
+  local_adds : (storage : Storage) (spec : Spec) (d : ADeclarator) (done : List ADeclaration) (s : State) (r : List ADeclaration × State)
+      → IsLocal names signatures storage spec d done s r → (w : List Placed) → Count r.1 + length w ≤ Count s + length (onto_declarator d w)
+  local_adds storages.Automatic spec d done s r j w = automatic_adds false spec d done s r j w
+  local_adds (storages.Register at) spec d done s r j w = automatic_adds true spec d done (with_register s) r j w
+  local_adds (storages.Static at) spec d done s r j w =
       let x = object_keeps true (written spec d.stars) d (brackets_in d.length) s j.part j.typed.whole in
-      let is = ap (λ (z : ADeclaration × State). Count z.1) j.whole in
+      let is = ap Counted j.whole in
       omega (arith, longer_declarator d w)
 
   locals_add : (storage : Storage) (spec : Spec) (ds : List ADeclarator) (done : List ADeclaration) (s : State) (r : List ADeclaration × State)
       → AreLocals names signatures storage spec ds done s r → (w : List Placed)
       → Count r.1 + length w ≤ Count s + length (onto_more_declarators ds w)
-  locals_add storage spec [] done s r j w = let is = ap (λ (z : List ADeclaration × State). Count z.1) j in omega arith
+  locals_add storage spec [] done s r j w = let is = ap Counted j in omega arith
   locals_add storage spec (d ∷ ds) done s r j w =
-      let x = local_adds storage spec d s j.part j.typed (onto_more_declarators ds w) in
-      let y = locals_add storage spec ds (done ++ j.part.0 ∷ []) j.part.1 r j.whole w in
+      let x = local_adds storage spec d done s j.part j.typed (onto_more_declarators ds w) in
+      let y = locals_add storage spec ds j.part.0 j.part.1 r j.whole w in
       omega arith
 
   declarators_add : (storage : Storage) (spec : Spec) (ds : List ADeclarator) (s : State) (r : List ADeclaration × State)
       → AreLocals names signatures storage spec ds [] s r → (w : List Placed) → Count r.1 + length w ≤ Count s + length (onto_declarators ds w)
-  declarators_add storage spec [] s r j w = let is = ap (λ (z : List ADeclaration × State). Count z.1) j in omega arith
+  declarators_add storage spec [] s r j w = let is = ap Counted j in omega arith
   declarators_add storage spec (d ∷ ds) s r j w =
-      let x = local_adds storage spec d s j.part j.typed (onto_more_declarators ds w) in
-      let y = locals_add storage spec ds (j.part.0 ∷ []) j.part.1 r j.whole w in
+      let x = local_adds storage spec d [] s j.part j.typed (onto_more_declarators ds w) in
+      let y = locals_add storage spec ds j.part.0 j.part.1 r j.whole w in
       omega arith
 
   -- ---- expressions in statements

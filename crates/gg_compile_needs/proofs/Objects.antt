@@ -1,5 +1,6 @@
 -- Declarations add at most four to the weight of the data area for each of their tokens: a length is looked at twice.
 use Rattle.std.proofs.Common.{ℕ, ◌+◌, ◌*◌, ◌≤◌, Bool, true, false, List, [], ◌∷◌, ◌++◌, length, Option, Some, None, ap, arith}
+use Rattle.std.specs.Prelude.{not, ◌&&◌}
 use Rattle.c_tokens.specs.declared.marks.Mark.TheVariants as marks
 use Rattle.c_phrases.specs.declared.operator.Spec.{Spec}
 use Rattle.c_phrases.specs.declared.operator.Storage.{Storage}
@@ -11,7 +12,8 @@ use Rattle.c_phrases.specs.Units.{ALength, AnInit, value, elements, AnInitialise
 use Rattle.c_phrases.specs.UnitSpelling.{onto_part, onto_length, onto_trailing, onto_init, onto_initialised, onto_declarator, onto_more_declarators, onto_declarators}
 use Rattle.c_types.specs.declared.types.CType.{CType}
 use Rattle.c_types.specs.Types.{size_of, pointer_to}
-use Rattle.c_program.specs.Statements.{ADeclaration}
+use Rattle.c_types.specs.Typed.{AnExpression, Constant}
+use Rattle.c_program.specs.Statements.{ADeclaration, StoreOf}
 use Rattle.c_syntax.proofs.ExpressionLaws.{longer_exp, longer_stars}
 use Rattle.c_syntax.proofs.ListLaws.{longer_length, longer_trailing, longer_init, longer_initialised}
 use Rattle.c_typed_scope.specs.declared.entry.Entry.{Entry}
@@ -23,14 +25,20 @@ use Rattle.c_typed_scope.specs.Contents.{Filled, filled_to}
 use Rattle.c_typed_expressions.specs.Phrases.{init_in, brackets_in}
 use Rattle.c_typed_expressions.specs.Expressions.{written}
 use Rattle.c_typed_definition.specs.State.{State, with_area, measuring, variable_of, array_entry, with_local, with_register}
+use Rattle.c_typed_definition.specs.Rooms.{offset_in, is_next_addressed}
+use Rattle.c_typed_definition.specs.Automatics.{memory_variable, memory_array}
 use Rattle.c_typed_law.specs.Values.{IsElement, AreElements}
 use Rattle.c_typed_law.specs.Objects.{IsCount, AreLaid, HoldsAtFirst, IsFilled, IsObjectBy, IsObject}
-use Rattle.c_typed_law.specs.Locals.{IsBegun, IsAutomatic, IsLocal, AreLocals}
+use Rattle.c_typed_law.specs.Locals.{IsBegun, IsAutomatic, IsLocal, AreLocals, IsMemoryBegun, IsVariable, IsAutomaticBy}
+use Rattle.c_typed_law.specs.Arrays.{IsGiven, IsStored, AreStored, IsArrayBegun, IsAutomaticLength}
 use Rattle.gg_compile_needs.specs.Claims.{Weight}
 use Rattle.gg_compile_needs.proofs.Data.{exp_adds, laid_adds, filled_keeps}
 
 abbrev Held : Filled × Area → ℕ
 Held z = Weight z.1
+
+abbrev Laid : List ADeclaration × State → ℕ
+Laid z = Weight z.1.area
 
 -- ---- what an object holds at first: two for each token
 
@@ -138,38 +146,132 @@ module _ (names : List (List ℕ × Entry)) (signatures : List Signature) where
 
   -- ---- automatic locals
 
-  init_adds : (t : CType) (n : ℕ) (i : AnInit) (s : State) (r : ADeclaration × State) → IsBegun names signatures t n (Some i) s r → (w : List Placed)
-      → Weight r.1.area + 2 * length w ≤ Weight s.area + 2 * length (onto_init i w)
-  init_adds t n (elements es trailing) s r j w =
-      let is = ap (λ (z : ADeclaration × State). Weight z.1.area) j in
-      omega (arith, longer_init (elements es trailing) w)
-  init_adds t n (value e) s r j w =
-      let x = exp_adds names signatures s.scope e s.area j.part j.typed w in
-      let is = ap (λ (z : ADeclaration × State). Weight z.1.area) j.whole.whole in
+  given_adds : (t : CType) (e : AnExp) (s : State) (x : AnExpression × State) → IsGiven names signatures t e s x → (w : List Placed)
+      → Weight x.1.area + 2 * length w ≤ Weight s.area + 2 * length (onto_exp e w)
+  given_adds t e s x j w =
+      let y = exp_adds names signatures s.scope e s.area j.part j.typed w in
+      let is = ap (λ (z : AnExpression × State). Weight z.1.area) j.whole.whole in
       omega arith
 
-  begun_adds : (t : CType) (n : ℕ) (i : Option AnInitialised) (s : State) (r : ADeclaration × State) → IsBegun names signatures t n (init_in i) s r
-      → (w : List Placed) → Weight r.1.area + 2 * length w ≤ Weight s.area + 2 * length (onto_initialised i w)
-  begun_adds t n None s r j w = let is = ap (λ (z : ADeclaration × State). Weight z.1.area) j in omega arith
-  begun_adds t n (Some i) s r j w = let x = init_adds t n i.with_init s r j w in omega arith
+  init_adds : (t : CType) (n : ℕ) (i : AnInit) (done : List ADeclaration) (s : State) (r : List ADeclaration × State)
+      → IsBegun names signatures t n (Some i) done s r → (w : List Placed) → Weight r.1.area + 2 * length w ≤ Weight s.area + 2 * length (onto_init i w)
+  init_adds t n (elements es trailing) done s r j w =
+      let is = ap Laid j in
+      omega (arith, longer_init (elements es trailing) w)
+  init_adds t n (value e) done s r j w =
+      let x = given_adds t e s j.part j.typed w in
+      let is = ap Laid j.whole in
+      omega arith
 
-  automatic_adds : (spec : Spec) (d : ADeclarator) (s : State) (r : ADeclaration × State) → IsAutomatic names signatures spec d s r
-      → (w : List Placed) → Weight r.1.area + 4 * length w ≤ Weight s.area + 4 * length (onto_declarator d w)
-  automatic_adds spec d s r j w =
-      let t : CType = written spec d.stars in
+  begun_adds : (t : CType) (n : ℕ) (i : Option AnInitialised) (done : List ADeclaration) (s : State) (r : List ADeclaration × State)
+      → IsBegun names signatures t n (init_in i) done s r → (w : List Placed)
+      → Weight r.1.area + 2 * length w ≤ Weight s.area + 2 * length (onto_initialised i w)
+  begun_adds t n None done s r j w = let is = ap Laid j in omega arith
+  begun_adds t n (Some i) done s r j w = let x = init_adds t n i.with_init done s r j w in omega arith
+
+  -- ---- memory locals
+
+  stored_adds : (t : CType) (o : ℕ) (e : AnExp) (done : List ADeclaration) (s : State) (r : List ADeclaration × State)
+      → IsStored names signatures t o e done s r → (w : List Placed) → Weight r.1.area + 2 * length w ≤ Weight s.area + 2 * length (onto_exp e w)
+  stored_adds t o e done s r j w =
+      let x = given_adds t e s j.part j.typed w in
+      let is = ap Laid j.whole in
+      omega arith
+
+  others_stored : (t : CType) (o : ℕ) (es : SomeExps) (done : List ADeclaration) (s : State) (r : List ADeclaration × State)
+      → AreStored names signatures t o es done s r → (w : List Placed) → Weight r.1.area + 2 * length w ≤ Weight s.area + 2 * length (onto_others es w)
+  others_stored t o no_exps done s r j w = let is = ap Laid j in omega arith
+  others_stored t o (exps e es) done s r j w =
+      let x = stored_adds t o e done s j.part j.typed (onto_others es w) in
+      let y = others_stored t (o + size_of t) es j.part.0 j.part.1 r j.whole w in
+      omega arith
+
+  firsts_stored : (t : CType) (o : ℕ) (es : SomeExps) (done : List ADeclaration) (s : State) (r : List ADeclaration × State)
+      → AreStored names signatures t o es done s r → (w : List Placed) → Weight r.1.area + 2 * length w ≤ Weight s.area + 2 * length (onto_first es w)
+  firsts_stored t o no_exps done s r j w = let is = ap Laid j in omega arith
+  firsts_stored t o (exps e es) done s r j w =
+      let x = stored_adds t o e done s j.part j.typed (onto_others es w) in
+      let y = others_stored t (o + size_of t) es j.part.0 j.part.1 r j.whole w in
+      omega arith
+
+  memory_init_adds : (t : CType) (o : ℕ) (i : AnInit) (done : List ADeclaration) (s : State) (r : List ADeclaration × State)
+      → IsMemoryBegun names signatures t o (Some i) done s r → (w : List Placed)
+      → Weight r.1.area + 2 * length w ≤ Weight s.area + 2 * length (onto_init i w)
+  memory_init_adds t o (elements es trailing) done s r j w =
+      let is = ap Laid j in
+      omega (arith, longer_init (elements es trailing) w)
+  memory_init_adds t o (value e) done s r j w = stored_adds t o e (done ++ StoreOf t o (Constant 0) ∷ []) s r j w
+
+  memory_adds : (t : CType) (o : ℕ) (i : Option AnInitialised) (done : List ADeclaration) (s : State) (r : List ADeclaration × State)
+      → IsMemoryBegun names signatures t o (init_in i) done s r → (w : List Placed)
+      → Weight r.1.area + 2 * length w ≤ Weight s.area + 2 * length (onto_initialised i w)
+  memory_adds t o None done s r j w = let is = ap Laid j in omega arith
+  memory_adds t o (Some i) done s r j w = let x = memory_init_adds t o i.with_init done s r j w in omega arith
+
+  array_init_adds : (t : CType) (o : ℕ) (i : AnInit) (done : List ADeclaration) (s : State) (r : List ADeclaration × State)
+      → IsArrayBegun names signatures t o (Some i) done s r → (w : List Placed)
+      → Weight r.1.area + 2 * length w ≤ Weight s.area + 2 * length (onto_init i w)
+  array_init_adds t o (elements es trailing) done s r j w =
+      let v : List Placed = sign marks.CloseBrace 0 ∷ w in
+      let x = firsts_stored t o es done s r j (onto_trailing trailing v) in
+      omega (arith, longer_trailing trailing v)
+  array_init_adds t o (value e) done s r j w =
+      let is = ap Laid j in
+      omega (arith, longer_exp e w)
+
+  array_adds : (t : CType) (o : ℕ) (i : Option AnInitialised) (done : List ADeclaration) (s : State) (r : List ADeclaration × State)
+      → IsArrayBegun names signatures t o (init_in i) done s r → (w : List Placed)
+      → Weight r.1.area + 2 * length w ≤ Weight s.area + 2 * length (onto_initialised i w)
+  array_adds t o None done s r j w = let is = ap Laid j in omega arith
+  array_adds t o (Some i) done s r j w = let x = array_init_adds t o i.with_init done s r j w in omega arith
+
+  measured_adds : (l : Option AnExp) (i : Option AnInit) (s : State) (m : ℕ × State) → IsAutomaticLength names signatures l i s m → (w : List Placed)
+      → Weight m.1.area + 2 * length w ≤ Weight s.area + 2 * length (onto_part l w)
+  measured_adds None i s m j w = let is = ap (λ (z : ℕ × State). Weight z.1.area) j in omega arith
+  measured_adds (Some e) i s m j w =
+      let k = j.typed in
+      let x = exp_adds names signatures s.scope e s.area k.part k.typed w in
+      let same = ap (λ (z : ℕ × Area). Weight z.1) k.whole.whole in
+      let is = ap (λ (z : ℕ × State). Weight z.1.area) j.whole in
+      omega arith
+
+  variable_adds : (in_memory : Bool) (t : CType) (d : ADeclarator) (done : List ADeclaration) (s : State) (r : List ADeclaration × State)
+      → IsVariable names signatures in_memory t d done s r → (w : List Placed)
+      → Weight r.1.area + 2 * length w ≤ Weight s.area + 2 * length (onto_initialised d.init w)
+  variable_adds true t d done s r j w = memory_adds t (offset_in (size_of t) s.room) d.init done (memory_variable t d s) r j w
+  variable_adds false t d done s r j w = begun_adds t (length s.locals) d.init done (with_local t d.name s) r j w
+
+  automatic_by_adds : (l : Option ALength) (is_register : Bool) (t : CType) (d : ADeclarator) (done : List ADeclaration) (s : State)
+      (r : List ADeclaration × State) → IsAutomaticBy names signatures (brackets_in l) is_register t d done s r → (w : List Placed)
+      → Weight r.1.area + 2 * length w ≤ Weight s.area + 2 * length (onto_length l (onto_initialised d.init w))
+  automatic_by_adds None is_register t d done s r j w = variable_adds (not is_register && is_next_addressed s.room) t d done s r j w
+  automatic_by_adds (Some l) is_register t d done s r j w =
       let v : List Placed = onto_initialised d.init w in
-      let x = begun_adds t (length s.locals) d.init (with_local t d.name s) r j.whole w in
+      let m = j.part in
+      let k = j.whole in
+      let q = k.whole in
+      let x = measured_adds l.value (init_in d.init) s m j.typed (sign marks.CloseBracket 0 ∷ v) in
+      let y = array_adds t (offset_in (size_of t) m.1.room) d.init done (memory_array t (k.part * size_of t) d m.1) q.part q.typed w in
+      let is = ap Laid q.whole in
+      omega arith
+
+  automatic_adds : (is_register : Bool) (spec : Spec) (d : ADeclarator) (done : List ADeclaration) (s : State) (r : List ADeclaration × State)
+      → IsAutomatic names signatures is_register spec d done s r → (w : List Placed)
+      → Weight r.1.area + 4 * length w ≤ Weight s.area + 4 * length (onto_declarator d w)
+  automatic_adds is_register spec d done s r j w =
+      let v : List Placed = onto_initialised d.init w in
+      let x = automatic_by_adds d.length is_register (written spec d.stars) d done s r j.whole w in
       let grows = longer_initialised d.init w in
       omega (arith, longer_stars d.stars (onto_name d.name d.at (onto_length d.length v)), longer_length d.length v)
 
-  local_adds : (storage : Storage) (spec : Spec) (d : ADeclarator) (s : State) (r : ADeclaration × State)
-      → IsLocal names signatures storage spec d s r → (w : List Placed)
+  local_adds : (storage : Storage) (spec : Spec) (d : ADeclarator) (done : List ADeclaration) (s : State) (r : List ADeclaration × State)
+      → IsLocal names signatures storage spec d done s r → (w : List Placed)
       → Weight r.1.area + 4 * length w ≤ Weight s.area + 4 * length (onto_declarator d w)
-  local_adds storages.Automatic spec d s r j w = automatic_adds spec d s r j w
-  local_adds (storages.Register at) spec d s r j w = automatic_adds spec d (with_register s) r j w
-  local_adds (storages.Static at) spec d s r j w =
+  local_adds storages.Automatic spec d done s r j w = automatic_adds false spec d done s r j w
+  local_adds (storages.Register at) spec d done s r j w = automatic_adds true spec d done (with_register s) r j w
+  local_adds (storages.Static at) spec d done s r j w =
       let x = object_adds true spec d s j.part j.typed w in
-      let is = ap (λ (z : ADeclaration × State). Weight z.1.area) j.whole in
+      let is = ap Laid j.whole in
       omega arith
 
   locals_add : (storage : Storage) (spec : Spec) (ds : List ADeclarator) (done : List ADeclaration) (s : State) (r : List ADeclaration × State)
@@ -177,8 +279,8 @@ module _ (names : List (List ℕ × Entry)) (signatures : List Signature) where
       → Weight r.1.area + 4 * length w ≤ Weight s.area + 4 * length (onto_more_declarators ds w)
   locals_add storage spec [] done s r j w = let is = ap (λ (z : List ADeclaration × State). Weight z.1.area) j in omega arith
   locals_add storage spec (d ∷ ds) done s r j w =
-      let x = local_adds storage spec d s j.part j.typed (onto_more_declarators ds w) in
-      let y = locals_add storage spec ds (done ++ j.part.0 ∷ []) j.part.1 r j.whole w in
+      let x = local_adds storage spec d done s j.part j.typed (onto_more_declarators ds w) in
+      let y = locals_add storage spec ds j.part.0 j.part.1 r j.whole w in
       omega arith
 
   pub declarators_add : (storage : Storage) (spec : Spec) (ds : List ADeclarator) (s : State) (r : List ADeclaration × State)
@@ -186,6 +288,6 @@ module _ (names : List (List ℕ × Entry)) (signatures : List Signature) where
       → Weight r.1.area + 4 * length w ≤ Weight s.area + 4 * length (onto_declarators ds w)
   declarators_add storage spec [] s r j w = let is = ap (λ (z : List ADeclaration × State). Weight z.1.area) j in omega arith
   declarators_add storage spec (d ∷ ds) s r j w =
-      let x = local_adds storage spec d s j.part j.typed (onto_more_declarators ds w) in
-      let y = locals_add storage spec ds (j.part.0 ∷ []) j.part.1 r j.whole w in
+      let x = local_adds storage spec d [] s j.part j.typed (onto_more_declarators ds w) in
+      let y = locals_add storage spec ds j.part.0 j.part.1 r j.whole w in
       omega arith

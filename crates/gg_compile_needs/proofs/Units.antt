@@ -99,13 +99,13 @@ headings_are_short unit tokens f d =
     omega arith
 
 pub bodies_need_little : BodiesNeedLittle
-bodies_need_little unit tokens f row d body names signatures result s r none j =
+bodies_need_little unit tokens f row d body names signatures result s r none j block =
     let q = function_within unit f d in
     let v : List Placed = q.0 in
     let within = q.1 in
     let takes = function_takes f v in
     let is = ap (λ (o : Option SomeItems). length (onto_body o v)) body in
-    let x = body_need names signatures result row s r j (ap (λ (l : List CType). length l) none) v in
+    let x = body_need names signatures result row s r j (ap (λ (l : List CType). length l) none) block v in
     let few = tokens.few in
     omega arith
 

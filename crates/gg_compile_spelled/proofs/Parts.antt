@@ -7,17 +7,24 @@ use Rattle.gg_base.proofs.Facts.{false_true}
 use Rattle.c_types.specs.declared.types.Integer.{Integer}
 use Rattle.c_types.specs.declared.types.Integer.TheVariants as ints
 use Rattle.c_types.specs.declared.types.CType.{CType}
-use Rattle.c_lower_scheme.specs.Trees.{Tree, Item, breaks}
-use Rattle.c_lower_scheme.specs.Parts.{Lowered, Pair, Emitted, Lowering, due, over, then_done, Destination, InLocal, AsResult, delivered}
+use Rattle.c_lower_scheme.specs.Trees.{Tree, Item, breaks, reads}
+use Rattle.c_lower_scheme.specs.Parts.{Lowered, Pair, Emitted, Lowering, due, over, then_done, Destination, InLocal, AsResult, Releasing, delivered}
 use Rattle.c_lower_scheme.specs.Saving.{saving, saved}
 use Rattle.c_lower_scheme.specs.Places.{integer_of, conv, fitted}
-use Rattle.c_lower_scheme.specs.Conditions.{test, dropped, valued, conditional, effective, mapped, chained, same, goal, chain, chain_drop, drop_two, choose, comma}
+use Rattle.c_lower_scheme.specs.Conditions.{test, dropped, valued, conditional, effective, mapped, chained, same, goal, chain, chain_drop, drop_two, choose, choose_leave, comma}
 use Rattle.c_lower_scheme.specs.Conditions.{truth_of, deliver_as, converting, choose_drop, choose_deliver}
 use Rattle.c_lower_scheme.specs.Values.{must, joined, binary, relation}
+use Rattle.c_lower_scheme.specs.Flow.{two_done}
 use Rattle.gg_compile_spelled.proofs.Trees.{IsLong, AreLong, none, next, behind}
 
 pub unit_long : 1 < 2 ^ 32
 unit_long = omega arith
+
+-- where a value goes is an object's memory only if the object is there
+abbrev pub LongTo : ℕ → Destination → Type 0
+LongTo objects (InLocal n) = Unit {0}
+LongTo objects AsResult = Unit {0}
+LongTo objects (Releasing pointer n) = pointer < objects
 
 module _ (objects most : ℕ) where
   abbrev Long : Tree → Type 0
@@ -48,7 +55,7 @@ module _ (objects most : ℕ) where
     pub low : (t l : ℕ) → LongLow l (e.low t l)
     pub branch : (sense : Bool) (to t l : ℕ) → LongEnds (to < most) l (e.branch sense to t l)
     pub drop : (t l : ℕ) → LongEnds (Unit {0}) l (e.drop t l)
-    pub deliver : (to : Destination) (t l : ℕ) → LongEnds (Unit {0}) l (e.deliver to t l)
+    pub deliver : (to : Destination) (t l : ℕ) → LongEnds (LongTo objects to) l (e.deliver to t l)
 
   pub long_saving : (b : Bool) (u : ℕ) (w : Tree) → Long w → Items (saving b u w)
   long_saving true u w h = next h none
@@ -77,15 +84,27 @@ module _ (objects most : ℕ) where
   pub test_long : (sense : Bool) (to l : ℕ) (p : Lowered) → LongLow l p → LongEnds (to < most) l (test sense to p)
   test_long sense to l p h = record { grows = h.grows; items = λ lt le. behind (h.items le) (next (lt, h.tree, zero_small) none) }
 
-  pub delivered_long : (to : Destination) (l : ℕ) (p : Lowered) → LongLow l p → LongEnds (Unit {0}) l (delivered to p)
+  pub delivered_long : (to : Destination) (l : ℕ) (p : Lowered) → LongLow l p → LongEnds (LongTo objects to) l (delivered to p)
   delivered_long (InLocal n) l p h = record { grows = h.grows; items = λ y le. behind (h.items le) (next h.tree none) }
   delivered_long AsResult l p h = record { grows = h.grows; items = λ y le. behind (h.items le) (next h.tree none) }
+  delivered_long (Releasing pointer n) l p h = record {
+    grows = h.grows;
+    items = λ y le. behind (h.items le) (behind (long_saving (reads p.tree) p.temps p.tree h.tree)
+        (next (y, tt) (next (long_saved (reads p.tree) p.temps p.tree h.tree) none)));
+  }
 
   dropped_long : (l : ℕ) (p : Lowered) → LongLow l p → LongEnds (Unit {0}) l (dropped p)
   dropped_long l p h = record {
     grows = h.grows;
     items = λ y le. behind (h.items le) (long_saving (breaks p.tree) p.temps p.tree h.tree);
   }
+
+  -- one statement behind another
+  pub two_long : (so : Type 0) (l : ℕ) (a b : Emitted) → LongEnds so l a → LongEnds so a.labels b → LongEnds so l (two_done a b)
+  two_long so l a b h g =
+      let up = h.grows in
+      let up' = g.grows in
+      record { grows = omega arith; items = λ y le. behind (h.items y (omega arith)) (g.items y le) }
 
   pub valued_long : (f : ℕ → ℕ → Lowered) → ((t l : ℕ) → LongLow l (f t l)) → LongWay (valued f)
   valued_long f h = record {
@@ -124,7 +143,7 @@ module _ (objects most : ℕ) where
   pub mapped_long : (f : Tree → Tree) → ((w : Tree) → Long w → Long (f w)) → (e : Lowering) → LongWay e → LongWay (mapped f e)
   mapped_long f keeps e h = effective_long _ _ (λ t l. over_long f keeps l (e.low t l) (h.low t l)) h.drop
 
-  deliver_as_long : (i : Integer) (e : Lowering) → LongWay e → (to : Destination) (t l : ℕ) → LongEnds (Unit {0}) l (deliver_as i e to t l)
+  deliver_as_long : (i : Integer) (e : Lowering) → LongWay e → (to : Destination) (t l : ℕ) → LongEnds (LongTo objects to) l (deliver_as i e to t l)
   deliver_as_long ints.Char e h to t l = delivered_long to l (over (conv ints.Char) (e.low t l)) (over_long (conv ints.Char) (long_conv ints.Char) l (e.low t l) (h.low t l))
   deliver_as_long ints.UnsignedChar e h to t l = delivered_long to l (over (conv ints.UnsignedChar) (e.low t l))
       (over_long (conv ints.UnsignedChar) (long_conv ints.UnsignedChar) l (e.low t l) (h.low t l))
@@ -199,9 +218,9 @@ module _ (objects most : ℕ) where
             behind (x.items lt (omega arith)) (behind (y.items (omega arith)) (next y.tree last));
       }
 
-  choose_drop_long : (l : ℕ) (p q r : Emitted) → LongEnds (l < most) (suc (suc l)) p → LongEnds (Unit {0}) p.labels q → LongEnds (Unit {0}) q.labels r
-      → LongEnds (Unit {0}) l (choose_drop l p q r)
-  choose_drop_long l p q r x y z =
+  choose_drop_long : (so : Type 0) (l : ℕ) (p q r : Emitted) → LongEnds (l < most) (suc (suc l)) p → LongEnds so p.labels q → LongEnds so q.labels r
+      → LongEnds so l (choose_drop l p q r)
+  choose_drop_long so l p q r x y z =
       let up = x.grows in
       let up' = y.grows in
       let up'' = z.grows in
@@ -210,14 +229,13 @@ module _ (objects most : ℕ) where
         items = λ k le.
             let lt : l < most = omega arith in
             let lt' : suc l < most = omega arith in
-            let last = next lt' (next lt (behind (z.items tt le) (next lt' none))) in
-            behind (x.items lt (omega arith)) (behind (y.items tt (omega arith)) last);
+            let last = next lt' (next lt (behind (z.items k le) (next lt' none))) in
+            behind (x.items lt (omega arith)) (behind (y.items k (omega arith)) last);
       }
 
-  choose_deliver_long : (to : Destination) (l : ℕ) (p q r : Emitted) → LongEnds (l < most) (suc (suc l)) p → LongEnds (Unit {0}) p.labels q → LongEnds (Unit {0}) q.labels r
-      → LongEnds (Unit {0}) l (choose_deliver to l p q r)
-  choose_deliver_long (InLocal n) l p q r x y z = choose_drop_long l p q r x y z
-  choose_deliver_long AsResult l p q r x y z =
+  choose_leave_long : (so : Type 0) (l : ℕ) (p q r : Emitted) → LongEnds (l < most) (suc (suc l)) p → LongEnds so p.labels q → LongEnds so q.labels r
+      → LongEnds so l (choose_leave l p q r)
+  choose_leave_long so l p q r x y z =
       let up = x.grows in
       let up' = y.grows in
       let up'' = z.grows in
@@ -225,8 +243,14 @@ module _ (objects most : ℕ) where
         grows = omega arith;
         items = λ k le.
             let lt : l < most = omega arith in
-            behind (x.items lt (omega arith)) (behind (y.items tt (omega arith)) (next lt (z.items tt le)));
+            behind (x.items lt (omega arith)) (behind (y.items k (omega arith)) (next lt (z.items k le)));
       }
+
+  choose_deliver_long : (to : Destination) (l : ℕ) (p q r : Emitted) → LongEnds (l < most) (suc (suc l)) p → LongEnds (LongTo objects to) p.labels q
+      → LongEnds (LongTo objects to) q.labels r → LongEnds (LongTo objects to) l (choose_deliver to l p q r)
+  choose_deliver_long (InLocal n) l p q r x y z = choose_drop_long (Unit {0}) l p q r x y z
+  choose_deliver_long AsResult l p q r x y z = choose_leave_long (Unit {0}) l p q r x y z
+  choose_deliver_long (Releasing pointer n) l p q r x y z = choose_leave_long (pointer < objects) l p q r x y z
 
   pub choose_long : (c a b : Lowering) → LongWay c → LongWay a → LongWay b → LongWay (choose c a b)
   choose_long c a b f h g = record {
@@ -235,7 +259,7 @@ module _ (objects most : ℕ) where
     drop = λ t l.
         let p : Emitted = c.branch false l t (suc (suc l)) in
         let q : Emitted = a.drop p.temps p.labels in
-        choose_drop_long l p q (b.drop q.temps q.labels) (f.branch false l t (suc (suc l))) (h.drop p.temps p.labels) (g.drop q.temps q.labels);
+        choose_drop_long (Unit {0}) l p q (b.drop q.temps q.labels) (f.branch false l t (suc (suc l))) (h.drop p.temps p.labels) (g.drop q.temps q.labels);
     deliver = λ to t l.
         let p : Emitted = c.branch false l t (suc (suc l)) in
         let q : Emitted = a.deliver to p.temps p.labels in
@@ -257,7 +281,7 @@ module _ (objects most : ℕ) where
     drop = drop_two_long a b h g;
     deliver = λ to t l.
         let p : Emitted = a.drop t l in
-        then_long (Unit {0}) l p (b.deliver to p.temps p.labels) (h.drop t l) (g.deliver to p.temps p.labels);
+        then_long (LongTo objects to) l p (b.deliver to p.temps p.labels) (h.drop t l) (g.deliver to p.temps p.labels);
   }
 
   module _ (size count : ℕ) where

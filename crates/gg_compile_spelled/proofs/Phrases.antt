@@ -1,5 +1,5 @@
 -- That each expression of a sound program has long numbers and small labels.
-use Rattle.std.proofs.Common.{ℕ, List, [], ◌∷◌, arith}
+use Rattle.std.proofs.Common.{ℕ, List, [], ◌∷◌, arith, ◌≤◌}
 use Rattle.std.specs.Prelude.{Bool, true, false, Option, Some, None}
 use Rattle.c_types.specs.declared.types.CType.{CType}
 use Rattle.c_types.specs.declared.typed.Callee.{Callee}
@@ -25,9 +25,9 @@ use Rattle.gg_compile_spelled.proofs.Places.{LongFound, LongReady, LongPassing, 
 use Rattle.gg_compile_spelled.proofs.Places.{ready_long, update_long, step_ready_long, step_low_long, advance_long, advance_by_long, retreat_long, apart_long, pass_long, passed_long}
 use Rattle.gg_compile_spelled.proofs.Places.{called_low_long, called_drop_long, called_deliver_long}
 
-module _ (objects most params size count : ℕ) (takes : Callee → ℕ → Type 0) where
+module _ (objects most params block size count : ℕ) (small : block ≤ 262144) (takes : Callee → ℕ → Type 0) where
   abbrev There : Variable → Type 0
-  There v = IsThere objects params v
+  There v = IsThere objects params block v
 
   abbrev Way : Lowering → Type 0
   Way e = LongWay objects most e
@@ -76,15 +76,15 @@ module _ (objects most params size count : ℕ) (takes : Callee → ℕ → Type
   mutual
     place_long : (scope : ℕ → Type 0) (p : APlace) → FitsAt scope p → StandsAt There takes objects p → (t l : ℕ)
         → LongFound objects most l (seek size count p t l)
-    place_long scope (VariableAt ty v) f s t l = found_long objects most params ty v s t l
+    place_long scope (VariableAt ty v) f s t l = found_long objects most size params block small ty v s t l
     place_long scope (PointedBy ty e) f s t l = pointed_long objects most ty l _ ((way_long scope e f s).low t l)
-    place_long scope (ElementBy ty e) f s t l = pointed_long objects most ty l _ ((way_long scope e f s).low t l)
+    place_long scope (ElementBy ty e) f s t l = pointed_long objects most ty l _ ((way_long scope e f s.1).low t l)
 
     pub way_long : (scope : ℕ → Type 0) (e : AnExpression) → Fits scope e → Stands There takes objects e → LongWay objects most (way size count e)
     way_long scope (Constant n) f s = valued_long objects most _ (due_long objects most (Num n) f)
     way_long scope (LiteralAt n bytes) f s = valued_long objects most _ (due_long objects most (Gaddr n) s)
     way_long scope (ArrayAt ty v bytes) f s = valued_long objects most _
-        (due_long objects most (address_tree (where_of v)) (long_where objects most params v s))
+        (due_long objects most (address_tree (where_of size v)) (long_where objects most size params block small v s))
     way_long scope (ReadOf p) f s = valued_long objects most _ (λ t l. read_long objects most l _ (place_long scope p f s t l))
     way_long scope (SizeOfExpression n e) f s = valued_long objects most _ (due_long objects most (Num n) f)
     way_long scope (SizeOf n) f s = valued_long objects most _ (due_long objects most (Num n) f)

@@ -14,14 +14,14 @@ use Rattle.c_types.specs.Constants.{scale}
 use Rattle.c_types.proofs.Sizes.{scale_small}
 use Rattle.c_sound.specs.Stands.{IsThere}
 use Rattle.c_lower_scheme.specs.Trees.{Tree, Num, Loc, Bin, Item}
-use Rattle.c_lower_scheme.specs.Parts.{Lowered, Where, InLoc, InArg, InMem, Located, Passing, Assignable, over, Destination, InLocal, AsResult}
+use Rattle.c_lower_scheme.specs.Parts.{Lowered, Where, InLoc, InArg, InMem, Located, Passing, Assignable, over, Destination, InLocal, AsResult, Releasing}
 use Rattle.c_lower_scheme.specs.Saving.{saved, next_if}
-use Rattle.c_lower_scheme.specs.Places.{read_from, assign_to, address_tree, where_of, found, pointed, read_low, address_low, holding, held}
+use Rattle.c_lower_scheme.specs.Places.{read_from, assign_to, address_tree, in_block, where_of, found, pointed, read_low, address_low, holding, held}
 use Rattle.c_lower_scheme.specs.Values.{scaled_by, advance, advance_by, retreat, apart, step}
 use Rattle.c_lower_scheme.specs.Calls.{pushes, called_drop, called_low, passed_as, pass_so, called_deliver}
 use Rattle.c_lower_scheme.specs.Assignments.{ready_so, update_so, store_drop, store_low_at, store_low, must_keep, step_tree, step_ready, step_low}
 use Rattle.gg_compile_spelled.proofs.Trees.{IsLong, IsLongItem, AreLong, none, next, behind}
-use Rattle.gg_compile_spelled.proofs.Parts.{LongLow, LongEnds, long_saving, long_saved, long_fitted, over_long, due_long, delivered_long}
+use Rattle.gg_compile_spelled.proofs.Parts.{LongTo, LongLow, LongEnds, long_saving, long_saved, long_fitted, over_long, due_long, delivered_long}
 
 module _ (objects most : ℕ) where
   abbrev Long : Tree → Type 0
@@ -44,20 +44,30 @@ module _ (objects most : ℕ) where
     pub value : IsLong objects r.value
     pub items : r.labels ≤ most → AreLong objects most r.items
 
+  -- an offset in the block is a longword
+  pub long_block : (size o : ℕ) → o < 2 ^ 32 → Long (in_block size o)
+  long_block size o small = by (o == 0)
+    where
+      by : (b : Bool) → Long (if b then Loc size else Bin ariths.Add (Loc size) (Num o))
+      by true = tt
+      by false = (tt, small)
+
   -- a variable's object is there
-  pub long_where : (params : ℕ) (v : Variable) → IsThere objects params v → LongAt (where_of v)
-  long_where params (variables.Automatic n) h = zero_small
-  long_where params (variables.Parameter n) h = zero_small
-  long_where params (variables.Global n) h = h
-  long_where params (variables.Static n) h = h
+  pub long_where : (size params block : ℕ) → block ≤ 262144 → (v : Variable) → IsThere objects params block v → LongAt (where_of size v)
+  long_where size params block small (variables.Automatic n) h = zero_small
+  long_where size params block small (variables.Parameter n) h = zero_small
+  long_where size params block small (variables.Global n) h = h
+  long_where size params block small (variables.Static n) h = h
+  long_where size params block small (variables.InBlock o) h = long_block size o (omega arith)
 
   long_read : (ty : CType) (s : Where) → LongAt s → Long (read_from ty s)
   long_read ty (InLoc n) h = tt
   long_read ty (InArg n) h = tt
   long_read ty (InMem a) h = h
 
-  pub found_long : (params : ℕ) (ty : CType) (v : Variable) → IsThere objects params v → (t l : ℕ) → LongFound l (found ty (where_of v) t l)
-  found_long params ty v h t l = record { grows = omega arith; place = long_where params v h; items = λ le. none }
+  pub found_long : (size params block : ℕ) → block ≤ 262144 → (ty : CType) (v : Variable) → IsThere objects params block v → (t l : ℕ)
+      → LongFound l (found ty (where_of size v) t l)
+  found_long size params block small ty v h t l = record { grows = omega arith; place = long_where size params block small v h; items = λ le. none }
 
   pub pointed_long : (ty : CType) (l : ℕ) (p : Lowered) → LongLow objects most l p → LongFound l (pointed ty p)
   pointed_long ty l p h = record { grows = h.grows; place = h.tree; items = h.items }
@@ -224,9 +234,12 @@ module _ (objects most : ℕ) where
   pub called_drop_long : (f l : ℕ) (p : Passing) → LongPassing l p → LongEnds objects most (Unit {0}) l (called_drop f p)
   called_drop_long f l p h = record { grows = h.grows; items = λ y le. behind (h.items le) (long_pushes h.trees (next tt none)) }
 
-  pub called_deliver_long : (to : Destination) (f l : ℕ) (p : Passing) → LongPassing l p → LongEnds objects most (Unit {0}) l (called_deliver to f p)
+  pub called_deliver_long : (to : Destination) (f l : ℕ) (p : Passing) → LongPassing l p
+      → LongEnds objects most (LongTo objects to) l (called_deliver to f p)
   called_deliver_long (InLocal n) f l p h = record {
     grows = h.grows;
     items = λ y le. behind (h.items le) (long_pushes h.trees (next tt (next tt none)));
   }
   called_deliver_long AsResult f l p h = delivered_long objects most AsResult l (called_low f p) (called_low_long f l p h)
+  called_deliver_long (Releasing pointer n) f l p h =
+      delivered_long objects most (Releasing pointer n) l (called_low f p) (called_low_long f l p h)

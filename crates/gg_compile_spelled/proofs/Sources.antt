@@ -9,7 +9,7 @@ use Rattle.c_typed_scope.specs.declared.entry.Signature.{Signature}
 use Rattle.c_typed_definition.specs.State.{State}
 use Rattle.c_typed_definition.specs.Signatures.{known}
 use Rattle.c_typed_definition.specs.Headings.{Text, with_declared}
-use Rattle.c_typed_definition.specs.Bodies.{body_of}
+use Rattle.c_typed_definition.specs.Bodies.{routine_of}
 use Rattle.c_typed_definition.specs.Texts.{empty_text}
 use Rattle.c_typed_law.specs.Texts.{IsBody, IsFunction, IsExternalBy, AreExternals, IsText}
 use Rattle.c_typed_words.specs.Words.{IsName, IsToken}
@@ -38,8 +38,8 @@ module _ (names : List (List ℕ × Entry)) (signatures : List Signature) where
   body_named spec f None s u r j k h = subst AreNamed (sym (ap (λ (z : Text). z.bodies) j)) h
   body_named spec f (Some row) s u r j k h =
       let x = j.part in
-      let b : ARoutine = body_of spec f x.1.locals x.1.registers x.0 in
-      let bodies : r.bodies ≡ u.bodies ++ b ∷ [] = ap (λ (z : Text). z.bodies) j.whole in
+      let b : ARoutine = routine_of spec f x.1 x.0 in
+      let bodies : r.bodies ≡ u.bodies ++ b ∷ [] = ap (λ (z : Text). z.bodies) j.whole.typed in
       subst AreNamed (sym bodies) (named_behind u.bodies b h k)
 
   declared_named : (earlier : Option ℕ) (spec : Spec) (f : AFunction) (t : Text) → AreNamed t.bodies
@@ -65,11 +65,13 @@ module _ (names : List (List ℕ × Entry)) (signatures : List Signature) where
   externals_named (e ∷ es) w t r h j =
       externals_named es w.1 j.part r (external_named e.spec e.declared w.0 t j.part h j.typed) j.whole
 
-text_named : (p : AProgram) (text : List AnExternal) → ExternalsOf IsToken text → IsText text p → AreNamed p.routines
+text_named : (p : AProgram) (text : List AnExternal) (ends : List ℕ) (end : ℕ) → ExternalsOf IsToken text → IsText text ends end p → AreNamed p.routines
 unfolding IsText
-text_named p text w j =
-    let named = externals_named (known text).names (known text).signatures text w empty_text j.part tt j.typed in
-    subst AreNamed (sym (ap (λ (x : AProgram). x.routines) j.whole.whole)) named
+text_named p text ends end w j =
+    let named = externals_named (known text).names (known text).signatures text w (empty_text ends) j.part tt j.typed in
+    let k = j.whole.whole in
+    subst AreNamed (sym (ap (λ (x : AProgram). x.routines) k.whole)) named
 
 pub typed_have_names : TypedHaveNames
-typed_have_names p unit tokens typed n g e = named_at p.routines (text_named p unit.externals (tokens_of unit tokens) typed) n g e
+typed_have_names p unit ends tokens typed n g e =
+    named_at p.routines (text_named p unit.externals ends unit.end (tokens_of unit tokens) typed) n g e

@@ -50,5 +50,5 @@ NeedAtMost p most = (n : ℕ) (g : ARoutine) → slice_get p.routines n ≡ Some
 
 -- It has at most as many locals then.
 abbrev pub LocalsAreFew : Type 0
-LocalsAreFew = (p : AProgram) (most : ℕ) → NeedAtMost p most → (n : ℕ) (f : TreeFn)
+LocalsAreFew = (p : AProgram) (most : ℕ) → IsSound p → NeedAtMost p most → (n : ℕ) (f : TreeFn)
     → slice_get (lowered p).functions n ≡ Some f → f.locals ≤ most

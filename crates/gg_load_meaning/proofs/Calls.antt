@@ -1,5 +1,5 @@
 -- A call of a generated source runs as its definition says.
-use Rattle.std.proofs.Common.{◌≡◌, ℕ, List, [], ◌∷◌, length, Some, slice_get, refl, ap, ◌∙◌}
+use Rattle.std.proofs.Common.{◌≡◌, ℕ, List, [], ◌∷◌, length, Some, None, slice_get, refl, ap, ◌∙◌}
 use Rattle.tree_core.specs.declared.program.Link.{Link}
 use Rattle.gg_base.specs.declared.size.Size.TheVariants.{Long}
 use Rattle.gg_base.specs.Arithmetic.{add32}
@@ -31,10 +31,10 @@ program_of label bytes links routines main =
 
 -- while main runs, and while a function that it called does
 abbrev pub main_state : List ℕ → ℕ → List ℕ → State
-main_state a s input = record { call = record { locals = s ∷ []; parameters = [] }; area = a; input = input; active = 1 }
+main_state a s input = record { call = record { locals = s ∷ []; parameters = []; block = None }; area = a; input = input; active = 1 }
 
 abbrev pub function_state : List ℕ → ℕ → ℕ → List ℕ → State
-function_state a x y input = record { call = record { locals = y ∷ []; parameters = x ∷ [] }; area = a; input = input; active = 2 }
+function_state a x y input = record { call = record { locals = y ∷ []; parameters = x ∷ []; block = None }; area = a; input = input; active = 2 }
 
 -- the law of tasks, which c_meaning states
 abbrev pub Meant : AProgram → Type 0

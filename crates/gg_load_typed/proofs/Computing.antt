@@ -11,13 +11,16 @@ use Rattle.c_typed_scope.specs.Layout.{aligned, placed}
 use Rattle.c_typed_scope.specs.Contents.{length_of, filled}
 use Rattle.c_typed_expressions.specs.Phrases.{first}
 use Rattle.c_typed_expressions.specs.Expressions.{integer_of, written, named, callee}
+use Rattle.c_typed_addressed.specs.Expressions.{name_of}
+use Rattle.c_typed_addressed.specs.Statements.{addressed}
 use Rattle.c_typed_definition.specs.Initialisers.{type_length}
 use Rattle.c_typed_definition.specs.Forms.{form_of, automatic_form, many}
 use Rattle.c_typed_definition.specs.State.{laid}
 use Rattle.c_typed_definition.specs.Declarations.{object_with, counted_array, array_object, type_object}
-use Rattle.c_typed_definition.specs.Automatics.{type_automatic}
+use Rattle.c_typed_definition.specs.Automatics.{type_automatic, automatic_variable}
 use Rattle.c_typed_definition.specs.Statements.{type_full, type_condition}
 use Rattle.c_typed_definition.specs.Headings.{agrees}
+use Rattle.c_typed_definition.specs.Bodies.{fits_stack}
 use Rattle.c_typed_definition.specs.Texts.{type_parameter, type_introduced}
 
 -- types, and operators on typed operands
@@ -37,8 +40,13 @@ expressions_compute = tt
 
 -- parameters, locals and bodies
 unfoldable pub functions_compute : Unit {0}
-unfolding expressions_compute automatic_form type_automatic agrees type_parameter type_introduced
+unfolding expressions_compute automatic_form type_automatic automatic_variable agrees type_parameter type_introduced aligned fits_stack
 functions_compute = tt
+
+-- the variables to which `&` is applied
+unfoldable pub marks_compute : Unit {0}
+unfolding addressed name_of lookup is_taken with_name enter leave
+marks_compute = tt
 
 -- objects
 unfoldable pub objects_compute : Unit {0}

@@ -1,6 +1,5 @@
 -- Items that follow from what was found.
-use Rattle.std.proofs.Common.{◌≡◌, ℕ, List, [], ◌∷◌, ◌++◌, Some, true, sym, subst}
-use Rattle.tree_core.specs.declared.token.Tok.{Tok}
+use Rattle.std.proofs.Common.{◌≡◌, ℕ, List, [], ◌∷◌, ◌++◌, Some, true}
 use Rattle.tree_core.specs.declared.token.Sort.{Sort}
 use Rattle.tree_core.specs.Grammar.{kids}
 use Rattle.md_reader.specs.declared.types.Sym.{Sym}
@@ -12,7 +11,7 @@ use Rattle.lr_check_found.specs.declared.places.Origin.TheVariants as origin
 use Rattle.lr_check_found.specs.declared.settlings.How.TheVariants as how
 use Rattle.lr_check_found.specs.declared.settlings.Settling.{Settling}
 use Rattle.lr_check_found.specs.Found.{FoundView, IsPlaceAt, IsSettlingAt, SumAt}
-use Rattle.lr_check_found.specs.Items.{HasOne, HasTwo, Fits, Begun, Made, HasMade}
+use Rattle.lr_check_found.specs.Items.{Fits, Begun, Made, HasMade}
 use Rattle.lr_check_found.specs.Sound.{IsFound}
 
 pub sum_found : (A : Automaton) (f : FoundView) (i p : ℕ) (e : Settling) (x : Place) → IsFound A f → IsSettlingAt f i e → IsPlaceAt f e.place x → e.behind ≡ Some p → e.is_sum ≡ true

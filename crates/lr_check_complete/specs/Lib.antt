@@ -4,3 +4,4 @@ pub mod Kids
 pub mod Firsts
 pub mod Seconds
 pub mod Sheets
+pub mod Pairs

@@ -1,9 +1,11 @@
 -- What was found, as sets of tokens by state and token.
-use Rattle.std.specs.Prelude.{◌≡◌, ℕ, ◌+◌, ◌*◌, List, Option, Some, Contains, true, slice_get}
+use Rattle.std.specs.Prelude.{◌≡◌, ℕ, ◌+◌, ◌*◌, List, Some, Contains, true, slice_get}
 use Rattle.std.specs.Int.{bit_at}
 use Rattle.tree_core.specs.declared.token.Tok.{Tok}
+use Rattle.tree_core.specs.declared.token.Sort.{Sort}
 use Rattle.md_reader.specs.declared.types.Sym.{Sym}
 use Rattle.lr_tables.specs.Symbols.{number}
+use Rattle.lr_check_sets.specs.Trees.{May}
 use Rattle.lr_check_found.specs.declared.places.Place.{Place}
 use Rattle.lr_check_found.specs.declared.settlings.Settling.{Settling}
 use Rattle.lr_check_found.specs.Lists.{IsList, IsBehindToken}
@@ -36,15 +38,16 @@ HasPlaces f r = (b : Tok) → In r.places b → HasPlace f r.state r.token b
 abbrev pub HasLine : FoundView → Row → Line → Type 0
 HasLine f r l = (b : Tok) (s : List Sym) → In l.settled b → IsList f.lists l.list s → HasSettling f r.state r.token b s
 
--- the line is of the list, with the token behind among its sums
-pub record IsSumLine (list : ℕ) (b : Tok) (l : Line) : Type 0 where
-  pub same : l.list ≡ list
+-- the line is of the settling's list, with the token behind among its sums
+pub record IsSumLine (e : Settling) (b : Tok) (l : Line) : Type 0 where
+  pub same : l.list ≡ e.list
+  pub state : l.behind ≡ e.behind
   pub behind : In l.sums b
 
 -- the sheet shows the settling, if it is a sum
 pub record IsShown (s : Sheet) (f : FoundView) (e : Settling) : Type 0 where
   pub each : (x : Place) → IsPlaceAt f e.place x → e.is_sum ≡ true → (r : Row) × (IsRowAt s x.state x.token r
-      × ((l : Line) × (Contains r.lines.items l × IsSumLine e.list x.behind l)))
+      × ((l : Line) × (Contains r.lines.items l × IsSumLine e x.behind l)))
 
 -- what the sheet has is found, and all sums are in it
 pub record IsSheet (s : Sheet) (f : FoundView) : Type 0 where
@@ -69,6 +72,18 @@ pub record IsJoinedAt (f : FoundView) (r : Row) (lower : ℕ) (l : Line) (b : To
 -- the same wherever it is a sum and the row has a place
 abbrev pub IsJoinedLine : FoundView → Row → ℕ → Line → Type 0
 IsJoinedLine f r lower l = (b : Tok) → In l.sums b → In r.places b → IsJoinedAt f r lower l b
+
+-- the kid that begins with the token in the state has all of the row's places, and its sums settle behind the list below and the
+-- row's token
+pub record HasKid (s : Sheet) (f : FoundView) (r : Row) (p : ℕ) (t : Tok) (lower : ℕ) : Type 0 where
+  pub kid : Row
+  pub is : IsRow s p t kid
+  pub within : (b : Tok) → In r.places b → In kid.places b
+  pub joined : (l : Line) → Contains kid.lines.items l → IsJoinedLine f r lower l
+
+-- the same, if the token may begin a tree of the sort
+pub record HasKidIf (s : Sheet) (f : FoundView) (r : Row) (p : ℕ) (w : Sort) (t : Tok) (lower : ℕ) : Type 0 where
+  pub kid : May t w → HasKid s f r p t lower
 
 -- the place is one of the row's
 pub record StandsIn (r : Row) (x : Place) : Type 0 where

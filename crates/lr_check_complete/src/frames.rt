@@ -20,11 +20,15 @@ use tree_core::{Sort, Tok, tokens};
 impl<'a> Look<'a> {
     // A token without kids settles at each of the places.
     fn leaves(&self, numbers: &[usize], token: Tok, into: &mut Vec<Item>) -> Result<(), NoMemory>
-        requires { WasFound self.now }
+        requires found { WasFound self.now }
+        requires sheet { IsShownRight self.now }
         ensures { (q p : ℕ) → IsFrame (automaton self.now) self.now.found.now q token p numbers.now → kids token ≡ [] →
             OnOk result (Looks self.now into.old.items into.new.items
             ((n : ℕ) → Contains numbers.now n → Settles self.now.found.now n (grammar_symbol.Tok token ∷ []))) }
     {
+        if self.are_leaves_shown(numbers, token) {
+            return Ok(());
+        }
         for number in numbers {
             self.settle(*number, How::Leaf, token, 0, 0, into)?;
         }
@@ -57,11 +61,15 @@ impl<'a> Look<'a> {
         wanted: Sort,
         into: &mut Vec<Item>,
     ) -> Result<(), NoMemory>
-        requires { WasFound self.now }
+        requires found { WasFound self.now }
+        requires sheet { IsShownRight self.now }
         ensures { (q : ℕ) (k : Tok) → IsFrame (automaton self.now) self.now.found.now q k over numbers.now → kids k ≡ wanted ∷ [] →
             OnOk result (Looks self.now into.old.items into.new.items
             (AtPlaces self.now.found.now numbers.now (λ n x. OnlyIn self.now.found.now n x over wanted))) }
     {
+        if self.are_onlys_shown(numbers, over, wanted) {
+            return Ok(());
+        }
         for number in numbers {
             self.only_of(*number, over, wanted, into)?;
         }

@@ -10,6 +10,7 @@ mod lacking;
 mod look;
 mod looking;
 mod masks;
+mod pairs;
 mod reductions;
 mod rounds;
 mod sheet;

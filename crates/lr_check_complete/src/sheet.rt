@@ -19,10 +19,11 @@ use lr_tables::{State, Tables, number};
 use std::alloc::Global;
 use tree_core::{Tok, tokens};
 
-/// A list by its number, and the tokens behind with which it settles, and with which it is a sum.
+/// A list by its number, the state behind it, and the tokens behind with which it settles, and with which it is a sum.
 #[derive(Clone, Copy, Debug)]
 pub struct Line {
     pub list: usize,
+    pub behind: Option<State>,
     pub settled: u64,
     pub sums: u64,
 }
@@ -54,6 +55,7 @@ fn add_line(row: &mut Row, settling: &Settling, behind: Tok) -> Result<(), NoMem
         None => {
             row.lines.push(Line {
                 list: settling.list,
+                behind: settling.behind,
                 settled: 0,
                 sums: 0,
             })?;
@@ -206,20 +208,39 @@ fn all_lines(tables: &Tables, found: &Found, rows: &[Row]) -> bool
     rows.iter().all(|row| has_lines(tables, found, row))
 }
 
-// Whether the line is of the list, and has the token behind among its sums.
-fn is_sum_line(line: &Line, list: usize, behind: Tok) -> bool
-    ensures { IsTrue result → IsSumLine list behind line.now }
+/// Whether it is the same state.
+pub fn is_state(one: Option<State>, other: Option<State>) -> bool
+    ensures { IsTrue result → one ≡ other }
 {
-    if line.list != list {
+    match one {
+        Some(one) => match other {
+            Some(other) => one.number() == other.number(),
+            None => false,
+        },
+        None => match other {
+            Some(_) => false,
+            None => true,
+        },
+    }
+}
+
+// Whether the line is of the settling's list, and has the token behind among its sums.
+fn is_sum_line(line: &Line, settling: &Settling, behind: Tok) -> bool
+    ensures { IsTrue result → IsSumLine settling.now behind line.now }
+{
+    if line.list != settling.list {
+        return false;
+    }
+    if !is_state(line.behind, settling.behind) {
         return false;
     }
     has(line.sums, behind)
 }
 
-fn has_sum_line(lines: &[Line], list: usize, behind: Tok) -> bool
-    ensures { IsTrue result → (l : Line) × (Contains lines.now l × IsSumLine list behind l) }
+fn has_sum_line(lines: &[Line], settling: &Settling, behind: Tok) -> bool
+    ensures { IsTrue result → (l : Line) × (Contains lines.now l × IsSumLine settling.now behind l) }
 {
-    lines.iter().any(|line| is_sum_line(line, list, behind))
+    lines.iter().any(|line| is_sum_line(line, settling, behind))
 }
 
 impl Sheet {
@@ -253,7 +274,7 @@ impl Sheet {
             None => return true,
         };
         match self.row(place.state, place.token) {
-            Some(row) => has_sum_line(&row.lines, settling.list, place.behind),
+            Some(row) => has_sum_line(&row.lines, settling, place.behind),
             None => false,
         }
     }

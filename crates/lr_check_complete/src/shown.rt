@@ -1,19 +1,21 @@
 // What the sheet shows to be found.
-ghost use Rattle.std.specs.Prelude.{◌≡◌, ℕ, Some, IsTrue, Contains};
+ghost use Rattle.std.specs.Prelude.{◌≡◌, ℕ, Some, [], ◌∷◌, IsTrue, Contains};
 ghost use Rattle.tree_core.specs.declared.token.Tok.{Tok};
+ghost use Rattle.md_reader.specs.declared.types.Sym.TheVariants as grammar_symbol;
 ghost use Rattle.lr_check_found.specs.Adding.{list_number};
 ghost use Rattle.lr_check_found.specs.declared.settlings.Settling.{Settling};
-ghost use Rattle.lr_check_found.specs.Found.{IsSettlingAt};
+ghost use Rattle.lr_check_found.specs.Found.{IsSettlingAt, Settles};
 ghost use Rattle.lr_check_complete.specs.declared.sheet.Line.{Line};
 ghost use Rattle.lr_check_complete.specs.Looks.{WasFound, IsShownRight};
-ghost use Rattle.lr_check_complete.specs.Kids.{SecondAt, AtPlaces};
-ghost use Rattle.lr_check_complete.specs.Sheets.{In, IsSheet, IsAllLine, IsJoinedLine, StandsAt};
+ghost use Rattle.lr_check_complete.specs.Kids.{OnlyIn, SecondAt, AtPlaces};
+ghost use Rattle.lr_check_complete.specs.Sheets.{In, IsSheet, IsAllLine, IsJoinedLine, HasKid, HasKidIf, StandsAt};
 
 use crate::look::Look;
 use crate::masks::{both, has, is_within};
 use crate::sheet::{Line, Row, Sheet};
+use lr_check_found::may;
 use lr_tables::{State, number};
-use tree_core::Tok;
+use tree_core::{Sort, Tok, tokens};
 
 fn is_all_line(line: &Line, list: usize, behind: u64) -> bool
     ensures { IsTrue result → IsAllLine list behind line.now }
@@ -71,7 +73,8 @@ impl<'a> Look<'a> {
         has(row.places, place.behind)
     }
 
-    fn all_stand(&self, numbers: &[usize], row: &Row) -> bool
+    /// Whether each of the places is one of the row's.
+    pub fn all_stand(&self, numbers: &[usize], row: &Row) -> bool
         ensures { IsTrue result → (n : ℕ) → Contains numbers.now n → StandsAt self.now.found.now row.now n }
     {
         numbers.iter().all(|at| self.stands(*at, row))
@@ -135,6 +138,131 @@ impl<'a> Look<'a> {
     {
         match self.sheet {
             Some(sheet) => self.has_seconds(sheet, numbers, first, behind, token),
+            None => false,
+        }
+    }
+
+    // Whether the kid has all of the row's places, and its lines settle behind the list below.
+    fn has_kid_at(&self, row: &Row, kid: &Row, lower: usize) -> bool
+        requires { WasFound self.now }
+        ensures within { IsTrue result → (b : Tok) → In row.now.places b → In kid.now.places b }
+        ensures joined { IsTrue result → (l : Line) → Contains kid.now.lines.items l → IsJoinedLine self.now.found.now row.now lower l }
+    {
+        if !is_within(row.places, kid.places) {
+            return false;
+        }
+        self.all_joined(row, lower, &kid.lines)
+    }
+
+    /// The same of the kid that begins with the token in the state.
+    pub fn has_kid(&self, sheet: &Sheet, row: &Row, over: State, token: Tok, lower: usize) -> bool
+        requires { WasFound self.now }
+        ensures { IsTrue result → HasKid sheet.now self.now.found.now row.now over token lower }
+    {
+        match sheet.row(over, token) {
+            Some(kid) => self.has_kid_at(row, kid, lower),
+            None => false,
+        }
+    }
+
+    // The same of the only kid, if it may begin with the token.
+    fn has_only_from(&self, sheet: &Sheet, row: &Row, over: State, wanted: Sort, token: Tok) -> bool
+        requires { WasFound self.now }
+        ensures { IsTrue result → HasKidIf sheet.now self.now.found.now row.now over wanted token 0 }
+    {
+        if !may(token, wanted) {
+            return true;
+        }
+        self.has_kid(sheet, row, over, token, 0)
+    }
+
+    fn has_onlys_from(
+        &self,
+        sheet: &Sheet,
+        row: &Row,
+        over: State,
+        wanted: Sort,
+        kids: &[Tok],
+    ) -> bool
+        requires { WasFound self.now }
+        ensures { IsTrue result → (t : Tok) → Contains kids.now t → HasKidIf sheet.now self.now.found.now row.now over wanted t 0 }
+    {
+        kids.iter().all(|token| self.has_only_from(sheet, row, over, wanted, *token))
+    }
+
+    // Whether all that follows from the only kid of the places is there, as far as the sheet shows.
+    fn has_onlys(&self, sheet: &Sheet, numbers: &[usize], over: State, wanted: Sort) -> bool
+        requires found { WasFound self.now }
+        requires sheet { IsSheet sheet.now self.now.found.now }
+        ensures { IsTrue result → AtPlaces self.now.found.now numbers.now (λ n x. OnlyIn self.now.found.now n x over wanted) }
+    {
+        let number = match numbers.first() {
+            Some(number) => *number,
+            None => return false,
+        };
+        let place = match self.found.places().get(number) {
+            Some(place) => *place,
+            None => return false,
+        };
+        let row = match sheet.row(place.state, place.token) {
+            Some(row) => row,
+            None => return false,
+        };
+        if !self.all_stand(numbers, row) {
+            return false;
+        }
+        self.has_onlys_from(sheet, row, over, wanted, tokens())
+    }
+
+    /// The same, by the sheet that there may be.
+    pub fn are_onlys_shown(&self, numbers: &[usize], over: State, wanted: Sort) -> bool
+        requires found { WasFound self.now }
+        requires sheet { IsShownRight self.now }
+        ensures { IsTrue result → AtPlaces self.now.found.now numbers.now (λ n x. OnlyIn self.now.found.now n x over wanted) }
+    {
+        match self.sheet {
+            Some(sheet) => self.has_onlys(sheet, numbers, over, wanted),
+            None => false,
+        }
+    }
+
+    // Whether the token settles at each of the places, as far as the sheet shows.
+    fn has_leaves(&self, sheet: &Sheet, numbers: &[usize], token: Tok) -> bool
+        requires found { WasFound self.now }
+        requires sheet { IsSheet sheet.now self.now.found.now }
+        ensures { IsTrue result → AtPlaces self.now.found.now numbers.now
+            (λ n x. Settles self.now.found.now n (grammar_symbol.Tok token ∷ [])) }
+    {
+        let number = match numbers.first() {
+            Some(number) => *number,
+            None => return false,
+        };
+        let place = match self.found.places().get(number) {
+            Some(place) => *place,
+            None => return false,
+        };
+        let row = match sheet.row(place.state, token) {
+            Some(row) => row,
+            None => return false,
+        };
+        if !self.all_stand(numbers, row) {
+            return false;
+        }
+        match self.found.lists().find_behind(token, 0, 0) {
+            Some(list) => has_all_line(&row.lines, list, row.places),
+            None => false,
+        }
+    }
+
+    /// The same, by the sheet that there may be.
+    pub fn are_leaves_shown(&self, numbers: &[usize], token: Tok) -> bool
+        requires found { WasFound self.now }
+        requires sheet { IsShownRight self.now }
+        ensures { IsTrue result → AtPlaces self.now.found.now numbers.now
+            (λ n x. Settles self.now.found.now n (grammar_symbol.Tok token ∷ [])) }
+    {
+        match self.sheet {
+            Some(sheet) => self.has_leaves(sheet, numbers, token),
             None => false,
         }
     }

@@ -256,6 +256,9 @@ impl<'a> Look<'a> {
             OnOk result (Looks self.now into.old.items into.new.items
             (AtPlaces self.now.found.now numbers.now (λ n x. BothIn (automaton self.now) self.now.found.now n x over wanted second))) }
     {
+        if self.are_both_shown(alloc, numbers, over, wanted, second)? {
+            return Ok(());
+        }
         for token in tokens() {
             self.pair_from(alloc, numbers, over, wanted, second, *token, into)?;
         }

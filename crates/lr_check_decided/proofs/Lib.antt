@@ -8,3 +8,4 @@ pub mod Settled
 pub mod Circling
 pub mod Firsts
 pub mod Standing
+pub mod Holding

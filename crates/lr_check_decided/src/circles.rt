@@ -1,5 +1,5 @@
 // Reductions of whole lists that lead back to a list.
-ghost use Rattle.std.specs.Prelude.{◌≡◌, ℕ, ◌≤◌, IfOk, IfSome, IfNone, List, length};
+ghost use Rattle.std.specs.Prelude.{◌≡◌, ℕ, ◌≤◌, OnOk, IfOk, IfSome, IfNone, List, length};
 ghost use Rattle.md_reader.specs.declared.types.Sym.{Sym};
 ghost use Rattle.lr_check_sets.specs.Bound.{HasClasses};
 ghost use Rattle.lr_check_sets.specs.Faults.{Calms};
@@ -10,10 +10,12 @@ ghost use Rattle.lr_check_found.specs.Lists.{IsList};
 ghost use Rattle.lr_check_found.specs.Found.{IsPlaceAt, IsSettlingAt};
 ghost use Rattle.lr_check_flaws.specs.Flaws.{IsFlaw};
 ghost use Rattle.lr_check_complete.specs.Sets.{IsComplete};
+ghost use Rattle.lr_check_decided.specs.Held.{AreRight};
 ghost use Rattle.lr_check_decided.specs.Turn.{IsRestless};
 
 use crate::alone::alone_at;
 use crate::calm::{calm_classes, first_unmarked};
+use crate::held::CalmHeld;
 use crate::turning::turn_from;
 use gg_base::NoMemory;
 use lr_check_flaws::Flaw;
@@ -35,7 +37,9 @@ fn restless_of(
     found: &Found,
     settling: &Settling,
     place: &Place,
+    held: &mut CalmHeld,
 ) -> Result<Option<Restless>, NoMemory>
+    requires right { AreRight (automaton_of tables.now) held.old }
     requires complete { IsComplete (automaton_of tables.now) found.now }
     requires at { (i : ℕ) × IsSettlingAt found.now i settling.now }
     requires place { IsPlaceAt found.now settling.now.place place.now }
@@ -45,6 +49,7 @@ fn restless_of(
         × (length r.marks.items ≡ length tables.now.content.classes))) }
     ensures none { IfOk result (λ o. IfNone o ((s : List Sym) → IsList found.now.lists settling.now.list s
         → Calms (automaton_of tables.now) place.now.state place.now.behind s)) }
+    ensures right { OnOk result (AreRight (automaton_of tables.now) held.new) }
 {
     let state = match settling.behind {
         Some(state) => state,
@@ -56,10 +61,16 @@ fn restless_of(
     if first_unmarked(rules, free, size, &[]).is_none() {
         return Ok(None);
     }
+    if held.are_calm(rules, free, size, place.state, place.behind) {
+        return Ok(None);
+    }
     let marks = calm_classes(alloc, tables, place.state, place.behind)?;
     match first_unmarked(rules, free, size, &marks) {
         Some(class) => Ok(Some(Restless { class, marks })),
-        None => Ok(None),
+        None => {
+            held.hold(place.state, place.behind, marks)?;
+            Ok(None)
+        }
     }
 }
 
@@ -97,13 +108,16 @@ fn circle_at(
     tables: &Tables,
     found: &Found,
     number: usize,
+    held: &mut CalmHeld,
 ) -> Result<Option<Flaw>, NoMemory>
+    requires right { AreRight (automaton_of tables.now) held.old }
     requires complete { IsComplete (automaton_of tables.now) found.now }
     requires classes { HasClasses (productions tables.now.content.rules) (length tables.now.content.classes) }
     requires few { length tables.now.content.classes ≤ 64 }
     ensures some { IfOk result (λ o. IfSome o (λ w. IsFlaw (automaton_of tables.now) found.now w)) }
     ensures none { IfOk result (λ o. IfNone o ((e : Settling) (x : Place) (s : List Sym) → IsSettlingAt found.now number e
         → IsPlaceAt found.now e.place x → IsList found.now.lists e.list s → Calms (automaton_of tables.now) x.state x.behind s)) }
+    ensures right { OnOk result (AreRight (automaton_of tables.now) held.new) }
 {
     let settling = match found.settlings().get(number) {
         Some(settling) => settling,
@@ -113,7 +127,7 @@ fn circle_at(
         Some(place) => place,
         None => return Ok(None),
     };
-    match restless_of(alloc, tables, found, settling, place)? {
+    match restless_of(alloc, tables, found, settling, place, held)? {
         Some(restless) => {
             let flaw = circle_of(alloc, tables, found, settling.place, place, &restless)?;
             Ok(Some(flaw))
@@ -131,8 +145,9 @@ pub fn find_circle(alloc: Global, tables: &Tables, found: &Found) -> Result<Opti
     ensures none { IfOk result (λ o. IfNone o ((i : ℕ) (e : Settling) (x : Place) (s : List Sym) → IsSettlingAt found.now i e
         → IsPlaceAt found.now e.place x → IsList found.now.lists e.list s → Calms (automaton_of tables.now) x.state x.behind s)) }
 {
+    let mut held = CalmHeld::new(alloc);
     for number in 0..found.settlings().len() {
-        if let Some(flaw) = circle_at(alloc, tables, found, number)? {
+        if let Some(flaw) = circle_at(alloc, tables, found, number, &mut held)? {
             return Ok(Some(flaw));
         }
     }

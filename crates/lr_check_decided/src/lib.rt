@@ -7,6 +7,7 @@ mod calm;
 mod circles;
 mod deciding;
 mod gaps;
+mod held;
 mod turning;
 
 pub use circles::find_circle;

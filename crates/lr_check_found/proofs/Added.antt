@@ -1,22 +1,18 @@
 -- A settling that follows is added.
-use Rattle.std.proofs.Common.{◌≡◌, ℕ, ◌≤◌, ◌<◌, List, [], Option, Some, None, Contains, true, length, map, slice_get, refl, sym, ap, ◌∙◌, subst, arith}
-use Rattle.std.specs.Prelude.{Result, Ok, Err, OnOk}
-use Rattle.std.specs.Option.{option_map}
-use Rattle.std.proofs.lemmas.Option.{slice_get-map, slice_get_within, same_Some, none-some}
+use Rattle.std.proofs.Common.{◌≡◌, ℕ, ◌≤◌, ◌<◌, List, [], Option, Some, Contains, true, length, slice_get, refl, sym, ap, ◌∙◌, subst, arith}
+use Rattle.std.specs.Prelude.{Result, Ok, Err, OnOk, slice_index_or}
+use Rattle.std.proofs.lemmas.Option.{slice_get_within, same_Some}
 use Rattle.md_reader.specs.declared.types.Sym.{Sym}
 use Rattle.lr_check_sets.specs.Automaton.{Automaton, Candidate, walk, Free}
-use Rattle.lr_check_sets.proofs.Rows.{at_contains}
 use Rattle.lr_check_found.specs.declared.places.Place.{Place}
 use Rattle.lr_check_found.specs.declared.places.Origin.{Origin}
 use Rattle.lr_check_found.specs.declared.settlings.How.{How}
-use Rattle.lr_check_found.specs.declared.settlings.Key.{Key}
 use Rattle.lr_check_found.specs.declared.settlings.Settling.{Settling}
 use Rattle.lr_check_found.specs.Lists.{IsList}
-use Rattle.lr_check_found.specs.Found.{FoundView, key_of, IsPlaceAt, IsSettlingAt, SumAt, Settles, Grows}
+use Rattle.lr_check_found.specs.Found.{FoundView, IsPlaceAt, IsSettlingAt, SumAt, Settles, Grows}
 use Rattle.lr_check_found.specs.Items.{Begun, Made, leaf, one, two, made_by_reduction, IsBehind, HasMade}
 use Rattle.lr_check_found.specs.Sound.{IsFound}
 use Rattle.lr_check_found.specs.Adding.{IsAdded, IsRelisted, settled, list_of, list_number, number_in, upper_of, lower_of, IsWider, HasWayOut}
-use Rattle.lr_check_found.proofs.Reading.{contains_at}
 use Rattle.lr_check_found.proofs.Growing.{grows_same, grows_both, made_grows}
 use Rattle.lr_check_found.proofs.Deriving.{walks_of_made}
 use Rattle.lr_check_found.proofs.Placing.{placed_found, placed_grows}
@@ -43,27 +39,6 @@ parts_of A f n x _ _ found (two {i = i} {k = k} {j = j} {h = c} {y = y} {z = z} 
 parts_of A f n x _ _ found (made_by_reduction e r there same list behind free size) =
     record { upper = []; lower = []; at_upper = found.lists.first; at_lower = found.lists.first; whole = refl }
 
--- a key that is held is a settling's
-pub key_held : (A : Automaton) (f : FoundView) (k : Key) → IsFound A f → Contains f.known k → (i : ℕ) × ((d : Settling) × (IsSettlingAt f i d × (key_of d ≡ k)))
-key_held A f k found c =
-    let h : (i : ℕ) × (slice_get (map key_of f.settlings) i ≡ Some k) = contains_at (map key_of f.settlings) k (subst (λ l. Contains l k) found.known c) in
-    by h.0 (slice_get f.settlings h.0) refl (sym (slice_get-map key_of f.settlings h.0) ∙ h.1)
-  where
-    by : (i : ℕ) (o : Option Settling) → slice_get f.settlings i ≡ o → option_map key_of (slice_get f.settlings i) ≡ Some k → (i : ℕ) × ((d : Settling) × (IsSettlingAt f i d × (key_of d ≡ k)))
-    by i None e g = absurd (none-some k (sym (ap (option_map key_of) e) ∙ g))
-    by i (Some d) e g = (i, (d, (e, same_Some (key_of d) k (sym (ap (option_map key_of) e) ∙ g))))
-
-pub held_key : (A : Automaton) (f : FoundView) (i : ℕ) (d : Settling) → IsFound A f → IsSettlingAt f i d → Contains f.known (key_of d)
-held_key A f i d found at =
-    subst (λ l. Contains l (key_of d)) (sym found.known)
-    (at_contains (map key_of f.settlings) i (key_of d) (slice_get-map key_of f.settlings i ∙ ap (option_map key_of) at))
-
--- where no settling has the key, it isn't held
-pub not_held : (A : Automaton) (f : FoundView) (e : Settling) → IsFound A f → ((i : ℕ) (d : Settling) → IsSettlingAt f i d → d.place ≡ e.place → d.list ≡ e.list → ⊥) → Contains f.known (key_of e) → ⊥
-not_held A f e found absent c =
-    let h = key_held A f (key_of e) found c in
-    absent h.0 h.1.0 h.1.1.0 (ap (λ (k : Key). k.place) h.1.1.1) (ap (λ (k : Key). k.list) h.1.1.1)
-
 pub record IsAddedTo (A : Automaton) (f g : FoundView) : Type 0 where
   pub found : IsFound A g
   pub grows : Grows f g
@@ -80,29 +55,24 @@ added A f f1 g e x s found relisted place made list behind way ways absent is =
     let walks : e.behind ≡ walk A x.state s = walks_of_made A f1 e.place x e.how s e.behind found1 place1 made1 behind in
     let many = found1.many in
     let within : e.place < length f1.sums = let lt = slice_get_within f1.places e.place x place1 in omega (arith, lt, many) in
-    let more : IsMore f1 (settled f1 e) e = more_settled f1 e within in
+    let many' = found1.many_listed in
+    let within' : e.place < length f1.listed = let lt = slice_get_within f1.places e.place x place1 in omega (arith, lt, many') in
+    let more : IsMore f1 (settled f1 e) e = more_settled f1 e within within' in
     record {
       found = subst (IsFound A) (sym is) (more_found A f1 (settled f1 e) e x s found1 more place1 list made1 walks way ways absent);
       grows = grows_both f f1 g more1 (subst (Grows f1) (sym is) (more_grows A f1 (settled f1 e) e x s found1 more place1 list made1 walks way ways absent));
     }
 
--- ---- keys
+-- ---- the lists of a place
 
-pub settles_there : (A : Automaton) (f : FoundView) (n l : ℕ) → IsFound A f → Contains f.known (record { place = n; list = l }) → (s : List Sym) → IsList f.lists l s → Settles f n s
+pub settles_there : (A : Automaton) (f : FoundView) (n l : ℕ) → IsFound A f → Contains (slice_index_or f.listed n []) l → (s : List Sym) → IsList f.lists l s → Settles f n s
 settles_there A f n l found c s at =
-    let h = key_held A f (record { place = n; list = l }) found c in
-    let d : Settling = h.1.0 in
-    record {
-      number = h.0;
-      entry = d;
-      there = h.1.1.0;
-      place = ap (λ (k : Key). k.place) h.1.1.1;
-      list = subst (λ k. IsList f.lists k s) (sym (ap (λ (k : Key). k.list) h.1.1.1)) at;
-    }
+    let h = found.listed n l c in
+    record { number = h.number; entry = h.entry; there = h.there; place = h.place; list = subst (λ k. IsList f.lists k s) (sym h.list) at }
 
-pub held_at : (A : Automaton) (f : FoundView) (n l i : ℕ) (e : Settling) → IsFound A f → IsSettlingAt f i e → e.place ≡ n → e.list ≡ l → Contains f.known (record { place = n; list = l })
+pub held_at : (A : Automaton) (f : FoundView) (n l i : ℕ) (e : Settling) → IsFound A f → IsSettlingAt f i e → e.place ≡ n → e.list ≡ l → Contains (slice_index_or f.listed n []) l
 held_at A f n l i e found at p q =
-    subst (λ k. Contains f.known (record { place = n; list = k })) q (subst (λ k. Contains f.known (record { place = k; list = e.list })) p (held_key A f i e found at))
+    subst (λ k. Contains (slice_index_or f.listed n []) k) q (subst (λ k. Contains (slice_index_or f.listed k []) e.list) p (found.all_listed i e at))
 
 -- ---- the list that is added
 

@@ -1,5 +1,5 @@
 -- One place more.
-use Rattle.std.proofs.Common.{◌≡◌, ◌⊎◌, ℕ, zero, suc, ◌+◌, ◌-◌, ◌≤◌, ◌<◌, List, [], ◌∷◌, ◌++◌, Some, None, Contains, length, get_or, map, slice_get, refl, sym, ap, ◌∙◌, subst, inl}
+use Rattle.std.proofs.Common.{◌≡◌, ◌⊎◌, ℕ, zero, suc, ◌+◌, ◌-◌, ◌≤◌, ◌<◌, List, [], ◌∷◌, ◌++◌, Some, None, Contains, length, get_or, slice_get, refl, sym, ap, ◌∙◌, subst, inl}
 use Rattle.std.proofs.Common.{inr, ⊎_elim, arith, length-append}
 use Rattle.std.specs.Prelude.{slice_index_or, count_by}
 use Rattle.std.proofs.lemmas.Bool.{cases_lt}
@@ -11,7 +11,7 @@ use Rattle.lr_check_found.specs.declared.places.Place.{Place}
 use Rattle.lr_check_found.specs.declared.places.Origin.{Origin}
 use Rattle.lr_check_found.specs.declared.settlings.Settling.{Settling}
 use Rattle.lr_check_found.specs.Lists.{ListsView, AreLists}
-use Rattle.lr_check_found.specs.Found.{FoundView, slot, key_of, IsPlaceAt, IsSettlingAt, Grows}
+use Rattle.lr_check_found.specs.Found.{FoundView, slot, IsPlaceAt, IsSettlingAt, Grows}
 use Rattle.lr_check_found.specs.Items.{Begun, root, only, first, second, IsEarlier}
 use Rattle.lr_check_found.specs.Sound.{IsSoundPlace, IsSoundSettling, IsFound}
 use Rattle.lr_check_found.specs.Adding.{IsPlaced}
@@ -23,6 +23,30 @@ use Rattle.lr_check_found.proofs.Deriving.{place_of_begun}
 at_none : (k : ℕ) → get_or {A = List ℕ} ([] ∷ []) k [] ≡ []
 at_none zero = refl
 at_none (suc k) = refl
+
+-- of the new place nothing is held
+module _ (ss rs : List (List ℕ)) (same : rs ≡ ss ++ [] ∷ []) (n i : ℕ) where
+  left : n < length ss → slice_index_or (ss ++ [] ∷ []) n [] ≡ slice_index_or ss n []
+  left lt = get_or_append_left ss ([] ∷ []) [] n lt
+
+  past : length ss ≤ n → slice_index_or (ss ++ [] ∷ []) n [] ≡ []
+  past ge = get_or-append_right ss ([] ∷ []) (length ss) n [] refl ge ∙ at_none (n - length ss)
+
+  none : Contains [] i → ⊥
+  none c = let lt = c.1 in omega (arith, lt)
+
+  held_before : Contains (slice_index_or rs n []) i → Contains (slice_index_or ss n []) i
+  held_before c = ⊎_elim
+      (λ lt. subst (λ l. Contains l i) (ap (λ l. slice_index_or l n []) same ∙ left lt) c)
+      (λ ge. absurd (none (subst (λ l. Contains l i) (ap (λ l. slice_index_or l n []) same ∙ past ge) c)))
+      (cases_lt n (length ss))
+
+  both : (n < length ss) ⊎ (length ss ≤ n) → slice_index_or (ss ++ [] ∷ []) n [] ≡ slice_index_or ss n []
+  both (inl lt) = left lt
+  both (inr ge) = past ge ∙ sym (get_or_past ss n [] ge)
+
+  held_behind : Contains (slice_index_or ss n []) i → Contains (slice_index_or rs n []) i
+  held_behind c = subst (λ l. Contains l i) (sym (ap (λ l. slice_index_or l n []) same ∙ both (cases_lt n (length ss)))) c
 
 -- a settling where all else stays, or grows
 pub settling_grows : (A : Automaton) (f g : FoundView) (i : ℕ) (e : Settling) → Grows f g → IsSoundSettling A f i e → IsSoundSettling A g i e
@@ -84,29 +108,6 @@ module _ (A : Automaton) (f g : FoundView) (x : Place) (o : Origin) (found : IsF
   same_settling : (i : ℕ) (e : Settling) → IsSettlingAt g i e → IsSettlingAt f i e
   same_settling i e h = ap (λ l. slice_get l i) (sym placed.settlings) ∙ h
 
-  -- the sums of the new place are none
-  held : (n i : ℕ) → Contains (slice_index_or g.sums n []) i → Contains (slice_index_or f.sums n []) i
-  held n i c = ⊎_elim
-      (λ lt. subst (λ l. Contains l i) (ap (λ l. slice_index_or l n []) placed.sums ∙ left f.sums n lt) c)
-      (λ ge. absurd (none (subst (λ l. Contains l i) (ap (λ l. slice_index_or l n []) placed.sums ∙ past f.sums n ge) c)))
-      (cases_lt n (length f.sums))
-    where
-      left : (ss : List (List ℕ)) (n : ℕ) → n < length ss → slice_index_or (ss ++ [] ∷ []) n [] ≡ slice_index_or ss n []
-      left ss n lt = get_or_append_left ss ([] ∷ []) [] n lt
-
-      past : (ss : List (List ℕ)) (n : ℕ) → length ss ≤ n → slice_index_or (ss ++ [] ∷ []) n [] ≡ []
-      past ss n ge = get_or-append_right ss ([] ∷ []) (length ss) n [] refl ge ∙ at_none (n - length ss)
-
-      none : Contains [] i → ⊥
-      none c = let lt = c.1 in omega (arith, lt)
-
-  held_back : (n i : ℕ) → Contains (slice_index_or f.sums n []) i → Contains (slice_index_or g.sums n []) i
-  held_back n i c = subst (λ l. Contains l i) (sym (ap (λ l. slice_index_or l n []) placed.sums ∙ left f.sums n (cases_lt n (length f.sums)))) c
-    where
-      left : (ss : List (List ℕ)) (n : ℕ) → (n < length ss) ⊎ (length ss ≤ n) → slice_index_or (ss ++ [] ∷ []) n [] ≡ slice_index_or ss n []
-      left ss n (inl lt) = get_or_append_left ss ([] ∷ []) [] n lt
-      left ss n (inr ge) = get_or-append_right ss ([] ∷ []) (length ss) n [] refl ge ∙ (at_none (n - length ss) ∙ sym (get_or_past ss n [] ge))
-
   pub placed_found : IsFound A g
   placed_found = record {
     lists = subst AreLists (sym placed.lists) found.lists;
@@ -116,12 +117,15 @@ module _ (A : Automaton) (f g : FoundView) (x : Place) (o : Origin) (found : IsF
         (λ h. subst (λ k. IsSoundPlace A g k y) (sym h.0) (subst (IsSoundPlace A g (length f.places)) (sym h.1) new_place))
         (old_or_new n y e);
     origins = ap length placed.origins ∙ (length-append f.origins (o ∷ []) ∙ (ap (λ n. n + 1) found.origins ∙ sym (ap length placed.places ∙ length-append f.places (x ∷ []))));
-    known = placed.known ∙ (found.known ∙ ap (map key_of) (sym placed.settlings));
     apart = λ i j e d h k. found.apart i j e d (same_settling i e h) (same_settling j d k);
     settlings = λ i e h. settling_grows A f g i e placed_grows (found.settlings i e (same_settling i e h));
     many = ap length placed.sums ∙ (length-append f.sums ([] ∷ []) ∙ (ap (λ n. n + 1) found.many ∙ sym (ap length placed.places ∙ length-append f.places (x ∷ []))));
-    sums = λ n i c. let h = found.sums n i (held n i c) in
+    sums = λ n i c. let h = found.sums n i (held_before f.sums g.sums placed.sums n i c) in
         record { entry = h.entry; there = ap (λ l. slice_get l i) placed.settlings ∙ h.there; place = h.place; is_sum = h.is_sum };
-    all_sums = λ i e h is. held_back e.place i (found.all_sums i e (same_settling i e h) is);
+    all_sums = λ i e h is. held_behind f.sums g.sums placed.sums e.place i (found.all_sums i e (same_settling i e h) is);
+    many_listed = ap length placed.listed ∙ (length-append f.listed ([] ∷ []) ∙ (ap (λ n. n + 1) found.many_listed ∙ sym (ap length placed.places ∙ length-append f.places (x ∷ []))));
+    listed = λ n l c. let h = found.listed n l (held_before f.listed g.listed placed.listed n l c) in
+        record { number = h.number; entry = h.entry; there = ap (λ k. slice_get k h.number) placed.settlings ∙ h.there; place = h.place; list = h.list };
+    all_listed = λ i e h. held_behind f.listed g.listed placed.listed e.place e.list (found.all_listed i e (same_settling i e h));
     tuples = placed.tuples ∙ (found.tuples ∙ ap (count_by (λ (e : Settling). e.is_sum)) (sym placed.settlings));
   }

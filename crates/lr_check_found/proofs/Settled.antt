@@ -1,9 +1,9 @@
 -- One settling more.
-use Rattle.std.proofs.Common.{◌≡◌, ◌⊎◌, ℕ, ◌+◌, ◌<◌, List, [], ◌∷◌, ◌++◌, Some, None, Contains, Bool, true, false, cond, length, map, slice_get, refl, sym, ap, ◌∙◌, subst, inl}
+use Rattle.std.proofs.Common.{◌≡◌, ◌⊎◌, ℕ, ◌+◌, ◌<◌, List, [], ◌∷◌, ◌++◌, Some, None, Contains, Bool, true, false, cond, length, slice_get, refl, sym, ap, ◌∙◌, subst, inl}
 use Rattle.std.proofs.Common.{inr, ⊎_elim, arith, true≢false}
-use Rattle.std.specs.Prelude.{slice_index_or, count_by}
+use Rattle.std.specs.Prelude.{slice_index_or, slice_set, count_by}
 use Rattle.std.proofs.lemmas.Bool.{cases_eq}
-use Rattle.std.proofs.lemmas.List.{get_or-set_same, get_or-set_other, length-set, map-append}
+use Rattle.std.proofs.lemmas.List.{get_or-set_same, get_or-set_other, length-set}
 use Rattle.std.proofs.lemmas.List.Elements.{Contains-append_left, Contains-append_right}
 use Rattle.std.proofs.lemmas.List.Sums.{sum_by-cons, sum_by-append}
 use Rattle.std.proofs.lemmas.Option.{slice_get_within}
@@ -16,10 +16,10 @@ use Rattle.lr_check_found.specs.declared.places.Place.{Place}
 use Rattle.lr_check_found.specs.declared.settlings.How.{How}
 use Rattle.lr_check_found.specs.declared.settlings.Settling.{Settling}
 use Rattle.lr_check_found.specs.Lists.{ListsView, IsList, AreLists, KeepsLists}
-use Rattle.lr_check_found.specs.Found.{FoundView, slot, key_of, IsPlaceAt, IsSettlingAt, Grows}
+use Rattle.lr_check_found.specs.Found.{FoundView, slot, IsPlaceAt, IsSettlingAt, Grows}
 use Rattle.lr_check_found.specs.Items.{Made, leaf, one, two, made_by_reduction, IsLater}
-use Rattle.lr_check_found.specs.Sound.{IsSoundPlace, IsSoundSettling, IsHeldSum, IsFound}
-use Rattle.lr_check_found.specs.Adding.{with_lists, IsRelisted, with_sum, held, with_key, with_entry, settled, IsWider, HasWayOut}
+use Rattle.lr_check_found.specs.Sound.{IsSoundPlace, IsSoundSettling, IsHeldSum, IsListed, IsFound}
+use Rattle.lr_check_found.specs.Adding.{with_lists, IsRelisted, with_sum, held, with_listed, with_entry, settled, IsWider, HasWayOut}
 use Rattle.lr_check_found.proofs.Reading.{slice_at_last}
 use Rattle.lr_check_found.proofs.Growing.{begun_grows, made_grows}
 use Rattle.lr_check_found.proofs.Deriving.{settled_of_made}
@@ -45,12 +45,14 @@ relisted_at A f l found lists kept = record {
   numbered = found.numbered;
   places = λ n x e. place_grows A f (with_lists f l) n x (relisted_grows f l kept) refl (found.places n x e);
   origins = found.origins;
-  known = found.known;
   apart = found.apart;
   settlings = λ i e h. settling_grows A f (with_lists f l) i e (relisted_grows f l kept) (found.settlings i e h);
   many = found.many;
   sums = λ n i c. let h = found.sums n i c in record { entry = h.entry; there = h.there; place = h.place; is_sum = h.is_sum };
   all_sums = found.all_sums;
+  many_listed = found.many_listed;
+  listed = λ n k c. let h = found.listed n k c in record { number = h.number; entry = h.entry; there = h.there; place = h.place; list = h.list };
+  all_listed = found.all_listed;
   tuples = found.tuples;
 }
 
@@ -62,12 +64,19 @@ relisted_more f g r = subst (Grows f) (sym r.same) (relisted_grows f g.lists r.k
 
 -- ---- what is added to the sums
 
+-- the number comes to those of the place
+pub record IsMoreListed (before after : List (List ℕ)) (p l : ℕ) : Type 0 where
+  pub many : length after ≡ length before
+  pub only : (n k : ℕ) → Contains (slice_index_or after n []) k → Contains (slice_index_or before n []) k ⊎ ((n ≡ p) × (k ≡ l))
+  pub back : (n k : ℕ) → Contains (slice_index_or before n []) k → Contains (slice_index_or after n []) k
+  pub new : Contains (slice_index_or after p []) l
+
 pub record IsMore (f g : FoundView) (e : Settling) : Type 0 where
   pub lists : g.lists ≡ f.lists
   pub numbers : g.numbers ≡ f.numbers
   pub places : g.places ≡ f.places
   pub origins : g.origins ≡ f.origins
-  pub known : g.known ≡ f.known ++ key_of e ∷ []
+  pub listed : IsMoreListed f.listed g.listed e.place e.list
   pub settlings : g.settlings ≡ f.settlings ++ e ∷ []
   pub many : length g.sums ≡ length f.sums
   pub held : (n i : ℕ) → Contains (slice_index_or g.sums n []) i → Contains (slice_index_or f.sums n []) i ⊎ ((n ≡ e.place) × (i ≡ length f.settlings) × (e.is_sum ≡ true))
@@ -82,17 +91,42 @@ only_one xs x i c = ⊎_elim (λ h. inl (In-Contains i xs h)) (λ h. last h) (In
     last (inl e) = inr (sym e)
     last (inr n) = absurd n
 
+more_listed : (ls : List (List ℕ)) (p l : ℕ) → p < length ls → IsMoreListed ls (slice_set ls p (slice_index_or ls p [] ++ l ∷ [])) p l
+more_listed ls p l lt = record {
+  many = length-set ls p (slice_index_or ls p [] ++ l ∷ []);
+  only = λ n k c. ⊎_elim
+      (λ same. ⊎_elim (λ h. inl (subst (λ j. Contains (slice_index_or ls j []) k) (sym same) h)) (λ h. inr (same, h))
+      (only_one (slice_index_or ls p []) l k (subst (λ xs. Contains xs k) (ap (λ j. slice_index_or after j []) same ∙ here) c)))
+      (λ other. inl (subst (λ xs. Contains xs k) (there n other) c))
+      (cases_eq n p);
+  back = λ n k c. ⊎_elim
+      (λ same. subst (λ xs. Contains xs k) (sym (ap (λ j. slice_index_or after j []) same ∙ here))
+      (Contains-append_left (slice_index_or ls p []) (l ∷ []) k (subst (λ j. Contains (slice_index_or ls j []) k) same c)))
+      (λ other. subst (λ xs. Contains xs k) (sym (there n other)) c)
+      (cases_eq n p);
+  new = subst (λ xs. Contains xs l) (sym here) (Contains-append_right (slice_index_or ls p []) (l ∷ []) l (0, omega arith, refl));
+}
+  where
+    after : List (List ℕ)
+    after = slice_set ls p (slice_index_or ls p [] ++ l ∷ [])
+
+    here : slice_index_or after p [] ≡ slice_index_or ls p [] ++ l ∷ []
+    here = get_or-set_same ls p (slice_index_or ls p [] ++ l ∷ []) [] lt
+
+    there : (n : ℕ) → (n ≡ p → ⊥) → slice_index_or after n [] ≡ slice_index_or ls n []
+    there n other = get_or-set_other ls p n (slice_index_or ls p [] ++ l ∷ []) [] other
+
 -- one settling more
 abbrev with_settling : FoundView → Settling → FoundView
-with_settling f e = with_entry (with_key f (key_of e)) e
+with_settling f e = with_entry (with_listed f e.place e.list) e
 
-more_plain : (f : FoundView) (e : Settling) → e.is_sum ≡ false → IsMore f (with_settling f e) e
-more_plain f e not = record {
+more_plain : (f : FoundView) (e : Settling) → e.is_sum ≡ false → e.place < length f.listed → IsMore f (with_settling f e) e
+more_plain f e not within = record {
   lists = refl;
   numbers = refl;
   places = refl;
   origins = refl;
-  known = refl;
+  listed = more_listed f.listed e.place e.list within;
   settlings = refl;
   many = refl;
   held = λ n i c. inl c;
@@ -101,13 +135,13 @@ more_plain f e not = record {
   tuples = let none : f.tuples + cond e.is_sum 1 0 ≡ f.tuples + 0 = ap (λ b. f.tuples + cond b 1 0) not in omega (arith, none);
 }
 
-more_sum : (f : FoundView) (e : Settling) → e.is_sum ≡ true → e.place < length f.sums → IsMore f (with_settling (with_sum f e.place) e) e
-more_sum f e is lt = record {
+more_sum : (f : FoundView) (e : Settling) → e.is_sum ≡ true → e.place < length f.sums → e.place < length f.listed → IsMore f (with_settling (with_sum f e.place) e) e
+more_sum f e is lt within = record {
   lists = refl;
   numbers = refl;
   places = refl;
   origins = refl;
-  known = refl;
+  listed = more_listed f.listed e.place e.list within;
   settlings = refl;
   many = length-set f.sums e.place (slice_index_or f.sums e.place [] ++ length f.settlings ∷ []);
   held = λ n i c. ⊎_elim
@@ -131,12 +165,12 @@ more_sum f e is lt = record {
     there : (n : ℕ) → (n ≡ e.place → ⊥) → slice_index_or (with_sum f e.place).sums n [] ≡ slice_index_or f.sums n []
     there n other = get_or-set_other f.sums e.place n (slice_index_or f.sums e.place [] ++ length f.settlings ∷ []) [] other
 
-pub more_settled : (f : FoundView) (e : Settling) → e.place < length f.sums → IsMore f (settled f e) e
-more_settled f e lt = by e.is_sum refl
+pub more_settled : (f : FoundView) (e : Settling) → e.place < length f.sums → e.place < length f.listed → IsMore f (settled f e) e
+more_settled f e lt within = by e.is_sum refl
   where
     by : (b : Bool) → e.is_sum ≡ b → IsMore f (settled f e) e
-    by true is = subst (λ g. IsMore f g e) (ap (λ b. with_entry (held (with_key f (key_of e)) b e.place) e) (sym is)) (more_sum f e is lt)
-    by false not = subst (λ g. IsMore f g e) (ap (λ b. with_entry (held (with_key f (key_of e)) b e.place) e) (sym not)) (more_plain f e not)
+    by true is = subst (λ g. IsMore f g e) (ap (λ b. with_entry (held (with_listed f e.place e.list) b e.place) e) (sym is)) (more_sum f e is lt within)
+    by false not = subst (λ g. IsMore f g e) (ap (λ b. with_entry (held (with_listed f e.place e.list) b e.place) e) (sym not)) (more_plain f e not within)
 
 -- ---- one settling more
 
@@ -194,6 +228,9 @@ module _ (A : Automaton) (f g : FoundView) (e : Settling) (x : Place) (s : List 
   old_held : (n i : ℕ) → IsHeldSum f n i → IsHeldSum g n i
   old_held n i h = record { entry = h.entry; there = more_grows.settlings i h.entry h.there; place = h.place; is_sum = h.is_sum }
 
+  old_listed : (n l : ℕ) → IsListed f n l → IsListed g n l
+  old_listed n l h = record { number = h.number; entry = h.entry; there = more_grows.settlings h.number h.entry h.there; place = h.place; list = h.list }
+
   counted : count_by (λ (d : Settling). d.is_sum) (f.settlings ++ e ∷ []) ≡ count_by (λ (d : Settling). d.is_sum) f.settlings + cond e.is_sum 1 0
   counted =
       sum_by-append (λ (d : Settling). cond d.is_sum 1 0) f.settlings (e ∷ []) ∙
@@ -205,7 +242,6 @@ module _ (A : Automaton) (f g : FoundView) (e : Settling) (x : Place) (s : List 
     numbered = λ n y h. ap (λ l. slice_index_or l (slot y) None) more.numbers ∙ found.numbered n y (ap (λ l. slice_get l n) (sym more.places) ∙ h);
     places = λ n y h. place_grows A f g n y more_grows more.origins (found.places n y (ap (λ l. slice_get l n) (sym more.places) ∙ h));
     origins = ap length more.origins ∙ (found.origins ∙ ap length (sym more.places));
-    known = more.known ∙ (ap (λ l. l ++ key_of e ∷ []) found.known ∙ (sym (map-append key_of f.settlings (e ∷ [])) ∙ ap (map key_of) (sym more.settlings)));
     apart = λ i j c d h k same list. ⊎_elim
         (λ a. ⊎_elim
         (λ b. found.apart i j c d a b same list)
@@ -229,6 +265,15 @@ module _ (A : Automaton) (f g : FoundView) (e : Settling) (x : Place) (s : List 
         (λ a. more.back d.place i (found.all_sums i d a is))
         (λ a. subst (λ (z : Settling). Contains (slice_index_or g.sums z.place []) i) (sym a.1)
         (subst (λ k. Contains (slice_index_or g.sums e.place []) k) (sym a.0) (more.new (subst (λ (z : Settling). z.is_sum ≡ true) a.1 is))))
+        (old_or_new i d h);
+    many_listed = more.listed.many ∙ (found.many_listed ∙ ap length (sym more.places));
+    listed = λ n l c. ⊎_elim
+        (λ h. old_listed n l (found.listed n l h))
+        (λ h. record { number = length f.settlings; entry = e; there = new_at; place = sym h.0; list = sym h.1 })
+        (more.listed.only n l c);
+    all_listed = λ i d h. ⊎_elim
+        (λ a. more.listed.back d.place d.list (found.all_listed i d a))
+        (λ a. subst (λ (z : Settling). Contains (slice_index_or g.listed z.place []) z.list) (sym a.1) more.listed.new)
         (old_or_new i d h);
     tuples = more.tuples ∙ (ap (λ n. n + cond e.is_sum 1 0) found.tuples ∙ (sym counted ∙ ap (count_by (λ (d : Settling). d.is_sum)) (sym more.settlings)));
   }

@@ -6,13 +6,12 @@ use Rattle.lr_check_sets.specs.Automaton.{Automaton, Candidate, shift, reduce, s
 use Rattle.lr_check_found.specs.declared.places.Place.{Place}
 use Rattle.lr_check_found.specs.declared.places.Origin.{Origin}
 use Rattle.lr_check_found.specs.declared.settlings.Settling.{Settling}
-use Rattle.lr_check_found.specs.declared.settlings.Key.{Key}
 use Rattle.lr_check_found.specs.Lists.{ListsView, AreLists, KeepsLists}
 use Rattle.lr_check_found.specs.declared.settlings.How.{How}
 use Rattle.lr_check_found.specs.declared.settlings.How.TheVariants as how
 use Rattle.md_reader.specs.declared.types.Sym.{Sym}
 use Rattle.md_reader.specs.declared.types.Sym.TheVariants as grammar_symbol
-use Rattle.lr_check_found.specs.Found.{FoundView, slot, key_of, IsPlaceAt}
+use Rattle.lr_check_found.specs.Found.{FoundView, slot, IsPlaceAt}
 use Rattle.lr_check_found.specs.Sound.{IsFound}
 
 -- other lists
@@ -23,8 +22,7 @@ with_lists f l = record {
   places = f.places;
   origins = f.origins;
   sums = f.sums;
-  known =
-      f.known;
+  listed = f.listed;
   settlings = f.settlings;
   tuples = f.tuples;
 }
@@ -42,26 +40,26 @@ with_sum f n = record {
   numbers = f.numbers;
   places = f.places;
   origins = f.origins;
-  known = f.known;
+  listed = f.listed;
   settlings = f.settlings;
   tuples = f.tuples + 1;
   sums = slice_set f.sums n (slice_index_or f.sums n [] ++ length f.settlings ∷ []);
 }
 
--- one key more, and one settling
-abbrev pub with_key : FoundView → Key → FoundView
-with_key f k = record {
+-- the list settles at the place with the number
+abbrev pub with_listed : FoundView → ℕ → ℕ → FoundView
+with_listed f n l = record {
   lists = f.lists;
   numbers = f.numbers;
   places = f.places;
   origins = f.origins;
   sums = f.sums;
-  known =
-      f.known ++ k ∷ [];
   settlings = f.settlings;
   tuples = f.tuples;
+  listed = slice_set f.listed n (slice_index_or f.listed n [] ++ l ∷ []);
 }
 
+-- one settling more
 abbrev pub with_entry : FoundView → Settling → FoundView
 with_entry f e = record {
   lists = f.lists;
@@ -69,8 +67,7 @@ with_entry f e = record {
   places = f.places;
   origins = f.origins;
   sums = f.sums;
-  known =
-      f.known;
+  listed = f.listed;
   settlings = f.settlings ++ e ∷ [];
   tuples = f.tuples;
 }
@@ -78,9 +75,9 @@ with_entry f e = record {
 abbrev pub held : FoundView → Bool → ℕ → FoundView
 held f is_sum n = if is_sum then with_sum f n else f
 
--- the settling with its key, held as a sum if it is one
+-- the settling, its list held at its place, and held as a sum if it is one
 abbrev pub settled : FoundView → Settling → FoundView
-settled f e = with_entry (held (with_key f (key_of e)) e.is_sum e.place) e
+settled f e = with_entry (held (with_listed f e.place e.list) e.is_sum e.place) e
 
 -- one place more
 pub record IsPlaced (f g : FoundView) (x : Place) (o : Origin) : Type 0 where
@@ -90,7 +87,7 @@ pub record IsPlaced (f g : FoundView) (x : Place) (o : Origin) : Type 0 where
   pub number : slice_index_or g.numbers (slot x) None ≡ Some (length f.places)
   pub others : (i : ℕ) → (i ≡ slot x → ⊥) → slice_index_or g.numbers i None ≡ slice_index_or f.numbers i None
   pub lists : g.lists ≡ f.lists
-  pub known : g.known ≡ f.known
+  pub listed : g.listed ≡ f.listed ++ [] ∷ []
   pub settlings : g.settlings ≡ f.settlings
   pub tuples : g.tuples ≡ f.tuples
 

@@ -6,18 +6,17 @@ use Rattle.lr_tables.specs.Symbols.{number}
 use Rattle.lr_check_found.specs.declared.places.Place.{Place}
 use Rattle.lr_check_found.specs.declared.places.Origin.{Origin}
 use Rattle.lr_check_found.specs.declared.settlings.Settling.{Settling}
-use Rattle.lr_check_found.specs.declared.settlings.Key.{Key}
 use Rattle.lr_check_found.specs.Lists.{ListsView, IsList}
 
--- the number of each place by its state and tokens; the places with their origins; the sums at each, by number;
--- the settlings with their keys; and how many of them are sums
+-- the number of each place by its state and tokens; the places with their origins; at each the sums and the lists that settle, by
+-- number; the settlings; and how many of them are sums
 pub record FoundView : Type 0 where
   pub lists : ListsView
   pub numbers : List (Option ℕ)
   pub places : List Place
   pub origins : List Origin
   pub sums : List (List ℕ)
-  pub known : List Key
+  pub listed : List (List ℕ)
   pub settlings : List Settling
   pub tuples : ℕ
 
@@ -27,9 +26,6 @@ slot x = (x.state * 40 + number x.token) * 40 + number x.behind
 
 abbrev pub place_of : ℕ → Tok → Tok → Place
 place_of q k b = record { state = q; token = k; behind = b }
-
-abbrev pub key_of : Settling → Key
-key_of e = record { place = e.place; list = e.list }
 
 abbrev pub IsPlaceAt : FoundView → ℕ → Place → Type 0
 IsPlaceAt f n x = slice_get f.places n ≡ Some x

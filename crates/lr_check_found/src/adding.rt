@@ -8,19 +8,19 @@ ghost use Rattle.lr_check_sets.specs.Automaton.{Candidate, Free};
 ghost use Rattle.lr_check_sets.specs.Table.{automaton_of};
 ghost use Rattle.lr_check_found.specs.declared.adding.Stop.TheVariants.{Full};
 ghost use Rattle.lr_check_found.specs.Lists.{AreLists, IsList};
-ghost use Rattle.lr_check_found.specs.Found.{Grows, key_of};
+ghost use Rattle.lr_check_found.specs.Found.{Grows};
 ghost use Rattle.lr_check_found.specs.Items.{HasMade, IsItem, IsBehind};
 ghost use Rattle.lr_check_found.specs.Sound.{IsFound};
 ghost use Rattle.lr_check_found.specs.Choices.{LeadsOut};
-ghost use Rattle.lr_check_found.specs.Adding.{IsRelisted, with_sum, held, with_key, with_entry, settled, IsAdded, list_of};
+ghost use Rattle.lr_check_found.specs.Adding.{IsRelisted, with_sum, held, with_listed, with_entry, settled, IsAdded, list_of};
 ghost use Rattle.lr_check_found.specs.Adding.{list_number, upper_of, lower_of, IsWider, HasWayOut};
 ghost use Rattle.lr_check_found.specs.Count.{HasMore};
 
 use crate::choices::{candidate, free_choices};
-use crate::found::{Found, Sums};
+use crate::found::{Found, Numbers};
 use crate::places::{Origin, Place};
-use crate::settlings::{How, Item, Key, Settling};
-use crate::table::{push_key, put};
+use crate::settlings::{How, Item, Settling};
+use crate::table::put;
 use gg_base::NoMemory;
 use gg_base::limits::SUMMARY_LIMIT;
 use lr_tables::{Choice, State, Tables};
@@ -132,7 +132,8 @@ impl Found {
             return Ok(());
         }
         put(&mut self.numbers, place.slot(), self.places.len())?;
-        self.sums.push(Sums::new(alloc))?;
+        self.sums.push(Numbers::new(alloc))?;
+        self.listed.push(Numbers::new(alloc))?;
         self.origins.push(origin)?;
         self.places.push(place)?;
         Ok(())
@@ -162,31 +163,34 @@ impl Found {
         Ok(())
     }
 
-    fn hold_key(&mut self, key: Key) -> Result<(), NoMemory>
-        requires { Contains self.old.known key → ⊥ }
-        ensures { OnOk result (self.new ≡ with_key self.old key) }
+    // The list settles at the place with the number.
+    fn hold_list(&mut self, place: usize, list: usize) -> Result<(), NoMemory>
+        requires { place < length self.old.listed }
+        ensures { OnOk result (self.new ≡ with_listed self.old place list) }
     {
-        push_key(&mut self.known, key)
+        self.listed[place].push(list)?;
+        Ok(())
     }
 
     fn hold(
         &mut self,
-        key: Key,
+        place: usize,
+        list: usize,
         behind: &Option<State>,
         is_sum: bool,
         how: How,
     ) -> Result<(), NoMemory>
         ensures { OnOk result (self.new ≡ with_entry self.old (record {
-          place = key.place;
-          list = key.list;
+          place = place;
+          list = list;
           behind = behind.now;
           is_sum = is_sum;
           how = how;
         })) }
     {
         self.settlings.push(Settling {
-            place: key.place,
-            list: key.list,
+            place,
+            list,
             behind: *behind,
             is_sum,
             how,
@@ -197,17 +201,19 @@ impl Found {
     // One settling more, which isn't there.
     fn push_settling(&mut self, settling: &Settling) -> Result<(), NoMemory>
         requires within { settling.now.place < length self.old.sums }
+        requires listed { settling.now.place < length self.old.listed }
         requires room { self.old.tuples < 2 ^ 63 }
-        requires absent { Contains self.old.known (key_of settling.now) → ⊥ }
         ensures { OnOk result (self.new ≡ settled self.old settling.now) }
     {
-        let key = Key {
-            place: settling.place,
-            list: settling.list,
-        };
-        self.hold_key(key)?;
+        self.hold_list(settling.place, settling.list)?;
         self.hold_if(settling.is_sum, settling.place)?;
-        self.hold(key, &settling.behind, settling.is_sum, settling.how)
+        self.hold(
+            settling.place,
+            settling.list,
+            &settling.behind,
+            settling.is_sum,
+            settling.how,
+        )
     }
 
     fn add_settling(

@@ -10,20 +10,19 @@ ghost use Rattle.lr_check_found.specs.Sound.{IsFound};
 
 use crate::lists::Lists;
 use crate::places::{Origin, Place};
-use crate::settlings::{Key, Settling};
-use crate::table::has_key;
+use crate::settlings::Settling;
+use crate::table::has_number;
 use gg_base::NoMemory;
-use indexmap::IndexSet;
 use std::alloc::Global;
 use std::marker::Model;
 
-// The settlings of a place that are sums, by number.
+// Numbers that are held of a place: of its settlings that are sums, or of the lists that settle there.
 #[derive(Drop)]
-pub(crate) struct Sums {
+pub(crate) struct Numbers {
     held: Vec<usize>,
 }
 
-impl Model for Sums {
+impl Model for Numbers {
     ghost use Rattle.std.specs.Prelude.{ℕ, List};
 
     ghost Value = { List ℕ };
@@ -31,19 +30,19 @@ impl Model for Sums {
     ghost view = { λ s. s.held.items };
 }
 
-impl Sums {
+impl Numbers {
     pub fn new(alloc: Global) -> Self
         ensures { result ≡ [] }
     {
-        Sums {
+        Numbers {
             held: Vec::new(alloc),
         }
     }
 
-    pub fn push(&mut self, settling: usize) -> Result<(), NoMemory>
-        ensures { OnOk result (self.new ≡ self.old ++ settling ∷ []) }
+    pub fn push(&mut self, number: usize) -> Result<(), NoMemory>
+        ensures { OnOk result (self.new ≡ self.old ++ number ∷ []) }
     {
-        self.held.push(settling)?;
+        self.held.push(number)?;
         Ok(())
     }
 
@@ -61,8 +60,8 @@ pub struct Found {
     pub(crate) numbers: Vec<Option<usize>>,
     pub(crate) places: Vec<Place>,
     pub(crate) origins: Vec<Origin>,
-    pub(crate) sums: Vec<Sums>,
-    pub(crate) known: IndexSet<Key>,
+    pub(crate) sums: Vec<Numbers>,
+    pub(crate) listed: Vec<Numbers>,
     pub(crate) settlings: Vec<Settling>,
     pub(crate) tuples: usize,
 }
@@ -78,7 +77,7 @@ impl Model for Found {
       places = f.places.items;
       origins = f.origins.items;
       sums = f.sums.items;
-      known = f.known.keys;
+      listed = f.listed.items;
       settlings = f.settlings.items;
       tuples = f.tuples;
     } };
@@ -96,7 +95,7 @@ impl Found {
             places: Vec::new(alloc),
             origins: Vec::new(alloc),
             sums: Vec::new(alloc),
-            known: IndexSet::new(alloc),
+            listed: Vec::new(alloc),
             settlings: Vec::new(alloc),
             tuples: 0,
         })
@@ -153,6 +152,16 @@ impl Found {
         }
     }
 
+    // The numbers of the lists that settle at the place with the number.
+    fn listed(&self, number: usize) -> &[usize]
+        ensures { result.now ≡ slice_index_or self.now.listed number [] }
+    {
+        match self.listed.get(number) {
+            Some(listed) => listed.as_slice(),
+            None => &[],
+        }
+    }
+
     fn number_at(&self, at: usize) -> Option<usize>
         ensures { result ≡ slice_index_or self.now.numbers at None }
     {
@@ -179,6 +188,6 @@ impl Found {
         ensures absent { (A : Automaton) (i : ℕ) (e : Settling) → IsFound A self.now → IsSettlingAt self.now i e → e.place
             ≡ place → e.list ≡ list → IsTrue result }
     {
-        has_key(&self.known, Key { place, list })
+        has_number(self.listed(place), list)
     }
 }

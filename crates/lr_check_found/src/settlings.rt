@@ -23,13 +23,6 @@ pub struct Settling {
     pub how: How,
 }
 
-/// A settling's place and list.
-#[derive(Clone, Copy, Debug, PartialEq, Eq, Hash)]
-pub(crate) struct Key {
-    pub place: usize,
-    pub list: usize,
-}
-
 /// What is to be added: a place, or a list that settles at the place with a number.
 #[derive(Clone, Copy, Debug)]
 pub enum Item {

@@ -3,7 +3,6 @@ ghost use Rattle.std.specs.Prelude.{◌≡◌, ◌++◌, ◌∷◌, [], ℕ, Con
 ghost use Rattle.std.specs.Prelude.{IsTrue, OnOk, Some, None};
 
 use crate::lists::Cell;
-use crate::settlings::Key;
 use gg_base::NoMemory;
 use indexmap::IndexSet;
 
@@ -26,21 +25,12 @@ pub fn insert_cell(cells: &mut IndexSet<Cell>, cell: Cell) -> Result<(usize, boo
     Ok(cells.insert_full(cell)?)
 }
 
-/// Whether the key is there.
-pub fn has_key(keys: &IndexSet<Key>, key: Key) -> bool
-    ensures there { IsTrue result → Contains keys.now.keys key }
-    ensures back { Contains keys.now.keys key → IsTrue result }
+/// Whether the number is there.
+pub fn has_number(numbers: &[usize], number: usize) -> bool
+    ensures there { IsTrue result → Contains numbers.now number }
+    ensures each { (n : ℕ) → Contains numbers.now n → n ≡ number → IsTrue result }
 {
-    keys.contains(&key)
-}
-
-/// One key more.
-pub fn push_key(keys: &mut IndexSet<Key>, key: Key) -> Result<(), NoMemory>
-    requires { Contains keys.old.keys key → ⊥ }
-    ensures { OnOk result (keys.new.keys ≡ keys.old.keys ++ key ∷ []) }
-{
-    keys.insert_full(key)?;
-    Ok(())
+    numbers.iter().any(|other| *other == number)
 }
 
 /// The number is held at the place in the table, which grows to there.

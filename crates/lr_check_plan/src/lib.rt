@@ -2,6 +2,7 @@
 //! adds by it looks at each item, and then looks whether all is there.
 #![tactic(auto)]
 
+mod free;
 mod lists;
 mod masks;
 mod places;

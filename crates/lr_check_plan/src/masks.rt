@@ -14,6 +14,19 @@ pub fn has(set: u64, token: Tok) -> bool {
     set & bit(token) != 0
 }
 
+/// The first token of the set, in table order.
+pub fn first_of(set: u64) -> Option<Tok> {
+    match tokens().get(set.trailing_zeros() as usize) {
+        Some(token) => Some(*token),
+        None => None,
+    }
+}
+
+/// The set without its first token.
+pub fn without_first(set: u64) -> u64 {
+    set & set.wrapping_sub(1)
+}
+
 /// The tokens that may begin a tree of the sort.
 pub fn beginnings(wanted: Sort) -> u64 {
     let mut set = 0;

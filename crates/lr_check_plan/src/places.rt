@@ -1,14 +1,14 @@
 // Places that are new, and what follows from them.
-use crate::masks::{beginnings, bit, has};
+use crate::masks::{beginnings, bit, first_of, without_first};
 use crate::plan::{Event, Plan};
-use crate::rows::row_of;
+use crate::rows::{Reader, row_of};
 use crate::settling::By;
 use gg_base::NoMemory;
 use lr_check_found::{Item, Origin, Place};
 use lr_tables::State;
 use md_reader::Sym;
 use std::alloc::Global;
-use tree_core::{Sort, Tok, tokens};
+use tree_core::{Sort, Tok};
 
 /// From what places follow: for the whole tree; the only kid of a row's places with the same token behind;
 /// the first kid of the place with the number; the second kid of a row's places, behind the settling.
@@ -18,17 +18,6 @@ pub enum From {
     Only(usize),
     First(usize),
     Second(usize, usize),
-}
-
-// The token of the set that comes last.
-fn some_of(set: u64) -> Option<Tok> {
-    let mut some = None;
-    for token in tokens() {
-        if has(set, *token) {
-            some = Some(*token);
-        }
-    }
-    some
 }
 
 impl<'a> Plan<'a> {
@@ -51,11 +40,12 @@ impl<'a> Plan<'a> {
         }
     }
 
-    fn hold_place(&mut self, row: usize, behind: Tok, number: usize) {
+    fn hold_place(&mut self, row: usize, behind: Tok, number: usize) -> Result<(), NoMemory> {
         if let Some(row) = self.rows.get_mut(row) {
-            row.numbers.put(behind, number);
+            row.numbers.put(behind, number)?;
             row.places |= bit(behind);
         }
+        Ok(())
     }
 
     fn add_place(
@@ -74,8 +64,7 @@ impl<'a> Plan<'a> {
         self.items.push(item)?;
         let number = self.places;
         self.places = number.wrapping_add(1);
-        self.hold_place(row_of(state, token), behind, number);
-        Ok(())
+        self.hold_place(row_of(state, token), behind, number)
     }
 
     pub fn add_places(
@@ -89,10 +78,14 @@ impl<'a> Plan<'a> {
         if more == 0 || row_of(state, token) >= self.rows.len() {
             return Ok(());
         }
-        for behind in tokens() {
-            if has(more, *behind) {
-                self.add_place(state, token, *behind, from)?;
-            }
+        let mut rest = more;
+        for _turn in 0..64_u32 {
+            let behind = match first_of(rest) {
+                Some(behind) => behind,
+                None => break,
+            };
+            self.add_place(state, token, behind, from)?;
+            rest = without_first(rest);
         }
         self.events.push(Event::Places(state, token, more))?;
         Ok(())
@@ -123,7 +116,7 @@ impl<'a> Plan<'a> {
         };
         let kids = token.kids();
         if kids.len() == 0 {
-            let list = self.lists.push(Sym::Tok(token), 0)?;
+            let list = self.single(token);
             self.settle(alloc, state, token, more, list, Some(over), By::Leaf)
         } else if kids.len() == 1 {
             self.only_kid(alloc, state, token, over, kids[0], more)
@@ -145,17 +138,26 @@ impl<'a> Plan<'a> {
         more: u64,
     ) -> Result<(), NoMemory> {
         let row = row_of(state, token);
+        let set = beginnings(wanted);
         if self.begins_to_read(row) {
             if let Some(readers) = self.readers.get_mut(over.number() as usize) {
-                readers.onlys.push((state, token))?;
+                readers.onlys.push(Reader {
+                    state,
+                    token,
+                    begins: set,
+                    seconds: 0,
+                })?;
             }
         }
-        let set = beginnings(wanted);
-        for kid in tokens() {
-            if has(set, *kid) {
-                self.add_places(over, *kid, more, From::Only(row))?;
-                self.only_sums(alloc, state, token, over, *kid, more)?;
-            }
+        let mut rest = set;
+        for _turn in 0..64_u32 {
+            let kid = match first_of(rest) {
+                Some(kid) => kid,
+                None => break,
+            };
+            self.add_places(over, kid, more, From::Only(row))?;
+            self.only_sums(alloc, state, token, over, kid, more)?;
+            rest = without_first(rest);
         }
         Ok(())
     }
@@ -174,20 +176,29 @@ impl<'a> Plan<'a> {
         if !self.begins_to_read(row) {
             return Ok(());
         }
+        let set = beginnings(wanted);
+        let seconds = beginnings(second);
         if let Some(readers) = self.readers.get_mut(over.number() as usize) {
-            readers.firsts.push((state, token))?;
+            readers.firsts.push(Reader {
+                state,
+                token,
+                begins: set,
+                seconds,
+            })?;
         }
-        let number = match some_of(more) {
+        let number = match first_of(more) {
             Some(behind) => self.place_number(row, behind),
             None => return Ok(()),
         };
-        let set = beginnings(wanted);
-        let seconds = beginnings(second);
-        for kid in tokens() {
-            if has(set, *kid) {
-                self.add_places(over, *kid, seconds, From::First(number))?;
-                self.first_sums(alloc, state, token, over, *kid, seconds)?;
-            }
+        let mut rest = set;
+        for _turn in 0..64_u32 {
+            let kid = match first_of(rest) {
+                Some(kid) => kid,
+                None => break,
+            };
+            self.add_places(over, kid, seconds, From::First(number))?;
+            self.first_sums(alloc, state, token, over, kid, seconds)?;
+            rest = without_first(rest);
         }
         Ok(())
     }

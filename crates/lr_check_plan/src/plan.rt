@@ -1,11 +1,13 @@
 // The plan, and its events.
+use crate::free::free_at;
 use crate::lists::Lists;
 use crate::masks::{beginnings, bit, has};
 use crate::places::From;
-use crate::rows::{Part, Readers, Row, row_of};
+use crate::rows::{Free, Part, Readers, Row, row_of};
 use gg_base::NoMemory;
 use lr_check_found::Item;
-use lr_tables::{State, Tables};
+use lr_tables::{State, Tables, number};
+use md_reader::Sym;
 use std::alloc::Global;
 use tree_core::{Sort, Tok, tokens};
 
@@ -26,6 +28,8 @@ pub struct Plan<'a> {
     pub places: usize,
     pub settlings: usize,
     pub lists: Lists,
+    pub singles: Vec<usize>,
+    pub free: Vec<Free>,
     pub rows: Vec<Row>,
     pub readers: Vec<Readers>,
     pub parts: Vec<Part>,
@@ -36,10 +40,19 @@ impl<'a> Plan<'a> {
     fn new(alloc: Global, tables: &'a Tables) -> Result<Self, NoMemory> {
         let mut rows = Vec::new(alloc);
         let mut readers = Vec::new(alloc);
-        for _state in 0..tables.states() {
+        let mut free = Vec::new(alloc);
+        let mut lists = Lists::new(alloc);
+        let mut singles = Vec::new(alloc);
+        for token in tokens() {
+            singles.push(lists.push(Sym::Tok(*token), 0)?)?;
+        }
+        for number in 0..tables.states() {
+            if let Ok(number) = u16::try_from(number) {
+                free.push(free_at(alloc, tables, State::of(number))?)?;
+            }
             readers.push(Readers::new(alloc))?;
             for _token in 0..40_usize {
-                rows.push(Row::new(alloc)?)?;
+                rows.push(Row::new(alloc))?;
             }
         }
         Ok(Plan {
@@ -47,7 +60,9 @@ impl<'a> Plan<'a> {
             items: Vec::new(alloc),
             places: 0,
             settlings: 0,
-            lists: Lists::new(alloc),
+            lists,
+            singles,
+            free,
             rows,
             readers,
             parts: Vec::new(alloc),
@@ -59,6 +74,14 @@ impl<'a> Plan<'a> {
     pub fn places_at(&self, state: State, token: Tok) -> u64 {
         match self.rows.get(row_of(state, token)) {
             Some(row) => row.places,
+            None => 0,
+        }
+    }
+
+    /// The list of the token alone.
+    pub fn single(&self, token: Tok) -> usize {
+        match self.singles.get(number(token)) {
+            Some(list) => *list,
             None => 0,
         }
     }

@@ -1,15 +1,13 @@
 // What follows from sums of kids.
-use crate::masks::{beginnings, has};
+use crate::masks::{first_of, has, without_first};
 use crate::places::From;
 use crate::plan::{Event, Plan};
-use crate::rows::{Numbers, Part, row_of};
+use crate::rows::{Numbers, Part, Reader, row_of};
 use crate::settling::{By, Source};
 use gg_base::NoMemory;
-use lr_check_found::may;
 use lr_tables::State;
-use md_reader::Sym;
 use std::alloc::Global;
-use tree_core::{Tok, tokens};
+use tree_core::Tok;
 
 impl<'a> Plan<'a> {
     fn entries(&self, row: usize) -> usize {
@@ -33,7 +31,7 @@ impl<'a> Plan<'a> {
         if set == 0 {
             return Ok(());
         }
-        let below = self.lists.push(Sym::Tok(token), 0)?;
+        let below = self.single(token);
         let list = self.lists.join(alloc, list, below)?;
         self.settle(alloc, state, token, set, list, behind, By::One(kid))
     }
@@ -86,7 +84,7 @@ impl<'a> Plan<'a> {
             list,
             behind,
             seconds: 0,
-            firsts: Numbers::new(alloc)?,
+            firsts: Numbers::new(alloc),
         })?;
         if let Some(row) = self.rows.get_mut(row) {
             row.parts.push(part)?;
@@ -115,7 +113,7 @@ impl<'a> Plan<'a> {
         if set == 0 {
             return Ok(());
         }
-        let below = self.lists.push(Sym::Tok(token), 0)?;
+        let below = self.single(token);
         let list = self.lists.join(alloc, list, below)?;
         let at = self.part_of(alloc, state, token, list, behind)?;
         let seconds = match self.parts.get(at) {
@@ -126,13 +124,17 @@ impl<'a> Plan<'a> {
         if more == 0 {
             return Ok(());
         }
-        for next in tokens() {
-            if has(more, *next) {
-                let number = self.settling_number(kid, *next);
-                if let Some(part) = self.parts.get_mut(at) {
-                    part.firsts.put(*next, number);
-                }
+        let mut rest = more;
+        for _turn in 0..64_u32 {
+            let next = match first_of(rest) {
+                Some(next) => next,
+                None => break,
+            };
+            let number = self.settling_number(kid, next);
+            if let Some(part) = self.parts.get_mut(at) {
+                part.firsts.put(next, number)?;
             }
+            rest = without_first(rest);
         }
         if let Some(part) = self.parts.get_mut(at) {
             part.seconds = seconds | more;
@@ -196,17 +198,32 @@ impl<'a> Plan<'a> {
         Ok(())
     }
 
+    // The same for each token of the set.
+    fn seconds(
+        &mut self,
+        alloc: Global,
+        part: usize,
+        set: u64,
+        behind: u64,
+    ) -> Result<(), NoMemory> {
+        let mut rest = set;
+        for _turn in 0..64_u32 {
+            let next = match first_of(rest) {
+                Some(next) => next,
+                None => break,
+            };
+            self.second(alloc, part, next, behind)?;
+            rest = without_first(rest);
+        }
+        Ok(())
+    }
+
     pub fn after_seconds(&mut self, alloc: Global, part: usize, more: u64) -> Result<(), NoMemory> {
         let behind = match self.parts.get(part) {
             Some(part) => self.places_at(part.state, part.token),
             None => return Ok(()),
         };
-        for next in tokens() {
-            if has(more, *next) {
-                self.second(alloc, part, *next, behind)?;
-            }
-        }
-        Ok(())
+        self.seconds(alloc, part, more, behind)
     }
 
     // The number of a row's part.
@@ -221,21 +238,17 @@ impl<'a> Plan<'a> {
                 Some(part) => part,
                 None => return Ok(()),
             };
-            for next in tokens() {
-                if has(seconds, *next) {
-                    self.second(alloc, part, *next, more)?;
-                }
-            }
+            self.seconds(alloc, part, seconds, more)?;
         }
         Ok(())
     }
 
-    fn only_reader(&self, over: State, at: usize) -> Option<(State, Tok)> {
+    fn only_reader(&self, over: State, at: usize) -> Option<Reader> {
         let reader = self.readers.get(over.number() as usize)?.onlys.get(at)?;
         Some(*reader)
     }
 
-    fn first_reader(&self, over: State, at: usize) -> Option<(State, Tok)> {
+    fn first_reader(&self, over: State, at: usize) -> Option<Reader> {
         let reader = self.readers.get(over.number() as usize)?.firsts.get(at)?;
         Some(*reader)
     }
@@ -256,34 +269,62 @@ impl<'a> Plan<'a> {
         behind: State,
         sums: u64,
     ) -> Result<(), NoMemory> {
-        for at in 0..usize::MAX {
-            let (above, over) = match self.only_reader(state, at) {
-                Some(reader) => reader,
-                None => break,
-            };
-            let kids = over.kids();
-            if kids.len() == 1 && may(token, kids[0]) {
-                let set = sums & self.places_at(above, over);
-                self.only_sum(alloc, above, over, kid, list, Some(behind), set)?;
-            }
-        }
-        for at in 0..usize::MAX {
-            let (above, over) = match self.first_reader(state, at) {
-                Some(reader) => reader,
-                None => break,
-            };
-            let kids = over.kids();
-            if kids.len() == 2 && may(token, kids[0]) {
-                let set = sums & beginnings(kids[1]);
-                self.first_sum(alloc, above, over, kid, list, Some(behind), set)?;
-            }
-        }
+        self.read_by_onlys(alloc, state, token, kid, list, behind, sums)?;
+        self.read_by_firsts(alloc, state, token, kid, list, behind, sums)?;
         for at in 0..usize::MAX {
             let part = match self.second_reader(state, at) {
                 Some(part) => part,
                 None => break,
             };
             self.read_second(alloc, part, token, kid, list, behind, sums)?;
+        }
+        Ok(())
+    }
+
+    fn read_by_onlys(
+        &mut self,
+        alloc: Global,
+        state: State,
+        token: Tok,
+        kid: Source,
+        list: usize,
+        behind: State,
+        sums: u64,
+    ) -> Result<(), NoMemory> {
+        for at in 0..usize::MAX {
+            let reader = match self.only_reader(state, at) {
+                Some(reader) => reader,
+                None => break,
+            };
+            if has(reader.begins, token) {
+                let (above, over) = (reader.state, reader.token);
+                let set = sums & self.places_at(above, over);
+                self.only_sum(alloc, above, over, kid, list, Some(behind), set)?;
+            }
+        }
+        Ok(())
+    }
+
+    fn read_by_firsts(
+        &mut self,
+        alloc: Global,
+        state: State,
+        token: Tok,
+        kid: Source,
+        list: usize,
+        behind: State,
+        sums: u64,
+    ) -> Result<(), NoMemory> {
+        for at in 0..usize::MAX {
+            let reader = match self.first_reader(state, at) {
+                Some(reader) => reader,
+                None => break,
+            };
+            if has(reader.begins, token) {
+                let (above, over) = (reader.state, reader.token);
+                let set = sums & reader.seconds;
+                self.first_sum(alloc, above, over, kid, list, Some(behind), set)?;
+            }
         }
         Ok(())
     }

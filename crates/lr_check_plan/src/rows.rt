@@ -11,10 +11,10 @@ pub struct Numbers {
 }
 
 impl Numbers {
-    pub fn new(alloc: Global) -> Result<Self, NoMemory> {
-        let mut held = Vec::new(alloc);
-        held.resize(40, 0)?;
-        Ok(Numbers { held })
+    pub fn new(alloc: Global) -> Self {
+        Numbers {
+            held: Vec::new(alloc),
+        }
     }
 
     pub fn get(&self, token: Tok) -> usize {
@@ -24,10 +24,14 @@ impl Numbers {
         }
     }
 
-    pub fn put(&mut self, token: Tok, value: usize) {
+    pub fn put(&mut self, token: Tok, value: usize) -> Result<(), NoMemory> {
+        if self.held.len() == 0 {
+            self.held.resize(40, 0)?;
+        }
         if let Some(held) = self.held.get_mut(number(token)) {
             *held = value;
         }
+        Ok(())
     }
 }
 
@@ -64,29 +68,54 @@ pub struct Row {
     pub is_read: bool,
 }
 
+/// A reduction that some answers take: by a right side of so many symbols, to the class, at the tokens.
+#[derive(Clone, Copy, Debug)]
+pub struct Reduction {
+    pub long: usize,
+    pub class: u16,
+    pub tokens: u64,
+}
+
+/// What some answers take at a state: the tokens that are shifted, and the reductions.
+#[derive(Drop)]
+pub struct Free {
+    pub shifts: u64,
+    pub reductions: Vec<Reduction>,
+}
+
 /// Where a row stands: there are 40 tokens.
 pub fn row_of(state: State, token: Tok) -> usize {
     state.number() as usize * 40 + number(token)
+}
+
+/// A row whose only or first kid begins in a state, with the tokens that may begin the kid and, behind a
+/// first kid, the second.
+#[derive(Clone, Copy, Debug)]
+pub struct Reader {
+    pub state: State,
+    pub token: Tok,
+    pub begins: u64,
+    pub seconds: u64,
 }
 
 /// Who reads the sums that begin in a state: rows whose only kid or first kid begins there, and parts
 /// whose second kid does.
 #[derive(Drop)]
 pub struct Readers {
-    pub onlys: Vec<(State, Tok)>,
-    pub firsts: Vec<(State, Tok)>,
+    pub onlys: Vec<Reader>,
+    pub firsts: Vec<Reader>,
     pub seconds: Vec<usize>,
 }
 
 impl Row {
-    pub fn new(alloc: Global) -> Result<Self, NoMemory> {
-        Ok(Row {
+    pub fn new(alloc: Global) -> Self {
+        Row {
             places: 0,
-            numbers: Numbers::new(alloc)?,
+            numbers: Numbers::new(alloc),
             entries: Vec::new(alloc),
             parts: Vec::new(alloc),
             is_read: false,
-        })
+        }
     }
 }
 

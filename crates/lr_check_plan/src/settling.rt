@@ -1,13 +1,13 @@
 // Lists that settle, and what follows from their reductions.
-use crate::masks::{bit, has};
+use crate::masks::{bit, first_of, without_first};
 use crate::plan::{Event, Plan};
-use crate::rows::{Entry, Numbers, row_of};
+use crate::rows::{Entry, Free, Numbers, row_of};
 use gg_base::NoMemory;
-use lr_check_found::{How, Item, Leads, candidate, free_choices};
+use lr_check_found::{How, Item};
 use lr_tables::State;
 use md_reader::Sym;
 use std::alloc::Global;
-use tree_core::{Tok, tokens};
+use tree_core::Tok;
 
 /// A list of a row, by its number there.
 #[derive(Clone, Copy, Debug)]
@@ -46,6 +46,30 @@ fn add_class(classes: &mut Vec<(u16, u64)>, class: u16, behind: u64) -> Result<(
     }
     classes.push((class, behind))?;
     Ok(())
+}
+
+// Where a list's new tokens behind lead: those at which it is a sum, and the classes to which it is reduced.
+#[derive(Drop)]
+struct Ways {
+    sums: u64,
+    classes: Vec<(u16, u64)>,
+}
+
+fn ways_of(alloc: Global, free: &Free, size: usize, more: u64) -> Result<Ways, NoMemory> {
+    let mut sums = more & free.shifts;
+    let mut classes = Vec::new(alloc);
+    for reduction in free.reductions.iter() {
+        let set = more & reduction.tokens;
+        if set == 0 || reduction.long < size {
+            continue;
+        }
+        if reduction.long > size {
+            sums |= set;
+        } else {
+            add_class(&mut classes, reduction.class, set)?;
+        }
+    }
+    Ok(Ways { sums, classes })
 }
 
 impl<'a> Plan<'a> {
@@ -97,7 +121,7 @@ impl<'a> Plan<'a> {
                     behind,
                     settled: 0,
                     sums: 0,
-                    numbers: Numbers::new(alloc)?,
+                    numbers: Numbers::new(alloc),
                 })?;
                 Ok(Some(at))
             }
@@ -112,7 +136,7 @@ impl<'a> Plan<'a> {
         if let Some(row) = self.rows.get_mut(source.row) {
             if let Some(entry) = row.entries.get_mut(source.entry) {
                 entry.settled |= bit(behind);
-                entry.numbers.put(behind, self.settlings);
+                entry.numbers.put(behind, self.settlings)?;
             }
         }
         self.settlings = self.settlings.wrapping_add(1);
@@ -143,13 +167,44 @@ impl<'a> Plan<'a> {
         if more == 0 {
             return Ok(());
         }
-        for token in tokens() {
-            if has(more, *token) {
-                self.add_settling(source, *token, by)?;
-            }
+        let mut rest = more;
+        for _turn in 0..64_u32 {
+            let token = match first_of(rest) {
+                Some(token) => token,
+                None => break,
+            };
+            self.add_settling(source, token, by)?;
+            rest = without_first(rest);
         }
         self.events.push(Event::Settled(state, token, entry, more))?;
         Ok(())
+    }
+
+    // The list settles as the classes to which it is reduced.
+    fn settle_classes(
+        &mut self,
+        alloc: Global,
+        state: State,
+        token: Tok,
+        whole: Source,
+        classes: &[(u16, u64)],
+    ) -> Result<(), NoMemory> {
+        for at in 0..classes.len() {
+            let (class, set) = classes[at];
+            let list = self.lists.push(Sym::Class(class), 0)?;
+            let over = self.tables.over(state, Sym::Class(class));
+            let by = By::Reduced(whole, class);
+            self.settle(alloc, state, token, set, list, over, by)?;
+        }
+        Ok(())
+    }
+
+    fn hold_sums(&mut self, source: Source, sums: u64) {
+        if let Some(row) = self.rows.get_mut(source.row) {
+            if let Some(entry) = row.entries.get_mut(source.entry) {
+                entry.sums |= sums;
+            }
+        }
     }
 
     pub fn after_settled(
@@ -160,10 +215,8 @@ impl<'a> Plan<'a> {
         entry: usize,
         more: u64,
     ) -> Result<(), NoMemory> {
-        let source = Source {
-            row: row_of(state, token),
-            entry,
-        };
+        let row = row_of(state, token);
+        let source = Source { row, entry };
         let known = match self.known(source) {
             Some(known) => known,
             None => return Ok(()),
@@ -172,44 +225,15 @@ impl<'a> Plan<'a> {
             Some(behind) => behind,
             None => return Ok(()),
         };
-        let tables = self.tables;
-        let rules = tables.description().rules();
-        let size = self.lists.size(known.list);
-        let mut sums = 0;
-        let mut classes = Vec::new(alloc);
-        for next in tokens() {
-            if has(more, *next) {
-                for choice in free_choices(rules, tables.action(behind, *next)) {
-                    match candidate(rules, *choice, size).leads {
-                        Leads::Out(_) => sums |= bit(*next),
-                        Leads::Whole(class) => add_class(&mut classes, class, bit(*next))?,
-                        Leads::Inside => {}
-                    }
-                }
-            }
-        }
-        for at in 0..classes.len() {
-            let (class, set) = classes[at];
-            let list = self.lists.push(Sym::Class(class), 0)?;
-            let over = tables.over(state, Sym::Class(class));
-            self.settle(
-                alloc,
-                state,
-                token,
-                set,
-                list,
-                over,
-                By::Reduced(source, class),
-            )?;
-        }
-        if sums == 0 {
+        let ways = match self.free.get(behind.number() as usize) {
+            Some(free) => ways_of(alloc, free, self.lists.size(known.list), more)?,
+            None => return Ok(()),
+        };
+        self.settle_classes(alloc, state, token, source, &ways.classes)?;
+        if ways.sums == 0 {
             return Ok(());
         }
-        if let Some(row) = self.rows.get_mut(source.row) {
-            if let Some(entry) = row.entries.get_mut(source.entry) {
-                entry.sums |= sums;
-            }
-        }
-        self.read(alloc, state, token, source, known.list, behind, sums)
+        self.hold_sums(source, ways.sums);
+        self.read(alloc, state, token, source, known.list, behind, ways.sums)
     }
 }

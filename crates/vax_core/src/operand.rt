@@ -1,12 +1,11 @@
 // Operands.
-ghost use Rattle.std.specs.Prelude.{◌≡◌, ◌<◌, [], ◌∷◌, ◌++◌, length};
+ghost use Rattle.std.specs.Prelude.{◌≡◌, ◌<◌, ◌≤◌, [], ◌∷◌, ◌++◌, length, IfOk, OnOk};
 ghost use Rattle.vax_core.specs.Registers.{base_register, named_bits, operand_bits, operand_names, IsSetOf};
 
 use crate::{Reg, RegSet};
 use bitflags::Flags;
 use gg_base::Name;
-use smallvec::SmallVec;
-use std::alloc::Global;
+use std::alloc::{AllocError, Global};
 use std::marker::Model;
 
 /// A label with an offset to it, or a number alone, on 32 bits.
@@ -96,10 +95,10 @@ impl Default for Operand {
     }
 }
 
-/// At most three operands, which need no memory.
+/// At most three operands, in memory of their own.
 #[derive(Drop)]
 pub struct Operands {
-    held: SmallVec<Operand, 3>,
+    held: Vec<Operand>,
 }
 
 impl Model for Operands {
@@ -110,25 +109,36 @@ impl Model for Operands {
 
     ghost view = { λ o. o.held.items };
 
-    ghost invariant = { λ o. (length o.held.items ≤ 3) × (o.held.capacity ≡ 3) };
+    ghost invariant = { λ o. length o.held.items ≤ 3 };
 }
 
 impl Operands {
-    /// No operands.
+    /// No operands, which needs no memory.
     pub fn new(alloc: Global) -> Self
         ensures { result ≡ [] }
     {
         Operands {
-            held: SmallVec::new(alloc),
+            held: Vec::new(alloc),
         }
     }
 
-    /// One more operand, behind the others, where there are fewer than three.
-    pub fn push(&mut self, o: Operand)
-        requires { length self.old < 3 }
-        ensures { self.new ≡ self.old ++ o ∷ [] }
+    /// No operands, with room for so many, at most three.
+    pub fn with_room(alloc: Global, count: usize) -> Result<Self, AllocError>
+        requires { count ≤ 3 }
+        ensures { IfOk result (λ o. o ≡ []) }
     {
-        self.held.push_reserved(o);
+        Ok(Operands {
+            held: Vec::with_capacity(alloc, count)?,
+        })
+    }
+
+    /// One more operand, behind the others, where there are fewer than three. It needs memory where no room is left.
+    pub fn push(&mut self, o: Operand) -> Result<(), AllocError>
+        requires { length self.old < 3 }
+        ensures { OnOk result (self.new ≡ self.old ++ o ∷ []) }
+    {
+        self.held.push(o)?;
+        Ok(())
     }
 
     /// The operands from left to right.

@@ -10,7 +10,7 @@ ghost use Rattle.vax_frames.specs.Frames.{instr, frame_head, IsFrameCode};
 
 use crate::mask::entry_mask;
 use gg_base::{Name, NoMemory};
-use std::alloc::Global;
+use std::alloc::{AllocError, Global};
 use tree_core::TreeFn;
 use tree_core::spelling::function_label;
 use vax_core::{Addr, Base, CodeItem, Instr, Op, Operand, Operands, Reg};
@@ -55,22 +55,22 @@ fn instr(op: Op, operands: Operands) -> CodeItem
 }
 
 // `subl2 $n,sp`
-fn lower_sp(alloc: Global, bytes: u32) -> CodeItem
-    ensures { result ≡ item_kind.Instr (instr Subl2 (imm bytes ∷ (in_reg Sp ∷ []))) }
+fn lower_sp(alloc: Global, bytes: u32) -> Result<CodeItem, AllocError>
+    ensures { IfOk result (λ i. i ≡ item_kind.Instr (instr Subl2 (imm bytes ∷ (in_reg Sp ∷ [])))) }
 {
-    let mut operands = Operands::new(alloc);
-    operands.push(number(bytes));
-    operands.push(register(Reg::Sp));
-    instr(Op::Subl2, operands)
+    let mut operands = Operands::with_room(alloc, 2)?;
+    operands.push(number(bytes))?;
+    operands.push(register(Reg::Sp))?;
+    Ok(instr(Op::Subl2, operands))
 }
 
 // `clrl r0`
-fn clear_r0(alloc: Global) -> CodeItem
-    ensures { result ≡ item_kind.Instr (instr Clrl (in_reg R0 ∷ [])) }
+fn clear_r0(alloc: Global) -> Result<CodeItem, AllocError>
+    ensures { IfOk result (λ i. i ≡ item_kind.Instr (instr Clrl (in_reg R0 ∷ []))) }
 {
-    let mut operands = Operands::new(alloc);
-    operands.push(register(Reg::R0));
-    instr(Op::Clrl, operands)
+    let mut operands = Operands::with_room(alloc, 1)?;
+    operands.push(register(Reg::R0))?;
+    Ok(instr(Op::Clrl, operands))
 }
 
 // `ret`
@@ -91,7 +91,7 @@ fn frame_head(alloc: Global, name: &Name, mask: u16, words: u32) -> Result<Vec<C
     head.push(CodeItem::Label(function_label(alloc, name)?))?;
     head.push(CodeItem::Mask(mask))?;
     if words != 0 {
-        head.push(lower_sp(alloc, 4 * words))?;
+        head.push(lower_sp(alloc, 4 * words)?)?;
     }
     Ok(head)
 }
@@ -113,7 +113,7 @@ pub fn frame_code(
     let mut code = frame_head(alloc, &f.name, mask, words)?;
     let mut rest = body;
     code.append(&mut rest)?;
-    code.push(clear_r0(alloc))?;
+    code.push(clear_r0(alloc)?)?;
     code.push(ret(alloc))?;
     Ok(code)
 }

@@ -1,22 +1,22 @@
 // The frame round a body of one instruction, item by item.
 use crate::{frame_code, home};
 use gg_base::Name;
-use std::alloc::Global;
+use std::alloc::{AllocError, Global};
 use std::test::Fail;
 use tree_core::{LocalNumbers, TreeFn, TreeItems};
 use vax_core::{Base, CodeItem, Instr, Mode, Op, Operand, Operands, Reg};
 
-fn clears(alloc: Global, r: Reg) -> CodeItem {
-    let mut operands = Operands::new(alloc);
+fn clears(alloc: Global, r: Reg) -> Result<CodeItem, AllocError> {
+    let mut operands = Operands::with_room(alloc, 1)?;
     operands.push(Operand {
         base: Base::Reg(r),
         index: None,
-    });
-    CodeItem::Instr(Instr {
+    })?;
+    Ok(CodeItem::Instr(Instr {
         op: Op::Clrl,
         operands,
         target: None,
-    })
+    }))
 }
 
 fn op_of(item: &CodeItem) -> Option<Op> {
@@ -36,7 +36,7 @@ fn frame_round_a_body(rt: HostRuntime) -> Result<(), Fail> {
         wanted: LocalNumbers::from_vec(Vec::new(alloc)),
         items: TreeItems::from_vec(Vec::new(alloc)),
     };
-    let Ok(code) = frame_code(alloc, &f, vec![in alloc; clears(alloc, Reg::R3)]?, 3) else {
+    let Ok(code) = frame_code(alloc, &f, vec![in alloc; clears(alloc, Reg::R3)?]?, 3) else {
         return Ok(());
     };
     let items = code.as_slice();

@@ -126,12 +126,12 @@ fn operands<'a>(
     requires { length kinds.now ≤ 3 }
     ensures { Gives result (operands_front [] kinds.now (view cursor.entry)) }
 {
-    let mut read = Operands::new(alloc);
+    let mut read = Operands::with_room(alloc, kinds.len())?;
     let mut rest = cursor;
     let mut left = kinds;
     while let [kind, others @ ..] = left {
         let (o, after) = read_operand(alloc, kind.size, rest)?;
-        read.push(o);
+        read.push(o)?;
         rest = after;
         left = others;
     }

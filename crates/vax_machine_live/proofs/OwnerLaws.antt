@@ -47,33 +47,43 @@ lies [] address h = absurd (true≢false (sym h))
 lies (g ∷ gs) address h = lies_by (overlaps g address 1) g gs address refl h (lies gs address)
 
 -- each byte of a frame belongs to the frame
-owner_is : (owners : List ℕ) (number address : ℕ) (f : Frame) → IsOwned owners number f → 2139095040 ≤ address → overlaps f address 1 ≡ true → slice_index owners ((address - 2139095040) / 4) ≡ number
-owner_is owners number address f kept low inside =
+owner_is : (owners : List ℕ) (number address : ℕ) (f : Frame) → IsOwned owners number f → address < 2147483648 → overlaps f address 1 ≡ true → slice_index owners ((2147483647 - address) / 4) ≡ number
+owner_is owners number address f kept high inside =
     let p = byte_lies f address inside in
     let k = kept.aligned in
-    let from : f.fp ≤ 2139095040 + 4 * ((address - 2139095040) / 4) = omega (arith, p.low, k) in
-    let to : 2139095040 + 4 * ((address - 2139095040) / 4) < f.top = omega (arith, p.high) in
-    kept.owned ((address - 2139095040) / 4) from to
+    let from : f.fp + 4 * ((2147483647 - address) / 4 + 1) ≤ 2147483648 = omega (arith, p.low, k, high) in
+    let to : 2147483648 < f.top + 4 * ((2147483647 - address) / 4 + 1) = omega (arith, p.high, high) in
+    kept.owned ((2147483647 - address) / 4) from to
 
--- the two answers of a look at a byte's owner
-pub owned_by_none : (frames : List Frame) (owners : List ℕ) (address number : ℕ) → AreOwned frames owners → 2139095040 ≤ address → slice_index owners ((address - 2139095040) / 4) ≡ number
-    → slice_get frames number ≡ None → false ≡ in_control frames address 1
-owned_by_none frames owners address number kept low e none =
+-- a byte below all owners is no frame's
+pub owned_by_nobody : (frames : List Frame) (owners : List ℕ) (address : ℕ) → AreOwned frames owners → address < 2147483648 → length owners ≤ (2147483647 - address) / 4
+    → false ≡ in_control frames address 1
+owned_by_nobody frames owners address kept high past =
     sym (false_from_ne_true (in_control frames address 1) (λ h.
     let l = lies frames address h in
-    let same : number ≡ l.number = sym e ∙ owner_is owners l.number address l.frame (kept.each l.number l.frame l.there) low l.inside in
+    let p = byte_lies l.frame address l.inside in
+    let k = (kept.each l.number l.frame l.there).kept in
+    absurd (omega (arith, p.low, k, high, past))))
+
+-- the two answers of a look at a byte's owner
+pub owned_by_none : (frames : List Frame) (owners : List ℕ) (address number : ℕ) → AreOwned frames owners → address < 2147483648 → slice_index owners ((2147483647 - address) / 4) ≡ number
+    → slice_get frames number ≡ None → false ≡ in_control frames address 1
+owned_by_none frames owners address number kept high e none =
+    sym (false_from_ne_true (in_control frames address 1) (λ h.
+    let l = lies frames address h in
+    let same : number ≡ l.number = sym e ∙ owner_is owners l.number address l.frame (kept.each l.number l.frame l.there) high l.inside in
     none-some l.frame (sym none ∙ ap (λ (k : ℕ). slice_get frames k) same ∙ l.there)))
 
-pub owned_by : (frames : List Frame) (owners : List ℕ) (address number : ℕ) (f : Frame) → AreOwned frames owners → 2139095040 ≤ address → slice_index owners ((address - 2139095040) / 4)
+pub owned_by : (frames : List Frame) (owners : List ℕ) (address number : ℕ) (f : Frame) → AreOwned frames owners → address < 2147483648 → slice_index owners ((2147483647 - address) / 4)
     ≡ number → slice_get frames number ≡ Some f → overlaps f address 1 ≡ in_control frames address 1
-owned_by frames owners address number f kept low e there = by (overlaps f address 1) refl
+owned_by frames owners address number f kept high e there = by (overlaps f address 1) refl
   where
     by : (b : Bool) → overlaps f address 1 ≡ b → b ≡ in_control frames address 1
     by true is = sym (found frames number address f there is)
     by false is =
         sym (false_from_ne_true (in_control frames address 1) (λ h.
         let l = lies frames address h in
-        let same : number ≡ l.number = sym e ∙ owner_is owners l.number address l.frame (kept.each l.number l.frame l.there) low l.inside in
+        let same : number ≡ l.number = sym e ∙ owner_is owners l.number address l.frame (kept.each l.number l.frame l.there) high l.inside in
         let frame : f ≡ l.frame = same_Some f l.frame (sym there ∙ ap (λ (k : ℕ). slice_get frames k) same ∙ l.there) in
         true≢false (sym l.inside ∙ ap (λ (x : Frame). overlaps x address 1) (sym frame) ∙ is)))
 
@@ -180,33 +190,54 @@ between n a b = by (nat_lt n a) (nat_lt n b) refl refl
     by false true e h = inr (inl (ltb-false n a e, ltb-true n b h))
     by false false e h = inr (inr (ltb-false n b h))
 
-pub one_more : (frames : List Frame) (f : Frame) (old new : List ℕ) → AreOwned frames old → HasRoom frames f.fp f.top
-    → Gives (length frames) ((f.fp - 2139095040) / 4) ((f.top - 2139095040) / 4) old new → AreOwned (frames ++ f ∷ []) new
-one_more frames f old new kept room gives = record { each = λ number g e. by number g (at_end frames f g number e) }
+-- owners that go on further down
+pub further : (frames : List Frame) (old new : List ℕ) → length old ≤ length new → ((place : ℕ) → place < length old → slice_index new place ≡ slice_index old place)
+    → AreOwned frames old → AreOwned frames new
+further frames old new more same owned = record {
+  each = λ number f e.
+      let was = owned.each number f e in
+      let kept = was.kept in
+      record {
+        long = was.long;
+        aligned = was.aligned;
+        kept = omega (arith, kept, more);
+        owned = λ place from to. same place (omega (arith, kept, from)) ∙ was.owned place from to;
+      };
+}
+
+pub one_more : (frames : List Frame) (f : Frame) (old new : List ℕ) → AreOwned frames old → HasRoom frames f.fp f.top → length new ≡ length old → (2147483648 - f.fp) / 4 ≤ length old
+    → Gives (length frames) ((2147483648 - f.top) / 4) ((2147483648 - f.fp) / 4) old new → AreOwned (frames ++ f ∷ []) new
+one_more frames f old new kept room long reached gives = record { each = λ number g e. by number g (at_end frames f g number e) }
   where
-    still : (number : ℕ) (g : Frame) → slice_get frames number ≡ Some g → (place : ℕ) → g.fp ≤ 2139095040 + 4 * place → 2139095040 + 4 * place < g.top
-        → (place < (f.fp - 2139095040) / 4) ⊎ ((((f.fp - 2139095040) / 4 ≤ place) × (place < (f.top - 2139095040) / 4)) ⊎ ((f.top - 2139095040) / 4 ≤ place)) → slice_index new place ≡ number
+    still : (number : ℕ) (g : Frame) → slice_get frames number ≡ Some g → (place : ℕ) → g.fp + 4 * (place + 1) ≤ 2147483648 → 2147483648 < g.top + 4 * (place + 1)
+        → (place < (2147483648 - f.top) / 4) ⊎ ((((2147483648 - f.top) / 4 ≤ place) × (place < (2147483648 - f.fp) / 4)) ⊎ ((2147483648 - f.fp) / 4 ≤ place)) → slice_index new place ≡ number
     still number g there place from to (inl lt) = gives.below place lt ∙ (kept.each number g there).owned place from to
     still number g there place from to (inr (inr le)) = gives.above place le ∙ (kept.each number g there).owned place from to
     still number g there place from to (inr (inl within)) =
         let low = room.low in
+        let high = room.high in
         let begins = room.begins in
         let ends = room.ends in
-        let above : f.fp ≤ 2139095040 + 4 * place = omega (arith, within.0, low, begins) in
-        let under : 2139095040 + 4 * place < f.top = omega (arith, within.1, ends) in
-        absurd (true≢false (sym (found frames number (2139095040 + 4 * place) g there (byte_is g (2139095040 + 4 * place) from to)) ∙ room.free (2139095040 + 4 * place) above under))
+        let address = 2147483648 - 4 * (place + 1) in
+        let above : f.fp ≤ address = omega (arith, within.1, low, high, begins) in
+        let under : address < f.top = omega (arith, within.0, high, ends, from) in
+        let its : g.fp ≤ address = omega (arith, from) in
+        let own : address < g.top = omega (arith, to, from) in
+        absurd (true≢false (sym (found frames number address g there (byte_is g address its own)) ∙ room.free address above under))
 
     own : IsOwned new (length frames) f
     own = record {
       long = room.long;
       aligned = room.begins;
-      owned = λ place from to. gives.inside place (omega (arith, from, room.low, room.begins)) (omega (arith, to, room.ends));
+      kept = omega (arith, reached, long, room.low, room.begins);
+      owned = λ place from to. gives.inside place (omega (arith, to, room.high, room.ends)) (omega (arith, from, room.low, room.begins));
     }
 
     by : (number : ℕ) (g : Frame) → (slice_get frames number ≡ Some g) ⊎ ((number ≡ length frames) × (f ≡ g)) → IsOwned new number g
     by number g (inl there) = record {
       long = (kept.each number g there).long;
       aligned = (kept.each number g there).aligned;
-      owned = λ place from to. still number g there place from to (between place ((f.fp - 2139095040) / 4) ((f.top - 2139095040) / 4));
+      kept = subst (λ (n : ℕ). 2147483648 ≤ g.fp + 4 * n) (sym long) (kept.each number g there).kept;
+      owned = λ place from to. still number g there place from to (between place ((2147483648 - f.top) / 4) ((2147483648 - f.fp) / 4));
     }
     by number g (inr x) = subst (λ (h : Frame). IsOwned new number h) x.1 (subst (λ (n : ℕ). IsOwned new n f) (sym x.0) own)

@@ -1,22 +1,25 @@
--- Which frame each longword of the stack belongs to. The stack begins at 2139095040 and ends at 2147483648.
-use Rattle.std.specs.Prelude.{◌≡◌, ◌+◌, ◌*◌, ◌%◌, ◌≤◌, ◌<◌, ℕ, false, List, Some, slice_get, slice_index, vec_len, vec_capacity}
+-- Which frame each longword of the stack belongs to. The stack begins at 2139095040 and ends at 2147483648. Its longwords are numbered from
+-- the end down: the one at place n begins at 2147483648 - 4 * (n + 1).
+use Rattle.std.specs.Prelude.{◌≡◌, ◌+◌, ◌*◌, ◌%◌, ◌≤◌, ◌<◌, ℕ, false, List, Some, slice_get, slice_index, length, vec_capacity}
 use Rattle.std.specs.Global.{Vec}
 use Rattle.vax_machine_live.specs.declared.frame.Frame.{Frame}
 use Rattle.vax_machine_live.specs.Control.{in_control}
 
--- the frame of this number has control words, and each of them belongs to it
+-- the frame of this number has control words, the owner of each is kept, and it is that frame
 pub record IsOwned (owners : List ℕ) (number : ℕ) (f : Frame) : Type 0 where
   pub long : f.fp + 4 ≤ f.top
   pub aligned : f.fp % 4 ≡ 0
-  pub owned : (place : ℕ) → f.fp ≤ 2139095040 + 4 * place → 2139095040 + 4 * place < f.top → slice_index owners place ≡ number
+  pub kept : 2147483648 ≤ f.fp + 4 * length owners
+  pub owned :
+      (place : ℕ) → f.fp + 4 * (place + 1) ≤ 2147483648 → 2147483648 < f.top + 4 * (place + 1) → slice_index owners place ≡ number
 
 pub record AreOwned (frames : List Frame) (owners : List ℕ) : Type 0 where
   pub each : (number : ℕ) (f : Frame) → slice_get frames number ≡ Some f → IsOwned owners number f
 
--- what a machine keeps of its live frames: room for 4,096 of them, and the owner of each longword of the stack
+-- what a machine keeps of its live frames: room for 4,096 of them and for the owner of each longword of the stack, and the owners
 pub record AreKept (frames : Vec Frame) (owners : Vec ℕ) : Type 0 where
   pub room : vec_capacity frames ≡ 4096
-  pub whole : vec_len owners ≡ 2097152
+  pub whole : vec_capacity owners ≡ 2097152
   pub owned : AreOwned frames.items owners.items
 
 -- control words from an address up to another lie in the stack, at multiples of 4, and none of them is a live frame's

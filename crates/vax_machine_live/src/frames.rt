@@ -1,10 +1,11 @@
 // All live frames, and which longwords of the stack hold their control words.
-ghost use Rattle.std.specs.Prelude.{◌≡◌, ◌+◌, ◌-◌, ◌≤◌, ◌<◌, ◌++◌, [], ◌∷◌, length, take, slice_get, vec_len, IfOk};
+ghost use Rattle.std.specs.Prelude.{◌≡◌, ℕ, ◌+◌, ◌-◌, ◌≤◌, ◌<◌, ◌++◌, [], ◌∷◌, length, take, slice_get, slice_index};
+ghost use Rattle.std.specs.Prelude.{vec_capacity, IfOk};
 ghost use Rattle.vax_machine_live.specs.Control.{in_control};
 ghost use Rattle.vax_machine_live.specs.Owners.{AreOwned, HasRoom, Gives};
 
 use crate::frame::Frame;
-use gg_base::limits::{FRAME_LIMIT, STACK_SIZE, STACK_START};
+use gg_base::limits::{FRAME_LIMIT, STACK_SIZE, STACK_TOP};
 use std::alloc::{AllocError, Global};
 use std::marker::Model;
 
@@ -12,7 +13,7 @@ use std::marker::Model;
 #[derive(Drop)]
 pub struct Frames {
     held: Vec<Frame>,
-    /// For each longword of the stack the number of the frame whose control word it was last.
+    /// For each longword of the stack, from its top down as far as one was a control word: the number of the frame whose it was last.
     owners: Vec<u16>,
 }
 
@@ -28,18 +29,25 @@ impl Model for Frames {
     ghost invariant = { λ f. AreKept f.held f.owners };
 }
 
-// So many longwords that are no frame's.
-fn no_owners(alloc: Global, count: usize) -> Result<Vec<u16>, AllocError>
-    ensures { IfOk result (λ v. vec_len v ≡ count) }
+// Goes down the stack until so many longwords have an owner. One that never was a control word gets any number.
+fn reach(owners: &mut Vec<u16>, count: usize)
+    requires { count ≤ vec_capacity owners.old }
+    ensures long { count ≤ length owners.new.items }
+    ensures more { length owners.old.items ≤ length owners.new.items }
+    ensures kept { (place : ℕ) → place < length owners.old.items → slice_index owners.new.items place ≡ slice_index owners.old.items place }
+    ensures room { vec_capacity owners.new ≡ vec_capacity owners.old }
 {
-    vec![in alloc; 0u16; count]
+    while owners.len() < count {
+        owners.push_reserved(0);
+    }
 }
 
 // The longwords from a place up to another belong to the frame of this number from now on.
 fn give(owners: &mut [u16], first: usize, last: usize, number: u16)
     requires order { first ≤ last }
     requires within { last ≤ length owners.old }
-    ensures { Gives number first last owners.old owners.new }
+    ensures gives { Gives number first last owners.old owners.new }
+    ensures long { length owners.new ≡ length owners.old }
 {
     owners[first..last].fill(number);
 }
@@ -47,26 +55,27 @@ fn give(owners: &mut [u16], first: usize, last: usize, number: u16)
 // Whether the byte of the stack at an address is a control word of one of these frames.
 fn is_control(frames: &[Frame], owners: &[u16], address: u32) -> bool
     requires owned { AreOwned frames.now owners.now }
-    requires whole { length owners.now ≡ 2097152 }
-    requires low { 2139095040 ≤ address }
     requires high { address < 2147483648 }
     ensures { result ≡ in_control frames.now address 1 }
 {
-    let owner = owners[(address - STACK_START) as usize / 4];
-    match frames.get(owner as usize) {
+    let place = (STACK_TOP - 1 - address) as usize / 4;
+    if owners.len() <= place {
+        return false;
+    }
+    match frames.get(owners[place] as usize) {
         None => false,
         Some(f) => f.holds(address),
     }
 }
 
 impl Frames {
-    /// No frames, with memory for as many as there may be.
+    /// No frames, with memory for as many as there may be and for all their control words.
     pub fn new(alloc: Global) -> Result<Self, AllocError>
         ensures { IfOk result (λ f. f ≡ []) }
     {
         Ok(Frames {
             held: Vec::with_capacity(alloc, FRAME_LIMIT as usize)?,
-            owners: no_owners(alloc, STACK_SIZE as usize / 4)?,
+            owners: Vec::with_capacity(alloc, STACK_SIZE as usize / 4)?,
         })
     }
 
@@ -97,9 +106,10 @@ impl Frames {
         requires room { HasRoom self.old f.fp f.top }
         ensures { self.new ≡ self.old ++ f ∷ [] }
     {
-        let first = (f.fp - STACK_START) as usize / 4;
-        let last = (f.top - STACK_START) as usize / 4;
+        let first = (STACK_TOP - f.top) as usize / 4;
+        let last = (STACK_TOP - f.fp) as usize / 4;
         let number = self.held.len() as u16;
+        reach(&mut self.owners, last);
         give(self.owners.as_mut_slice(), first, last, number);
         self.held.push_reserved(f);
     }

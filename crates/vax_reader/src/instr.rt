@@ -53,12 +53,12 @@ fn operands<'a>(
     requires { length kinds.now ≤ 3 }
     ensures { Gives result (operands_front [] kinds.now target bytes.now) }
 {
-    let mut read = Operands::new(alloc);
+    let mut read = Operands::with_room(alloc, kinds.len())?;
     let mut rest = bytes;
     let mut left = kinds;
     while let [_, others @ ..] = left {
         let (o, after) = operand(alloc, rest)?;
-        read.push(o);
+        read.push(o)?;
         let Some(behind) = comma(is_last(others, target), after) else {
             return Err(LineFault::NotOfForm);
         };

@@ -138,8 +138,8 @@ impl<'a> Filling<'a> {
             return Ok(plain_return(self.alloc));
         };
         let target = Some(self.callee_name(function)?);
-        let mut operands = Operands::new(self.alloc);
-        operands.push(alone(Base::Imm(addr_number(count))));
+        let mut operands = Operands::with_room(self.alloc, 1)?;
+        operands.push(alone(Base::Imm(addr_number(count))))?;
         Ok(Instr {
             op: Op::Calls,
             operands,
@@ -150,9 +150,9 @@ impl<'a> Filling<'a> {
     fn operands(self, forms: &[Form]) -> Result<Operands, NoMemory>
         ensures { IfOk result (λ os. os ≡ map (filled self.entry.program.now self.entry.holes.now self.entry.zero.now) (take 3 forms.now)) }
     {
-        let mut operands = Operands::new(self.alloc);
+        let mut operands = Operands::with_room(self.alloc, forms.len().min(3))?;
         for form in forms.iter().take(3) {
-            operands.push(self.filled(*form)?);
+            operands.push(self.filled(*form)?)?;
         }
         Ok(operands)
     }

@@ -3,12 +3,12 @@ use Rattle.tree_core.specs.Valid.{IsValid}
 use Rattle.c_program.specs.Programs.{program}
 use Rattle.c_lower_follows.proofs.Law.{lowering_follows}
 use Rattle.c_lower_valid.proofs.Law.{lowered_is_valid}
-use Rattle.c_lower_bounds.proofs.Law.{each_function_fits, functions_stay}
+use Rattle.c_lower_bounds.proofs.Law.{functions_stay}
 use Rattle.c_lower_calm.specs.Claim.{TreesAreCalm, PlainStatementsStand}
 use Rattle.c_lower_calm.proofs.Law.{each_tree_is_calm}
 use Rattle.c_lower_calm.proofs.Standing.{plain_statements_are_one_tree}
 use Rattle.c_lower.specs.Claims.{FollowsAlways, HasParts}
-use Rattle.c_lower.proofs.Sound.{sound, lowered_has, few_args, labels_handed}
+use Rattle.c_lower.proofs.Sound.{sound, lowered_has, few_args, fits_handed, labels_handed}
 use Rattle.c_lower.proofs.lower.Goals as goal
 
 pub returns-clause-follows : goal.returns-clause-follows
@@ -35,7 +35,7 @@ returns-clause-parts c =
     lowered_has c.args.source.now c.plain.result.now c.plain.ensures c.lower.result (HasParts p) c.lower.ensures.trees
     (record {
       count = stay.count;
-      functions = λ n g f e d. record { same = stay.functions n g f e d; fits = each_function_fits p n g f e d };
+      functions = λ n g f e d. record { same = stay.functions n g f e d; fits = fits_handed p safe n g f e d };
       objects = stay.objects;
       few = few_args p safe;
       labels = labels_handed p safe;

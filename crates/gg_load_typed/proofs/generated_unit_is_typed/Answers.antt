@@ -4,4 +4,5 @@ use Rattle.gg_load_typed.proofs.Texts.{source_typed}
 use Rattle.gg_load_typed.proofs.generated_unit_is_typed.Goals as goal
 
 pub returns : goal.returns
-returns c = λ k low. (c.text_law.ensures (source_unit k).externals 0).found (source_program k) (source_typed k 0 low)
+returns c = λ k ends low.
+    (c.text_law.ensures (source_unit k).externals ends (source_unit k).end).found (source_program k) (source_typed k ends (source_unit k).end low)

@@ -8,7 +8,8 @@ use Rattle.c_lower_code.proofs.Slices.{row_goes, room_kept}
 use Rattle.c_lower_code.proofs.statement.+statement.Goals as goal
 
 pub row-loop-i-init : goal.row-loop-i-init
-row-loop-i-init t c = row_begins c.args.frame.locals c.args.frame.functions c.args.frame.first (destination c.args.frame.out) (done c.nothing-whole.result) (acts c.args.all.now) c.args.broken c.args.onward c.args.l c.nothing-whole.ensures
+row-loop-i-init t c = row_begins c.args.frame.locals c.args.frame.functions c.args.frame.first (destination c.args.frame.out)
+    (done c.nothing-whole.result) (acts c.args.all.now) c.args.broken c.args.onward c.args.l c.nothing-whole.ensures
 
 pub statement-returns-in-Block : goal.statement-returns-in-Block
 statement-returns-in-Block t c =
@@ -21,6 +22,7 @@ row-loop-i-preserved t c =
     let next = done c.in_ok-whole.whole in
     let put : next ≡ two_done w one = c.in_ok-whole.ensures in
     let is = c.in_ok-one.ensures in
-    let goes = row_goes c.args.frame.locals c.args.frame.functions c.args.frame.first (destination c.args.frame.out) w one next _ c.args.all.now c.loop-i.i c.index-all-i.result c.args.broken c.args.onward c.loop-i-test.true
+    let goes = row_goes c.args.frame.locals c.args.frame.functions c.args.frame.first (destination c.args.frame.out)
+    w one next _ c.args.all.now c.loop-i.i c.index-all-i.result c.args.broken c.args.onward c.loop-i-test.true
     c.index-all-i.is c.loop-i.invariant.0 is put in
     (goes, room_kept c.args.frame.first w one next c.loop-i.invariant.1 put)

@@ -8,7 +8,8 @@ use Rattle.c_lower_code.proofs.Slices.{declare_on, room_kept}
 use Rattle.c_lower_code.proofs.statement.declare.Goals as goal
 
 pub loop-i-init : goal.loop-i-init
-loop-i-init c = declare_begins c.args.frame.locals c.args.frame.functions c.args.frame.first (destination c.args.frame.out) (done c.nothing-whole.result) (map declaration c.args.ds.now) (acts c.args.rest.now) c.args.l c.nothing-whole.ensures
+loop-i-init c = declare_begins c.args.frame.locals c.args.frame.functions c.args.frame.first (destination c.args.frame.out)
+    (done c.nothing-whole.result) (map declaration c.args.ds.now) (acts c.args.rest.now) c.args.l c.nothing-whole.ensures
 
 pub loop-i-preserved : goal.loop-i-preserved
 loop-i-preserved c =
@@ -17,6 +18,7 @@ loop-i-preserved c =
     let next = done c.in_ok-whole.whole in
     let put : next ≡ two_done w one = c.in_ok-whole.ensures in
     let is = c.in_ok-one.ensures in
-    let goes = declare_on c.args.frame.locals c.args.frame.functions c.args.frame.first (destination c.args.frame.out) w one next _ c.args.ds.now c.loop-i.i c.index-ds-i.result (acts c.args.rest.now) c.loop-i-test.true
+    let goes = declare_on c.args.frame.locals c.args.frame.functions c.args.frame.first (destination c.args.frame.out)
+    w one next _ c.args.ds.now c.loop-i.i c.index-ds-i.result (acts c.args.rest.now) c.loop-i-test.true
     c.index-ds-i.is c.loop-i.invariant.0 is put in
     (goes, room_kept c.args.frame.first w one next c.loop-i.invariant.1 put)

@@ -12,15 +12,20 @@ use Rattle.lr_check_decided.proofs.Calming.{none_at}
 use Rattle.lr_check_decided.proofs.circles.find_circle.Goals as goal
 
 pub loop-number-init : goal.loop-number-init
-loop-number-init c = λ n lt. absurd (omega (arith, lt))
+loop-number-init c = record { right = c.new-held.ensures (automaton_of c.args.tables.now); calm = λ n lt. absurd (omega (arith, lt)) }
 
 pub loop-number-preserved : goal.loop-number-preserved
-loop-number-preserved c = up_to c.loop-number.number
-    (λ (i : ℕ). (e : Settling) (x : Place) (s : List Sym) → IsSettlingAt c.args.found.now i e → IsPlaceAt c.args.found.now e.place x → IsList c.args.found.now.lists e.list s →
-    Calms (automaton_of c.args.tables.now) x.state x.behind s)
-    c.loop-number.number c.loop-number.invariant refl
-    (none_at c.in_ok-flaw.field-0 ((e : Settling) (x : Place) (s : List Sym) → IsSettlingAt c.args.found.now c.loop-number.number e → IsPlaceAt c.args.found.now e.place x
-    → IsList c.args.found.now.lists e.list s → Calms (automaton_of c.args.tables.now) x.state x.behind s) c.in_default.is c.in_ok-flaw.ensures.none)
+loop-number-preserved c = record {
+  right = c.in_ok-flaw.ensures.right;
+  calm = up_to c.loop-number.number
+      (λ (i : ℕ). (e : Settling) (x : Place) (s : List Sym) → IsSettlingAt c.args.found.now i e → IsPlaceAt c.args.found.now e.place x → IsList c.args.found.now.lists e.list s →
+      Calms (automaton_of c.args.tables.now) x.state x.behind s)
+      c.loop-number.number c.loop-number.invariant.calm refl
+      (none_at c.in_ok-flaw.field-0 ((e : Settling) (x : Place) (s : List Sym) → IsSettlingAt c.args.found.now c.loop-number.number e → IsPlaceAt c.args.found.now e.place x
+      → IsList c.args.found.now.lists e.list s → Calms (automaton_of c.args.tables.now) x.state x.behind s) c.in_default.is c.in_ok-flaw.ensures.none);
+}
 
 pub returns-clause-none : goal.returns-clause-none
-returns-clause-none c = λ i e x s at. c.loop-number.invariant i (let lt = slice_get_within c.args.found.now.settlings i e at in omega (arith, lt, ap length c.settlings-number-end.ensures)) e x s at
+returns-clause-none c = λ i e x s at.
+    let lt = slice_get_within c.args.found.now.settlings i e at in
+    c.loop-number.invariant.calm i (omega (arith, lt, ap length c.settlings-number-end.ensures)) e x s at

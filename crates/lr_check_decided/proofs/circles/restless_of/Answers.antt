@@ -5,6 +5,7 @@ use Rattle.lr_check_sets.specs.Table.{productions, automaton_of}
 use Rattle.lr_check_found.specs.Lists.{ListsView}
 use Rattle.lr_check_decided.specs.Calm.{AreCalm, AreStuck, AllMarked}
 use Rattle.lr_check_decided.proofs.Calming.{if_not_some, none_calm}
+use Rattle.lr_check_decided.proofs.Holding.{held_calm}
 use Rattle.lr_check_decided.proofs.Circling.{calm_end, calm_list, restless_list}
 use Rattle.lr_check_decided.proofs.circles.restless_of.Goals as goal
 
@@ -40,8 +41,8 @@ returns-in-Some-first_unmarked-clause-some c =
       c.in_ok-marks.ensures.long,
     )
 
-pub returns-in-None-first_unmarked-clause-none : goal.returns-in-None-first_unmarked-clause-none
-returns-in-None-first_unmarked-clause-none c = λ s is.
+pub returns-in_ok-hold-in-None-first_unmarked-clause-none : goal.returns-in_ok-hold-in-None-first_unmarked-clause-none
+returns-in_ok-hold-in-None-first_unmarked-clause-none c = λ s is.
     let t = c.args.tables.now in
     let f = c.args.found.now in
     let e = c.args.settling.now in
@@ -50,3 +51,15 @@ returns-in-None-first_unmarked-clause-none c = λ s is.
     calm_list t f c.requires.at.0 e x c.in-Some.state c.requires.complete.found c.requires.at.1 c.in-Some.is c.requires.place _ _ _ c.free_choices-free.result.now c.description.ensures
     c.rules-rules.ensures c.action.ensures.value c.free_choices-free.ensures c.get-size.result.now _ lists refl c.deref.result.now
     (subst (AreCalm (automaton_of t) x.state x.behind) (sym c.deref.ensures.value) c.in_ok-marks.ensures.calm) c.in-None-first_unmarked.ensures.none s is
+
+pub returns-then-are_calm-clause-none : goal.returns-then-are_calm-clause-none
+returns-then-are_calm-clause-none c = λ s is.
+    let t = c.args.tables.now in
+    let f = c.args.found.now in
+    let e = c.args.settling.now in
+    let x = c.args.place.now in
+    let h = c.are_calm.ensures c.if-are_calm.true in
+    let lists = c.get-size.ensures ∙ ap (λ (v : ListsView). slice_index_or v.all e.list []) c.lists.ensures in
+    calm_list t f c.requires.at.0 e x c.in-Some.state c.requires.complete.found c.requires.at.1 c.in-Some.is c.requires.place _ _ _ c.free_choices-free.result.now c.description.ensures
+    c.rules-rules.ensures c.action.ensures.value c.free_choices-free.ensures c.get-size.result.now _ lists refl h.calm.marks.items
+    (held_calm (automaton_of t) c.args.held.now x.state x.behind c.requires.right h.calm h.held) h.marked s is

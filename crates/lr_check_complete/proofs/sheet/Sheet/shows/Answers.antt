@@ -18,6 +18,6 @@ returns-in-Some-row c = λ u.
     let row = c.in-Some-row.row.now in
     record {
       each = λ x at is_sum.
-          subst (λ (z : Place). (r : Row) × (IsRowAt c.args.self.now z.state z.token r × ((l : Line) × (Contains r.lines.items l × IsSumLine e.list z.behind l)))) (same_Some y x (sym there ∙ at))
+          subst (λ (z : Place). (r : Row) × (IsRowAt c.args.self.now z.state z.token r × ((l : Line) × (Contains r.lines.items l × IsSumLine e z.behind l)))) (same_Some y x (sym there ∙ at))
           (row, (c.in-Some-row.ensures.at, (h.0, (subst (λ (ls : List Line). Contains ls h.0) c.deref.ensures.value h.1.0, h.1.1))));
     }

@@ -9,7 +9,7 @@ use Rattle.lr_check_found.proofs.Reading.{looked_at}
 use Rattle.lr_check_sets.specs.Table.{automaton_of}
 use Rattle.lr_check_found.proofs.Growing.{has_made_grows}
 use Rattle.lr_check_found.proofs.Settled.{relisted_found, relisted_more}
-use Rattle.lr_check_found.proofs.Added.{has_kids, Listed, listed, not_held, added, on_ok}
+use Rattle.lr_check_found.proofs.Added.{has_kids, Listed, listed, added, on_ok}
 use Rattle.lr_check_found.proofs.found.Found.add_settling.Goals as goal
 
 pub list_by-requires-clause-upper : goal.list_by-requires-clause-upper
@@ -27,14 +27,6 @@ state_by-behind-requires c = (
   has_made_grows (automaton_of c.args.tables.now) c.args.self.now _ (relisted_more c.args.self.now _ c.in_ok-list.ensures.rest) c.args.number
       c.args.how c.requires.made,
 )
-
-pub push_settling-requires-clause-absent : goal.push_settling-requires-clause-absent
-push_settling-requires-clause-absent c =
-    let A = automaton_of c.args.tables.now in
-    let f1 = c.list_by.new.self in
-    let found1 : IsFound A f1 = relisted_found A c.args.self.now f1 c.requires.found c.in_ok-list.ensures.rest in
-    let e : Settling = record { place = c.args.number; list = c.in_ok-list.list; behind = c.state_by-behind.result; is_sum = c.leads_out-is_sum.result; how = c.args.how } in
-    not_held A f1 e found1 (λ i d at p l. true≢false (sym (c.settles.ensures.absent A i d found1 at p l) ∙ c.if-settles.false))
 
 pub returns-clause-found : goal.returns-clause-found
 returns-clause-found c =
