@@ -1,5 +1,6 @@
 -- Functions with a block and without, and what a function's body is put together of.
 use Rattle.std.proofs.Common.{◌≡◌, ◌≢◌, ℕ, zero, suc, length, refl, ap, sym, ◌∙◌}
+use Rattle.c_program.specs.Statements.{SomeActions}
 use Rattle.c_program.specs.Programs.{ARoutine}
 use Rattle.c_lower_scheme.specs.Trees.{Num}
 use Rattle.c_lower_scheme.specs.Parts.{Lowered, Emitted, Destination, AsResult, Releasing, nothing, due, delivered}
@@ -29,16 +30,17 @@ in_with size first pointer zero l ne = absurd (ne refl)
 in_with size first pointer (suc block) l ne = refl
 
 -- a body by its parts
-pub body_is : (pointer count l : ℕ) (g : ARoutine) (size functions first : ℕ) (out : Destination) (begin body end rest : Emitted) (zero_due : Lowered)
+pub body_is : (pointer count l : ℕ) (g : ARoutine) (size functions first : ℕ) (out : Destination) (row : SomeActions) (begin body end rest : Emitted) (zero_due : Lowered)
     → size ≡ length g.locals → first ≡ first_temporary (length g.locals) g.block → functions ≡ count → out ≡ way_out pointer (length g.locals) g.block
-    → begin ≡ way_in size first pointer g.block l → body ≡ lower_row size functions first out g.body 0 0 begin.labels
+    → row ≡ g.body → begin ≡ way_in size first pointer g.block l → body ≡ lower_row size functions first out row 0 0 begin.labels
     → zero_due ≡ due (Num 0) first body.labels → end ≡ delivered out zero_due → rest ≡ two_done body end
     → body_of pointer count g l ≡ two_done begin rest
-body_is pointer count l g size functions first out begin body end rest zero_due sizes firsts counts outs begins bodies dues ends rests =
+body_is pointer count l g size functions first out row begin body end rest zero_due sizes firsts counts outs rows begins bodies dues ends rests =
     let ending : end ≡ delivered out (due (Num 0) first body.labels) = ends ∙ ap (delivered out) dues in
     let resting : two_done begin rest ≡ two_done begin (two_done body (delivered out (due (Num 0) first body.labels))) =
     ap (two_done begin) (rests ∙ ap (two_done body) ending) in
-    let of_body = ap (λ b. two_done begin (two_done b (delivered out (due (Num 0) first b.labels)))) bodies in
+    let statements : body ≡ lower_row size functions first out g.body 0 0 begin.labels = bodies ∙ ap (λ r. lower_row size functions first out r 0 0 begin.labels) rows in
+    let of_body = ap (λ (b : Emitted). two_done begin (two_done b (delivered out (due (Num 0) first b.labels)))) statements in
     let of_begin = ap (λ (b : Emitted). two_done b (two_done (lower_row size functions first out g.body 0 0 b.labels)
     (delivered out (due (Num 0) first (lower_row size functions first out g.body 0 0 b.labels).labels)))) begins in
     let of_size = ap (λ s. body_by s functions first pointer out g l) sizes in

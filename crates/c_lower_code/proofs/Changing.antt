@@ -1,8 +1,7 @@
 -- A place that is read and then assigned to, put together piece by piece.
-use Rattle.std.proofs.Common.{◌≡◌, ℕ, suc, List, [], ◌∷◌, ◌++◌, Bool, not, refl, ap, sym, ◌∙◌, append_assoc}
-use Rattle.c_types.specs.declared.types.CType.{CType}
+use Rattle.std.proofs.Common.{◌≡◌, ℕ, suc, List, [], ◌∷◌, ◌++◌, Bool, not, append_assoc}
 use Rattle.c_lower_scheme.specs.Trees.{Tree, Item, Loc, AssignLoc}
-use Rattle.c_lower_scheme.specs.Parts.{Lowered, Located, Assignable, Where, is_nil}
+use Rattle.c_lower_scheme.specs.Parts.{Lowered, Located, Where, is_nil}
 use Rattle.c_lower_scheme.specs.Saving.{saving, saved, next_if}
 use Rattle.c_lower_scheme.specs.Places.{holding, held, read_from, assign_to}
 use Rattle.c_lower_scheme.specs.Assignments.{must_keep, update_ready, postfix}

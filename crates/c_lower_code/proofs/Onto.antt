@@ -4,11 +4,10 @@ use Rattle.c_types.specs.declared.types.Integer.{Integer}
 use Rattle.c_types.specs.declared.types.Integer.TheVariants as ints
 use Rattle.c_types.specs.declared.typed.ArithmeticOperator.{ArithmeticOperator}
 use Rattle.tree_core.specs.declared.tree.Leaf.{Leaf}
-use Rattle.tree_core.specs.declared.program.TreeItem.{TreeItem}
 use Rattle.tree_core.specs.declared.program.TreeItem.TheVariants as tree_item
 use Rattle.tree_core.specs.declared.token.Tok.TheVariants as tok
 use Rattle.tree_core.specs.Attributes.{end_leaf}
-use Rattle.c_lower_scheme.specs.Trees.{Tree, Num, Gaddr, Loc, Arg, Indir, Conv, Neg, Com, Bin, Item, Label, AssignLoc, AssignArg, AssignMem, Cbr, Jump, Push, Call, Save, Ret}
+use Rattle.c_lower_scheme.specs.Trees.{Tree, Num, Gaddr, Loc, Arg, Indir, Conv, Neg, Com, Bin}
 use Rattle.c_lower_scheme.specs.Spelling.{leaf, plain, operator_token, indir_onto, conv_onto, leaves_onto, assign_onto, spelled}
 use Rattle.tree_core.specs.declared.tree.Att.TheVariants as att
 use Rattle.c_lower_code.specs.declared.item.Item.{Item as Code}

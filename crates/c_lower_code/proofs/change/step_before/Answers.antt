@@ -1,5 +1,5 @@
 use Rattle.std.proofs.Common.{rules, ap, ◌∙◌}
-use Rattle.c_lower_code.specs.Views.{low, found, storage, tree, item, all_items}
+use Rattle.c_lower_code.specs.Views.{found, storage, tree, item, all_items}
 use Rattle.c_lower_scheme.specs.Assignments.{step_tree, must_keep}
 use Rattle.c_lower_code.proofs.Changing.{stepped}
 use Rattle.c_lower_code.proofs.change.step_before.Goals as goal

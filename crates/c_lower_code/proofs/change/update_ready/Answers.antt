@@ -1,4 +1,4 @@
-use Rattle.std.proofs.Common.{rules, ap, not}
+use Rattle.std.proofs.Common.{ap, not}
 use Rattle.c_lower_code.specs.Views.{low, found, storage, tree, all_items}
 use Rattle.c_lower_code.specs.Changes.{applied}
 use Rattle.c_lower_code.proofs.Changing.{updated}

@@ -1,4 +1,4 @@
-use Rattle.std.proofs.Common.{ℕ, ◌+◌, ◌*◌}
+use Rattle.std.proofs.Common.{◌+◌, ◌*◌}
 use Rattle.c_types.specs.Typed.{expression_of, place_of, expressions_of}
 use Rattle.c_lower_code.specs.Sizes.{size, place_size, all_size}
 use Rattle.c_lower_code.proofs.expression.+expression.Given as goal
