@@ -2,4 +2,4 @@ use Rattle.gg_headline_laws.proofs.Texts as laws
 use Rattle.gg_headline_laws.proofs.laws.texts_are_one.Goals as goal
 
 pub returns : goal.returns
-returns g c = laws.texts_are_one _ _ _ _
+returns g c = search laws.texts_are_one
