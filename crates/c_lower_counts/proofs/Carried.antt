@@ -1,4 +1,3 @@
--- How the tally of a tree program goes on behind a tree, by the values that the tree reads.
 use Rattle.std.proofs.Common.{◌≡◌, ℕ, ◌+◌, Bool, true, false, cond, List, length, Option, refl, nat_lt}
 use Rattle.std.specs.Prelude.{not}
 use Rattle.gg_base.specs.declared.run.End.TheVariants as ends

@@ -7,12 +7,13 @@ pub mod Ahead
 pub mod Steps
 pub mod Doing
 pub mod Placing
+pub mod Filling
 pub mod Storing
 pub mod Assigning
 pub mod Calling
+pub mod Entering
 pub mod Conditions
 pub mod Expressions
 pub mod Constants
+pub mod Locals
 pub mod Statements
-pub mod Functions
-pub mod Law
