@@ -266,7 +266,6 @@ module _ (program : TreeProgram) (code : List TreeItem) (callers : List Activati
       (λ v e. h (v ∷ []) (omega arith) (subst Small e (worth_small program.objects (desk_sight d) r w small.0), tt))
   pushes_step (w ∷ x ∷ ws) k is κ d small pure r h = first_push w x ws k is κ d small.0 pure.0 r h (value program w d) refl (λ κ' g. pushes_step (x ∷ ws) k (Push w ∷ is) κ' d small.1 pure.1 r g)
 
-
 -- where callers go on
 pub record Backed (program : TreeProgram) (k : Depth) (κ : Behind) (cs : List Activation) : Type 0 where
   pub goes : (w : Flow) (st : State) → answer w < 2 ^ 32 → IsArea (extent_of program) st.area → AreBytes st.input → Leads k (κ w st) (tallies program (returned (answer w) cs st.area st.input))

@@ -87,7 +87,7 @@ leads_emit k b r q h = record { within = λ n lt. within_byte (allowed k n) b (r
 pub leads_quiet : (k : Depth) (r q : Runs) → Leads k r q → Leads k r (one_tree q)
 leads_quiet k r q h = record { within = λ n lt. within_tree (allowed k n) (r n).end (r n).output q (h.within n lt) }
 
-times_suc : (e n : ℕ) → e * suc n ≡ e * n + e
+pub times_suc : (e n : ℕ) → e * suc n ≡ e * n + e
 times_suc e n = grind arith
 
 -- a turn or call pays for itself, and for the zeros behind it

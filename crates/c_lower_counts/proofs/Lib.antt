@@ -17,3 +17,5 @@ pub mod Expressions
 pub mod Constants
 pub mod Locals
 pub mod Statements
+pub mod Functions
+pub mod Law

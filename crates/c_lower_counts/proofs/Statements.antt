@@ -982,9 +982,11 @@ module _ (program : TreeProgram) (code : List TreeItem) (callers : List Activati
           (λ x y m. (few, alone a scope scope true x y m (act_does a NoActions scope scope scope within (λ x h. h) true fit.1 std.1 few (wholly scope [] (MoreActions a NoActions)) x y m))) inside lb lc)
       act_does (DoOf a c) rest scope live outer within sub inside fit std few part lb lc l =
           settled (DoOf a c) rest scope live outer inside lb lc l (λ k x. refl) part
-          (do_does c a l (lower size count first out a NoActions (suc (suc l)) (suc l) (suc (suc (suc l)))) scope (behind_act scope a) outer within fit.1 std.1 (behind_more scope a)
-          (few, alone a scope scope true (suc (suc l)) (suc l) (suc (suc (suc l)))
-          (act_does a NoActions scope scope scope within (λ x h. h) true fit.0 std.0 few (wholly scope [] (MoreActions a NoActions)) (suc (suc l)) (suc l) (suc (suc (suc l))))) inside lb lc)
+          (do_does c a l (lower size count first out a NoActions (suc (suc l)) (suc l) (suc (suc (suc l)))) scope (behind_act scope a) outer within fit.1 std.1 (behind_more scope a) (
+            few,
+            alone a scope scope true (suc (suc l)) (suc l) (suc (suc (suc l)))
+                (act_does a NoActions scope scope scope within (λ x h. h) true fit.0 std.0 few (wholly scope [] (MoreActions a NoActions)) (suc (suc l)) (suc l) (suc (suc (suc l)))),
+          ) inside lb lc)
       act_does (ForOf i c e a) rest scope live outer within sub inside fit std few part lb lc l = λ k spare room le is κ res lands h st d ag.
           let x = effect size count first out i l in
           let y = for_of size count first out x.labels c e (lower size count first out a NoActions (suc (suc x.labels)) (suc x.labels)) in
@@ -992,8 +994,11 @@ module _ (program : TreeProgram) (code : List TreeItem) (callers : List Activati
           joined_at k x.items y.items is d _
           (first_part_does i c e a rest scope live within fit.0 std.0 part l k le (y.items ++ is) (look_by p next (for_loop c e a) (stmt p next a) κ) res' st d ag
           (λ st1 d1 ag1. for_does c e a x.labels scope (behind_act scope a) outer within fit.1 std.1 fit.2 std.2 (behind_more scope a)
-          (λ m. (few, alone a scope scope true (suc (suc x.labels)) (suc x.labels) m
-          (act_does a NoActions scope scope scope within (λ x h. h) true fit.3 std.3 few (wholly scope [] (MoreActions a NoActions)) (suc (suc x.labels)) (suc x.labels) m)))
+          (λ m. (
+            few,
+            alone a scope scope true (suc (suc x.labels)) (suc x.labels) m
+                (act_does a NoActions scope scope scope within (λ x h. h) true fit.3 std.3 few (wholly scope [] (MoreActions a NoActions)) (suc (suc x.labels)) (suc x.labels) m),
+          ))
           inside lb lc k spare room le is κ (resolves_back code x.items (y.items ++ is) res') lands st1 d1 ag1))
 
       rows_by : (row : SomeActions) (scope live outer base : ℕ → Type 0) → ((x : ℕ) → scope x → x < size) → ((x : ℕ) → outer x → scope x) → ((x : ℕ) → base x → scope x)

@@ -1,5 +1,5 @@
 -- How many zeros the declarations of a program set: those of the missing elements of its automatic arrays.
-use Rattle.std.specs.Prelude.{ℕ, ◌+◌, List, [], ◌∷◌}
+use Rattle.std.specs.Prelude.{ℕ, ◌+◌, ◌*◌, List, [], ◌∷◌}
 use Rattle.c_program.specs.Statements.{ADeclaration, KeepOf, ClearOf, BeginOf, StoreOf, ZerosOf, AnAction, SomeActions, NoActions, MoreActions, DeclareOf, BlockOf}
 use Rattle.c_program.specs.Statements.{EvaluateOf, BreakOf, ContinueOf, ReturnOf, IfOf, IfElseOf, WhileOf, DoOf, ForOf}
 use Rattle.c_program.specs.Programs.{ARoutine, AProgram}
@@ -39,3 +39,7 @@ all_zeros (g ∷ gs) = row_zeros g.body + all_zeros gs
 
 abbrev pub zeros_of : AProgram → ℕ
 zeros_of p = all_zeros p.routines
+
+-- n turns and calls that are counted, and the zeros that are set before the first of these and behind each
+abbrev pub with_zeros : AProgram → ℕ → ℕ
+with_zeros p n = n + zeros_of p * (n + 1)
