@@ -121,6 +121,7 @@ module _ (by : Passing) (names : Files) (at : Outside) (compiled : IsCompiled by
       let reads = h.read.reads in
       record {
         unit = reads.unit;
+        ends = reads.ends;
         tokens = unit_has_tokens h.bytes reads.spells.list reads.unit plain.are_bytes h.within reads.spells.tokens reads.spells.phrases;
         typed = reads.typed;
       }
