@@ -15,7 +15,7 @@ use tree_core::TreeProgram;
 
 /// The trees of a program: on every input their run follows the program's. They are a valid tree program with the program's
 /// functions, each of which fits the frame that it needs and lists its `register` locals, and its objects, whose labels differ and
-/// can be spelled; in none is memory read behind a division, and in a function without memory locals a plain statement is one tree.
+/// can be spelled; in none is memory read behind a division, and a plain statement is one tree.
 pub fn lower(alloc: Global, source: &Program) -> Result<TreeProgram, NoMemory>
     ensures trees { IfOk result (λ q. q ≡ lowered (program source.now.held)) }
     ensures follows { IfOk result (λ q. ∥ FollowsAlways (program source.now.held) q ∥₁) }

@@ -61,25 +61,25 @@ abbrev mutual
   simple_of NoActions = []
   simple_of (MoreActions a row) = simple a ++ simple_of row
 
--- the item of a plain `return e` or `a = e`
-pub data IsPlainOne (size : ℕ) : AnAction → Item → Type 0 where
-  Returns : (e : AnExpression) → Plain e → IsPlainOne size (ReturnOf (Some e)) (returned size e)
-  Stores : (p : APlace) (e : AnExpression) → PlainPlace p → Plain e → IsPlainOne size (EvaluateOf (AssignTo p e)) (stored size p e)
+-- The item of a plain `return e` or `a = e`, in a function with so many automatic locals and so many bytes of memory locals. Where it has
+-- any, a `return` gives them back too.
+pub data IsPlainOne (size block : ℕ) : AnAction → Item → Type 0 where
+  Returns : (e : AnExpression) → block ≡ 0 → Plain e → IsPlainOne size block (ReturnOf (Some e)) (returned size e)
+  Stores : (p : APlace) (e : AnExpression) → PlainPlace p → Plain e → IsPlainOne size block (EvaluateOf (AssignTo p e)) (stored size p e)
 
 -- Each of these statements has its items among a function's, one statement's behind another's; those of a plain
 -- `return` or assignment whose tree is calm are that one root.
-pub data HaveItems (size : ℕ) : List AnAction → List TreeItem → Type 0 where
-  Ended : (items : List TreeItem) → HaveItems size [] items
+pub data HaveItems (size block : ℕ) : List AnAction → List TreeItem → Type 0 where
+  Ended : (items : List TreeItem) → HaveItems size block [] items
   Next : (a : AnAction) (acts : List AnAction) (before own behind : List TreeItem) →
-      ((i : Item) → IsPlainOne size a i → SpellsCalm i → own ≡ spelled i ∷ []) → HaveItems size acts behind
-      → HaveItems size (a ∷ acts) (before ++ (own ++ behind))
+      ((i : Item) → IsPlainOne size block a i → SpellsCalm i → own ≡ spelled i ∷ []) → HaveItems size block acts behind
+      → HaveItems size block (a ∷ acts) (before ++ (own ++ behind))
 
--- In each function of the trees that has no memory locals the plain statements of the program's function are one root each, in the order
--- of the text.
+-- In each function of the trees the plain statements of the program's function are one root each, in the order of the text.
 abbrev pub PlainStatementsStand : AProgram → TreeProgram → Type 0
 PlainStatementsStand p q =
     (n : ℕ) (g : ARoutine) (f : TreeFn) → slice_get p.routines n ≡ Some g → slice_get q.functions n ≡ Some f
-    → g.block ≡ 0 → HaveItems (length g.locals) (simple_of g.body) f.items
+    → HaveItems (length g.locals) g.block (simple_of g.body) f.items
 
 -- So it is for each program.
 abbrev pub PlainStatementsAreOneTree : Type 0

@@ -14,8 +14,8 @@ pub fn plain_is_one_tree()
     ensures { PlainIsOneTree }
 {}
 
-/// The law: in each function without memory locals, the items of the program's statements stand in order, and those of a plain
-/// `return` or assignment whose tree is calm are that one root. It does nothing.
+/// The law: in each function, the items of the program's statements stand in order, and those of a plain assignment whose tree is calm
+/// are that one root, and of such a `return` where the function has no memory locals. It does nothing.
 pub fn plain_statements_are_one_tree()
     ensures { PlainStatementsAreOneTree }
 {}

@@ -3,8 +3,8 @@
 
 ghost use Rattle.c_lower_laid.specs.Laid.{EachFunctionIsLaid};
 
-/// The law: the items that a function without memory locals is lowered to are those of its statements, in the order of the text, and
-/// a plain `return` or assignment whose tree is calm gives that one tree alone. It does nothing.
+/// The law: the items that a function is lowered to are those of its statements, in the order of the text. A plain assignment whose tree
+/// is calm gives that one tree alone, and such a `return` where the function has no memory locals. It does nothing.
 #[tactic(auto, using(crate::proofs::Laid::each_function_is_laid))]
 pub fn each_function_is_laid()
     ensures { EachFunctionIsLaid }

@@ -21,9 +21,9 @@ pub record Lowered (p : AProgram) (q : TreeProgram) : Type 0 where
   pub calm : TreesAreCalm q
   -- functions and objects are the program's, in order, and each function fits the frame that it needs, with each of its trees
   pub parts : HasParts p q
-  -- a plain statement of a function without memory locals is that one root, where its tree is calm, in the order of the text
+  -- a plain statement whose tree is calm is that one root, in the order of the text; a `return` is where there are no memory locals
   pub plain : PlainStatementsStand p q
-  -- and the items of such a function are those of its statements, with what tests, labels and jumps give, and no others
+  -- and the items of a function are those of its statements, with what tests, labels, jumps and its block give, and no others
   pub laid : FunctionsAreLaid p q
 
 -- The trees of a sound program are so.

@@ -43,7 +43,7 @@ use Rattle.c_typed_definition.specs.Signatures.{signature_of, known}
 use Rattle.c_typed_definition.specs.Texts.{type_parameter, parameter_length, type_parameters, type_body}
 use Rattle.c_typed_definition.specs.Texts.{type_introduced, type_function, type_globals, type_declared}
 use Rattle.c_typed_definition.specs.Texts.{type_externals, any_block, stacked_if, whole_by, main_of, empty_text, type_text}
-use Rattle.c_typed_scope.specs.Stack.{stack_size, with_stack}
+use Rattle.c_typed_scope.specs.Stack.{stack_size, opened, with_stack}
 use Rattle.c_typed_check.specs.Laid.{LiesBehind, LieFrom, AreLaid}
 use Rattle.c_typed_law.proofs.Law.{text_means}
 use Rattle.c_typed_law.proofs.Declared.{declared_area, parameter_area}
@@ -366,10 +366,14 @@ module _ (names : List (List ℕ × Entry)) (signatures : List Signature) where
   externals_leave [] t = leave_ok _ _ _ (λ p. p)
   externals_leave (e ∷ es) t = leave_then _ _ _ _ _ (declared_leaves e.spec e.declared t) (λ next. externals_leave es next)
 
+opened_leaves : (pointer stack : ℕ) (a : Area) → IsLaid a → IsLaid (opened pointer stack a)
+unfolding opened
+opened_leaves pointer stack a l = filled_leaves _ _ _ (filled_leaves _ _ a l)
+
 stack_leaves : (at : ℕ) (a : Area) → Leaves (IsLaid a) IsLaid (with_stack at a)
 unfolding with_stack
 stack_leaves at a = leave_then _ _ _ _ _ (placed_leaves at _ 4 4 [] a)
-    (λ sp. leave_then _ _ _ _ _ (placed_leaves at _ 4 stack_size [] sp.1) (λ area. leave_ok _ _ _ (λ l. filled_leaves _ _ _ (filled_leaves _ _ _ l))))
+    (λ sp. leave_then _ _ _ _ _ (placed_leaves at _ 4 stack_size [] sp.1) (λ area. leave_ok _ _ _ (opened_leaves sp.0 area.0 area.1)))
 
 stacked_leaves : (any : Bool) (at : ℕ) (a : Area) → Leaves (IsLaid a) IsLaid (stacked_if any at a)
 stacked_leaves true at a = stack_leaves at a

@@ -1,11 +1,10 @@
 -- Each function of a typed text keeps its own frame need.
-use Rattle.std.proofs.Common.{◌≡◌, ℕ, zero, suc, ◌+◌, ◌<◌, false, List, [], ◌∷◌, ◌++◌, length, map, get_or, refl, ap, sym, subst, ◌∙◌, Option, Some, None, Result, Ok, Err, arith}
+use Rattle.std.proofs.Common.{◌≡◌, ℕ, zero, suc, ◌+◌, ◌<◌, false, List, [], ◌∷◌, ◌++◌, length, map, get_or, refl, sym, subst, Option, Some, None, Result, Ok, Err, arith}
 use Rattle.std.specs.Prelude.{slice_get, is_some}
 use Rattle.gg_base.proofs.Facts.{ok_same}
 use Rattle.c_phrases.specs.declared.operator.Spec.{Spec}
-use Rattle.c_phrases.specs.Units.{SomeItems, AFunction, ADeclared, function, globals, AnExternal, AUnit}
-use Rattle.c_types.specs.declared.types.CType.{CType}
-use Rattle.c_types.specs.Answers.{Fault, bad, ◌>>=◌}
+use Rattle.c_phrases.specs.Units.{SomeItems, AFunction, ADeclared, function, globals, AnExternal}
+use Rattle.c_types.specs.Answers.{Fault, ◌>>=◌}
 use Rattle.c_typed_scope.specs.Layout.{Area}
 use Rattle.c_typed_scope.specs.declared.entry.Entry.{Entry}
 use Rattle.c_typed_scope.specs.declared.entry.Signature.{Signature}
@@ -23,11 +22,11 @@ use Rattle.c_typed_definition.specs.Headings.{agrees, earlier_by, head_of, is_be
 use Rattle.c_typed_definition.specs.Bodies.{entered_function}
 use Rattle.c_typed_definition.specs.Signatures.{signature_of, known}
 use Rattle.c_typed_definition.specs.Texts.{type_parameters, type_globals, type_body, type_introduced, type_function}
-use Rattle.c_typed_definition.specs.Texts.{type_declared, type_external, type_externals, any_block, stacked_if, main_of, whole_by, whole, type_text}
+use Rattle.c_typed_definition.specs.Texts.{type_declared, type_externals, any_block, stacked_if, main_of, whole_by, whole, type_text}
 use Rattle.c_typed_definition.specs.Texts.{empty_text}
 use Rattle.c_typed_law.proofs.Law.{text_means}
 use Rattle.c_typed_law.proofs.Declared.{declared_bodies}
-use Rattle.c_typed_check.specs.Typed.{IsTypedUnit, need_in, need_at}
+use Rattle.c_typed_check.specs.Typed.{IsTypedUnit, need_in}
 use Rattle.c_typed_check.proofs.Texts.{fine}
 
 pub record KeepsNeed (r : ARoutine) : Type 0 where

@@ -1,8 +1,13 @@
 -- What holds of the command that was chosen holds of the one that the words say.
-use Rattle.std.proofs.Common.{◌≡◌, ℕ, List, codes, Bor, sym, subst}
+use Rattle.std.proofs.Common.{◌≡◌, ◌<◌, ℕ, List, length, codes, Bor, sym, subst}
 use Rattle.cmd_session.specs.declared.words.Command.{Command}
 use Rattle.cmd_session.specs.declared.words.Command.TheVariants.{Check, Compile, Run, Meaning, Load, Image, Text}
+use Rattle.cmd_session.specs.declared.status.Status.{Status}
 use Rattle.cmd_session.specs.Words.{IsCount, greatest_count, greatest_size, OnlyNamed, OnlyPaired, OnlyCounted, Says, SaysOnly}
+use Rattle.cmd_files.specs.Outsides.{Outside}
+use Rattle.cmd_compile.specs.Passing.{Passing}
+use Rattle.cmd_compile.specs.Outcome.{files, Leaves as CompileLeaves}
+use Rattle.cmd_load.specs.Outcome.{Leaves as LoadLeaves}
 
 pub only_check : (words : List (List ℕ)) (command : Command) (d : Bor (List ℕ)) → SaysOnly words command → command ≡ Check d → OnlyNamed (codes "check") words d.now
 only_check words command d only is = (subst (SaysOnly words) is only).0
@@ -28,6 +33,11 @@ only_image words command text only is = (subst (SaysOnly words) is only).5
 pub only_text : (words : List (List ℕ)) (command : Command) (image : Bor (List ℕ)) → SaysOnly words command → command ≡ Text image → OnlyNamed (codes "text") words image.now
 only_text words command image only is = (subst (SaysOnly words) is only).6
 
+-- the two names are not empty
+pub named_pair : (words : List (List ℕ)) (command : Command) (d source : Bor (List ℕ)) → Says words command → command ≡ Compile d source
+    → (0 < length d.now) × (0 < length source.now)
+named_pair words command d source says is = let said = subst (Says words) is says in (said.first_named, said.second_named)
+
 -- the number of functions is one
 pub counts : (words : List (List ℕ)) (command : Command) (d : Bor (List ℕ)) (size : ℕ) → Says words command → command ≡ Load d size → IsCount greatest_size size
 counts words command d size said is = (subst (Says words) is said).counts
@@ -41,3 +51,12 @@ named P name other same h = subst P (sym same) h
 
 pub paired : (P : List ℕ → List ℕ → Type 0) (one other first second : List ℕ) → (first ≡ one) × (second ≡ other) → P one other → P first second
 paired P one other first second same h = subst (λ (s : List ℕ). P s second) (sym same.0) (subst (P one) (sym same.1) h)
+
+-- so it is with what `compile` and `load` come to by some passes
+pub compiled : (by : Passing) (result : Status) (at : Outside) (one other first second : List ℕ) → (first ≡ one) × (second ≡ other)
+    → CompileLeaves by result (files one other) at → CompileLeaves by result (files first second) at
+compiled by result at = paired (λ (x y : List ℕ). CompileLeaves by result (files x y) at)
+
+pub loaded : (by : Passing) (result : Status) (at : Outside) (name other : List ℕ) (count n : ℕ) → (other ≡ name) × (n ≡ count)
+    → LoadLeaves by result name count at → LoadLeaves by result other n at
+loaded by result at = carried (λ (s : List ℕ) (n : ℕ). LoadLeaves by result s n at)

@@ -1,5 +1,5 @@
 // The top call: the words choose the command.
-ghost use Rattle.std.specs.Prelude.{◌≡◌, ◌+◌, ℕ, List};
+ghost use Rattle.std.specs.Prelude.{◌≡◌, ◌<◌, ◌+◌, ℕ, List, length};
 ghost use Rattle.cmd_session.specs.Reading.{intake, TakesAtMost};
 ghost use Rattle.cmd_session.specs.Writing.{change, IsUntouched};
 ghost use Rattle.cmd_session.specs.Words.{spelled, SaysCheck, SaysCompile, SaysRun, SaysMeaning, SaysLoad, SaysImage, SaysText, SaysNone};
@@ -33,6 +33,29 @@ use cmd_session::{Command, Status, command_of, refuse};
 use cmd_text::write_text;
 use gg_outside::{Folder, Sink, Source};
 use std::alloc::Global;
+
+// The command `compile D S`: names are not empty.
+fn compile<F: Folder, O: Sink, E: Sink>(
+    alloc: Global,
+    description: &str,
+    source: &str,
+    folder: &mut F,
+    out: &mut O,
+    report: &mut E,
+    passes: &mut Vec<Box<dyn Pass>>,
+) -> Status
+    requires named { (0 < length description.now) × (0 < length source.now) }
+    ensures leaves { CompileLeaves (passing (λ p n c e. wrote p n c e) (λ p. made p) passes.old.items passes.new.items)
+        result (files description.now source.now)
+        (outside F.Folder O.Sink E.Sink folder.old folder.new out.old out.new report.old report.new) }
+    ensures exact { CompileIsExact result (files description.now source.now)
+        (outside F.Folder O.Sink E.Sink folder.old folder.new out.old out.new report.old report.new) }
+    ensures names { FailAtMost (files description.now source.now) (lookup F.Folder folder.old folder.new) }
+    ensures holds { (n : List ℕ) → F.holds folder.new n ≡ F.holds folder.old n }
+    ensures kept { AreKept (λ p. p.vtable) (λ p. made p) passes.old.items passes.new.items }
+{
+    compile_source(alloc, description, source, folder, out, report, passes)
+}
 
 /// The whole program: the command that the words say, or the line of the usage. Its commands are `check D`, `compile D S`, `run A N`,
 /// `meaning S N`, `load D K`, `image A` and `text I`. What `compile` writes does, read again and run, what the source does: until the
@@ -144,7 +167,7 @@ pub fn ggvax<F: Folder, I: Source, O: Sink, E: Sink>(
     match command {
         Command::Check(description) => check_description(alloc, description, folder, out, report),
         Command::Compile(description, source) => {
-            compile_source(alloc, description, source, folder, out, report, passes)
+            compile(alloc, description, source, folder, out, report, passes)
         }
         Command::Run(text, count) => run_text(alloc, text, count, folder, input, out, report),
         Command::Meaning(source, count) => {

@@ -1,4 +1,4 @@
-use Rattle.std.proofs.Common.{◌≡◌, refl, Ok}
+use Rattle.std.proofs.Common.{refl}
 use Rattle.std.proofs.lemmas.Result.{err_from_is_err_and}
 use Rattle.c_phrases.specs.UnitShapes.{unit_of}
 use Rattle.c_typed_scope.specs.Views.{area}
@@ -43,9 +43,9 @@ invariant_of-result c = record {
     tokens = c.requires;
     typed = (text_means (unit_of c.args.ast.now).externals c.args.ast.now.body_ends (unit_of c.args.ast.now).end).found _
         (whole_runs c.args.ast.now.externals.items c.deref.result.now c.deref-2.result.now c.args.ast.now.body_ends c.args.ast.now.end
-      (functions_of c.in_ok-functions.functions) (text c.in_ok-builder.builder) c.deref.ensures.value c.deref-2.ensures.value c.in_ok-functions.ensures c.in_ok-builder.ensures
-      (text c.externals.new.builder) c.any_block.result (area c.lay_if.new.layout) c.in-Some.main c.from_vec.result c.externals.new.builder.routines.items c.deref-3.result.now
-      c.deref-4.result.now (c.in_ok-externals.ensures, refl) c.any_block.ensures c.deref-3.ensures.value c.in_ok-lay_if.ensures c.in-Some.ensures c.deref-4.ensures.value c.from_vec.ensures);
+        (functions_of c.in_ok-functions.functions) (text c.in_ok-builder.builder) c.deref.ensures.value c.deref-2.ensures.value c.in_ok-functions.ensures c.in_ok-builder.ensures
+        (text c.externals.new.builder) c.any_block.result (area c.lay_if.new.layout) c.in-Some.main c.from_vec.result c.externals.new.builder.routines.items c.deref-3.result.now
+        c.deref-4.result.now (c.in_ok-externals.ensures, refl) c.any_block.ensures c.deref-3.ensures.value c.in_ok-lay_if.ensures c.in-Some.ensures c.deref-4.ensures.value c.from_vec.ensures);
   } ∣₁;
 }
 

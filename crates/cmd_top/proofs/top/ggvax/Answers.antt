@@ -8,14 +8,13 @@ use Rattle.cmd_meaning.specs.Sources.{source_form, source_runner}
 use Rattle.cmd_run.specs.Texts.{text_form, code_runner}
 use Rattle.cmd_check.specs.Outcome.{Leaves as CheckLeaves}
 use Rattle.cmd_check.specs.Exact.{IsExact as CheckIsExact}
-use Rattle.cmd_compile.specs.Outcome.{files, FailAtMost, Leaves as CompileLeaves}
+use Rattle.cmd_compile.specs.Outcome.{files, FailAtMost}
 use Rattle.cmd_compile.specs.Exact.{IsExact as CompileIsExact}
-use Rattle.cmd_load.specs.Outcome.{Leaves as LoadLeaves}
 use Rattle.cmd_load.specs.Exact.{IsExact as LoadIsExact}
 use Rattle.cmd_compile.proofs.Counting.{kept_same}
 use Rattle.cmd_image.specs.Texts.{image_of_text}
 use Rattle.cmd_text.specs.Images.{text_of_image}
-use Rattle.cmd_top.proofs.Chosen.{only_check, only_compile, only_run, only_meaning, only_load, only_image, only_text, counts, carried, named, paired}
+use Rattle.cmd_top.proofs.Chosen.{only_check, only_compile, only_run, only_meaning, only_load, only_image, only_text, counts, carried, named, paired, named_pair, compiled, loaded}
 use Rattle.cmd_top.proofs.top.ggvax.Goals as goal
 
 pub returns-in-Meaning-clause-meaning : goal.returns-in-Meaning-clause-meaning
@@ -60,28 +59,31 @@ returns-in-Check-clause-check_exact g c = λ d said.
 
 pub returns-in-Compile-clause-compile : goal.returns-in-Compile-clause-compile
 returns-in-Compile-clause-compile g c = λ d source said.
-    paired (λ x y. CompileLeaves _ c.compile_source.result (files x y)
-    (outside g.F.Folder g.O.Sink g.E.Sink c.args.folder.now c.compile_source.new.folder c.args.out.now c.compile_source.new.out c.args.report.now c.compile_source.new.report))
-    _ _ _ _ (only_compile _ _ _ _ c.in-Some.ensures.only c.in-Compile.is d source said) c.compile_source.ensures.leaves
+    compiled _ c.compile.result
+    (outside g.F.Folder g.O.Sink g.E.Sink c.args.folder.now c.compile.new.folder c.args.out.now c.compile.new.out c.args.report.now c.compile.new.report)
+    _ _ _ _ (only_compile _ _ _ _ c.in-Some.ensures.only c.in-Compile.is d source said) c.compile.ensures.leaves
 
 pub returns-in-Compile-clause-compile_exact : goal.returns-in-Compile-clause-compile_exact
 returns-in-Compile-clause-compile_exact g c = λ d source said.
-    paired (λ x y. CompileIsExact c.compile_source.result (files x y)
-    (outside g.F.Folder g.O.Sink g.E.Sink c.args.folder.now c.compile_source.new.folder c.args.out.now c.compile_source.new.out c.args.report.now c.compile_source.new.report))
-    _ _ _ _ (only_compile _ _ _ _ c.in-Some.ensures.only c.in-Compile.is d source said) c.compile_source.ensures.exact
+    paired (λ x y. CompileIsExact c.compile.result (files x y)
+    (outside g.F.Folder g.O.Sink g.E.Sink c.args.folder.now c.compile.new.folder c.args.out.now c.compile.new.out c.args.report.now c.compile.new.report))
+    _ _ _ _ (only_compile _ _ _ _ c.in-Some.ensures.only c.in-Compile.is d source said) c.compile.ensures.exact
 
 pub returns-in-Compile-clause-compile_names : goal.returns-in-Compile-clause-compile_names
 returns-in-Compile-clause-compile_names g c = λ d source said.
-    paired (λ x y. FailAtMost (files x y) (lookup g.F.Folder c.args.folder.now c.compile_source.new.folder))
-    _ _ _ _ (only_compile _ _ _ _ c.in-Some.ensures.only c.in-Compile.is d source said) c.compile_source.ensures.names
+    paired (λ x y. FailAtMost (files x y) (lookup g.F.Folder c.args.folder.now c.compile.new.folder))
+    _ _ _ _ (only_compile _ _ _ _ c.in-Some.ensures.only c.in-Compile.is d source said) c.compile.ensures.names
+
+pub compile-requires : goal.compile-requires
+compile-requires g c = record { named = named_pair _ _ _ _ c.in-Some.ensures.some c.in-Compile.is }
 
 pub load_generated-requires : goal.load_generated-requires
 load_generated-requires g c = counts _ _ _ _ c.in-Some.ensures.some c.in-Load.is
 
 pub returns-in-Load-clause-load : goal.returns-in-Load-clause-load
 returns-in-Load-clause-load g c = λ d k said.
-    carried (λ s n. LoadLeaves _ c.load_generated.result s n
-    (outside g.F.Folder g.O.Sink g.E.Sink c.args.folder.now c.load_generated.new.folder c.args.out.now c.load_generated.new.out c.args.report.now c.load_generated.new.report))
+    loaded _ c.load_generated.result
+    (outside g.F.Folder g.O.Sink g.E.Sink c.args.folder.now c.load_generated.new.folder c.args.out.now c.load_generated.new.out c.args.report.now c.load_generated.new.report)
     _ _ _ _ (only_load _ _ _ _ c.in-Some.ensures.only c.in-Load.is d k said) c.load_generated.ensures.leaves
 
 pub returns-in-Load-clause-load_exact : goal.returns-in-Load-clause-load_exact
@@ -90,8 +92,8 @@ returns-in-Load-clause-load_exact g c = λ d k said.
     (outside g.F.Folder g.O.Sink g.E.Sink c.args.folder.now c.load_generated.new.folder c.args.out.now c.load_generated.new.out c.args.report.now c.load_generated.new.report))
     _ _ _ _ (only_load _ _ _ _ c.in-Some.ensures.only c.in-Load.is d k said) c.load_generated.ensures.exact
 
-pub returns-in-None-clause-kept : goal.returns-in-None-clause-kept
-returns-in-None-clause-kept g c = kept_same _ _ _
+pub returns-in_default-clause-kept : goal.returns-in_default-clause-kept
+returns-in_default-clause-kept g c = kept_same _ _ _
 
 pub returns-in-Check-clause-kept : goal.returns-in-Check-clause-kept
 returns-in-Check-clause-kept g c = kept_same _ _ _

@@ -1,9 +1,8 @@
-use Rattle.std.proofs.Common.{◌≡◌, sym, subst, ◌∙◌, ap}
+use Rattle.std.proofs.Common.{◌∙◌, ap}
 use Rattle.std.proofs.Math.Logic.{∥∥₁_elim}
 use Rattle.std.specs.Coded.{Coded-set, coded_ℕ}
 use Rattle.c_program.specs.Programs.{program}
 use Rattle.c_program.specs.declared.program.Routine.{Routine}
-use Rattle.c_typed_check.specs.Typed.{need_at}
 use Rattle.c_typed_check.proofs.Needs.{typed_keeps, kept_need}
 use Rattle.c_typed_check.proofs.program.Program.need.Goals as goal
 
