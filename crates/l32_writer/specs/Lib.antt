@@ -1,0 +1,1 @@
+-- No definitions of its own: what is said here is said in those of the crates below.
