@@ -272,7 +272,8 @@ pub record Backed (program : TreeProgram) (k : Depth) (κ : Behind) (cs : List A
 
 -- bodies are followed, whatever waits for them
 pub record Calls (program : TreeProgram) (count : ℕ) (p : AProgram) (next : Next) (level : Depth) : Type 0 where
-  pub runs_body : (k : Depth) → Under (deeper k) level → (f : ℕ) (g : ARoutine) → slice_get p.routines f ≡ Some g → (tf : TreeFn) → CodeOf (pointer_number p.objects) count g tf.items → (vs : List ℕ) → AllSmall vs
+  pub runs_body : (k : Depth) → Under (deeper k) level → (f : ℕ) (g : ARoutine) → slice_get p.routines f ≡ Some g → (tf : TreeFn) → CodeOf (pointer_number p.objects) count g tf.items
+      → (vs : List ℕ) → AllSmall vs
       → (κ : Behind) (cs : List Activation) → Backed program k κ cs → (st : State) → st.active ≡ length cs → IsArea (extent_of program) st.area → AreBytes st.input
       → Leads (fuller k) (performed p.objects next g κ (begun_source g vs st)) (tallies program (arrived (record { running = begun_tree tf vs; callers = cs; area = st.area; input = st.input })))
 
@@ -314,7 +315,8 @@ module _ (program : TreeProgram) (code : List TreeItem) (callers : List Activati
     pointer = ag.pointer;
   }
 
-  enter_at : (b : Bool) (k : Depth) (f : ℕ) → Under (deeper k) level → (g : ARoutine) → slice_get p.routines f ≡ Some g → (tf : TreeFn) → CodeOf (pointer_number p.objects) count g tf.items → (vs : List ℕ) → AllSmall vs
+  enter_at : (b : Bool) (k : Depth) (f : ℕ) → Under (deeper k) level → (g : ARoutine) → slice_get p.routines f ≡ Some g → (tf : TreeFn) → CodeOf (pointer_number p.objects) count g tf.items
+      → (vs : List ℕ) → AllSmall vs
       → (κ : Rest) (st : State) (d : Desk) (is : List Item) → fine st d
       → ((v : ℕ) (st' : State) → v < 2 ^ 32 → fine (record st' { call = st.call; active = st.active }) (told d v st')
       → Leads k (κ v (record st' { call = st.call; active = st.active })) (going is (told d v st')))
@@ -331,7 +333,8 @@ module _ (program : TreeProgram) (code : List TreeItem) (callers : List Activati
       let bytes : IsArea (extent_of program) st.area = subst (IsArea (extent_of program)) ag.area ag.whole in
       let ins : AreBytes st.input = subst AreBytes ag.input ag.bytes in
       let done = calls.runs_body k le f g at_f tf own vs small (back κ st) cs backed st ag.active bytes ins in
-      subst (λ a. Leads (fuller k) (performed p.objects next g (back κ st) (begun_source g vs st)) (tallies program (arrived (record { running = begun_tree tf vs; callers = cs; area = a; input = d.input }))))
+      subst (λ a. Leads (fuller k) (performed p.objects next g (back κ st) (begun_source g vs st))
+      (tallies program (arrived (record { running = begun_tree tf vs; callers = cs; area = a; input = d.input }))))
       (sym ag.area)
       (subst (λ i. Leads (fuller k) (performed p.objects next g (back κ st) (begun_source g vs st))
       (tallies program (arrived (record { running = begun_tree tf vs; callers = cs; area = st.area; input = i })))) (sym ag.input) done)
@@ -343,7 +346,8 @@ module _ (program : TreeProgram) (code : List TreeItem) (callers : List Activati
   counted_by true k r q h = leads_counted k r q true h
   counted_by false k r q h = leads_counted k (stop ends.Deep) (λ m. ended_tree ends.Deep) false h
 
-  called_by : (f n t : ℕ) (k : Depth) → Under (at_turns t k) level → (g : ARoutine) → slice_get p.routines f ≡ Some g → (vs : List ℕ) → length vs ≡ n → AllSmall vs → (κ : Rest) (st : State) (d : Desk) (is : List Item)
+  called_by : (f n t : ℕ) (k : Depth) → Under (at_turns t k) level → (g : ARoutine) → slice_get p.routines f ≡ Some g → (vs : List ℕ) → length vs ≡ n → AllSmall vs
+      → (κ : Rest) (st : State) (d : Desk) (is : List Item)
       → fine st d → ((v : ℕ) (st' : State) → v < 2 ^ 32 → fine (record st' { call = st.call; active = st.active }) (told d v st')
       → Leads (at_turns t k) (κ v (record st' { call = st.call; active = st.active })) (going is (told d v st')))
       → Leads (at_turns t k) (counted (entered p.objects next g vs κ st)) (going (Call f n ∷ is) (record d { pushed = vs ++ d.pushed }))
@@ -493,7 +497,8 @@ module _ (program : TreeProgram) (code : List TreeItem) (callers : List Activati
       delivered_does program code callers size count first scope level within own to (called_low (callee_number count f) q) t (λ κ. m (λ vs. call p next f vs κ)) sz
       (record { grows = low.grows; below = low.below; small = low.small; runs = λ k le is κ res st d ag h. low.runs k le is κ res st d ag h })
 
-  pub called_deliver_does : (to : Destination) (f : Callee) (q : Passing) (t : ℕ) (m : RestAll → State → Runs) → first ≤ t → DoesAll program code callers size count first scope level within own q t m
+  pub called_deliver_does : (to : Destination) (f : Callee) (q : Passing) (t : ℕ) (m : RestAll → State → Runs) → first ≤ t
+      → DoesAll program code callers size count first scope level within own q t m
       → Delivers program code callers size count first scope level to (called_deliver to (callee_number count f) q) t (λ κ. m (λ vs. call p next f vs κ))
   called_deliver_does (InLocal x) f q t m sz does = record {
     grows = does.grows;

@@ -138,7 +138,8 @@ module _ (program : TreeProgram) (code : List TreeItem) (callers : List Activati
         (bind_up k b.items T is d0 _ (asks.runs k le (T ++ is) (κ 1) (κ 0) res1 st d0 ag0
         (λ st1 d1 ag1 s1. goes_on program code callers k l (T ++ is) d1 _ (ahead_later l (AssignLoc t (Num 1)) (Label l ∷ is) (ahead_here l is))
         (moves program code callers k (behind code l) (spelled_all is) d1 _ end_at
-        (use_number program code callers size count first scope level within own k (d1.locals t) 0 is κ st1 d1 (s1.keeps t (omega arith) (inl (omega arith)) ∙ set_same d.locals t v ∙ ap Some (sym z))
+        (use_number program code callers size count first scope level within own k (d1.locals t) 0 is κ st1 d1
+        (s1.keeps t (omega arith) (inl (omega arith)) ∙ set_same d.locals t v ∙ ap Some (sym z))
         (h st1 d1 ag1 (since 0 st1 d1 (outside st1 d1 s1))))))
         (λ st1 d1 ag1 s1. leads_quiet k _ _ (save_temp program code callers size count first scope level within own k t (Num 1) (Label l ∷ is) (λ v. κ 1 st1) st1 d1 sz (omega arith) ag1
         (λ w lt' e' ag2.
@@ -259,7 +260,8 @@ module _ (program : TreeProgram) (code : List TreeItem) (callers : List Activati
         (taken st1 d1 ag1 (since_more program code callers size count first scope level within own t p.temps q.temps p.items q.items st d st1 d1 asks'.grows s1)))
         (λ st1 d1 ag1 s1. leads_quiet k _ _ (subst (λ κ. Leads k (n κ st1) (going (q.items ++ is) d1)) (λ j y st. sym (logical_chosen y (met st) (unmet st)) j)
         (asks'.runs k le is met unmet (resolves_back code p.items (q.items ++ is) res1) st1 d1 ag1
-        (λ st2 d2 ag2 s2. taken st2 d2 ag2 (since_both program code callers size count first scope level within own t p.temps q.temps p.items q.items st st1 st2 d d1 d2 asks.grows asks'.grows s1 s2))
+        (λ st2 d2 ag2 s2. taken st2 d2 ag2
+        (since_both program code callers size count first scope level within own t p.temps q.temps p.items q.items st st1 st2 d d1 d2 asks.grows asks'.grows s1 s2))
         (λ st2 d2 ag2 s2. falls st2 d2 ag2 (since_both program code callers size count first scope level within own t p.temps q.temps p.items q.items st st1 st2 d d1 d2 asks.grows asks'.grows s1
         s2))))));
   }
@@ -273,7 +275,8 @@ module _ (program : TreeProgram) (code : List TreeItem) (callers : List Activati
         (taken st1 d1 ag1 (since_more program code callers size count first scope level within own t p.temps q.temps p.items q.items st d st1 d1 asks'.grows s1)))
         (λ st1 d1 ag1 s1. leads_quiet k _ _ (subst (λ κ. Leads k (n κ st1) (going (q.items ++ is) d1)) (λ j y st. sym (logical_chosen y (met st) (unmet st)) j)
         (asks'.runs k le is met unmet (resolves_back code p.items (q.items ++ is) res1) st1 d1 ag1
-        (λ st2 d2 ag2 s2. taken st2 d2 ag2 (since_both program code callers size count first scope level within own t p.temps q.temps p.items q.items st st1 st2 d d1 d2 asks.grows asks'.grows s1 s2))
+        (λ st2 d2 ag2 s2. taken st2 d2 ag2
+        (since_both program code callers size count first scope level within own t p.temps q.temps p.items q.items st st1 st2 d d1 d2 asks.grows asks'.grows s1 s2))
         (λ st2 d2 ag2 s2. falls st2 d2 ag2 (since_both program code callers size count first scope level within own t p.temps q.temps p.items q.items st st1 st2 d d1 d2 asks.grows asks'.grows s1
         s2))))));
   }
@@ -581,7 +584,8 @@ module _ (program : TreeProgram) (code : List TreeItem) (callers : List Activati
         let res1 = resolves_split code p.items q.items is res in
         bind_up k p.items q.items is d _ (drops.runs k le (q.items ++ is) (n (λ v st. chosen v (met st) (unmet st))) res1 st d ag
         (λ st1 d1 ag1 s1. asks.runs k le is met unmet (resolves_back code p.items (q.items ++ is) res1) st1 d1 ag1
-        (λ st2 d2 ag2 s2. taken st2 d2 ag2 (since_both program code callers size count first scope level within own t p.temps q.temps p.items q.items st st1 st2 d d1 d2 drops.grows asks.grows s1 s2))
+        (λ st2 d2 ag2 s2. taken st2 d2 ag2
+        (since_both program code callers size count first scope level within own t p.temps q.temps p.items q.items st st1 st2 d d1 d2 drops.grows asks.grows s1 s2))
         (λ st2 d2 ag2 s2. falls st2 d2 ag2 (since_both program code callers size count first scope level within own t p.temps q.temps p.items q.items st st1 st2 d d1 d2 drops.grows asks.grows s1
         s2))));
   }

@@ -105,7 +105,8 @@ module _ (program : TreeProgram) (code : List TreeItem) (callers : List Activati
   taking a n q κ = store_at int (Memory a) (add32 q n) (λ v st. κ (with_block q st))
 
   moved : (a n q : ℕ) (k : Depth) (is : List Item) (κ : State → Runs) (st : State) (d : Desk) → n < 2 ^ 32 → value program (Gaddr pointer) d ≡ Number a → before st d → d.locals size ≡ Some q
-      → ((st' : State) (d' : Desk) → inside st' d' → Leads k (κ st') (from is d')) → Leads k (taking a n q κ st) (from (AssignMem ints.Int (Gaddr pointer) (Bin ariths.Add (Loc size) (Num n)) ∷ is) d)
+      → ((st' : State) (d' : Desk) → inside st' d' → Leads k (κ st') (from is d'))
+      → Leads k (taking a n q κ st) (from (AssignMem ints.Int (Gaddr pointer) (Bin ariths.Add (Loc size) (Num n)) ∷ is) d)
   moved a n q k is κ st d small at_a ag at_q h =
       let w : Tree = Bin ariths.Add (Loc size) (Num n) in
       let x : ℕ = add32 q n in
@@ -138,7 +139,8 @@ module _ (program : TreeProgram) (code : List TreeItem) (callers : List Activati
       subst (λ o. Leads k (on o (λ v. goal)) run) sum (subst (λ o. Leads k (on o (λ y. on (value program w d) (λ v. goal))) run) at_a whole)
 
   -- is there room for it
-  tested : (a n l q ar : ℕ) (k : Depth) (is : List Item) (κ : State → Runs) (st : State) (d : Desk) → n < 2 ^ 32 → value program (Gaddr pointer) d ≡ Number a → value program (Gaddr (suc pointer)) d ≡ Number ar
+  tested : (a n l q ar : ℕ) (k : Depth) (is : List Item) (κ : State → Runs) (st : State) (d : Desk) → n < 2 ^ 32 → value program (Gaddr pointer) d ≡ Number a
+      → value program (Gaddr (suc pointer)) d ≡ Number ar
       → before st d → d.locals size ≡ Some q
       → behind code l ≡ spelled_all (AssignMem ints.Int (Gaddr pointer) (Bin ariths.Add (Loc size) (Num n)) ∷ is) → ((st' : State) (d' : Desk) → inside st' d' → Leads k (κ st') (from is d'))
       → Leads k (or_trap (beginning ar n q) (λ b. taking a n b κ) st) (from (Cbr relations.Geu l (Bin ariths.Subtract (Bin ariths.Add (Gaddr (suc pointer)) (Num 262144)) (Loc size)) (Num n)
@@ -173,7 +175,8 @@ module _ (program : TreeProgram) (code : List TreeItem) (callers : List Activati
       (λ o. Leads k (on o (λ v. stop ends.Trapped)) (from ks d)) divided traps))) in
       subst (λ o. Leads k (on o (λ x. on (value program (Num n) d) (λ y. goal))) run) room_value whole
 
-  second : (o : Option ℕ) → address p.objects (suc pointer) ≡ o → (a n l q : ℕ) (k : Depth) (is : List Item) (κ : State → Runs) (st : State) (d : Desk) → n < 2 ^ 32 → value program (Gaddr pointer) d ≡ Number a
+  second : (o : Option ℕ) → address p.objects (suc pointer) ≡ o → (a n l q : ℕ) (k : Depth) (is : List Item) (κ : State → Runs) (st : State) (d : Desk) → n < 2 ^ 32
+      → value program (Gaddr pointer) d ≡ Number a
       → before st d → d.locals size ≡ Some q → behind code l ≡ spelled_all (AssignMem ints.Int (Gaddr pointer) (Bin ariths.Add (Loc size) (Num n)) ∷ is)
       → ((st' : State) (d' : Desk) → inside st' d' → Leads k (κ st') (from is d'))
       → Leads k (or_wild o (λ area. or_trap (beginning area n q) (λ b. taking a n b κ)) st)

@@ -378,7 +378,8 @@ module _ (program : TreeProgram) (code : List TreeItem) (callers : List Activati
       (λ t l sz. low_of moment t l sz) (λ t l sz. drop_of moment t l sz)
     where
       stepped_path : (moment : Moment) (κ : Rest) → ◌≡◌ {A = RestAt} (λ ty s.
-          read_at ty s (λ x. store_at ty s (stepping program code callers size count first scope level within own by x (scale ty)) (λ y. κ (of_moment moment x y)))) (λ ty s. step_at moment by ty s κ)
+          read_at ty s (λ x. store_at ty s (stepping program code callers size count first scope level within own by x (scale ty)) (λ y. κ (of_moment moment x y))))
+          (λ ty s. step_at moment by ty s κ)
       stepped_path moment κ = λ j ty s. read_at ty s (λ x. store_at ty s (sym (stepped_is program code callers size count first scope level within own by ty x) j) (λ y. κ (of_moment moment x y)))
 
       low_of : (moment : Moment) (t l : ℕ) → first ≤ t → LowOf (step_low size count moment by (seek size count a t l)) t (λ κ. m (λ ty s. step_at moment by ty s κ))
@@ -505,7 +506,8 @@ module _ (program : TreeProgram) (code : List TreeItem) (callers : List Activati
       let m = arguments p next es to in
       record {
         low = λ t l sz. called_low_does program code callers size count first scope level within own p next counts_all lowers calls f (pass size count es to t l) t m sz (does t l sz);
-        branch = λ sense at t l sz. test_asks program code callers size count first scope level within own sense at (called_low number (pass size count es to t l)) t (expr p next (CallOf ty f to es))
+        branch =
+            λ sense at t l sz. test_asks program code callers size count first scope level within own sense at (called_low number (pass size count es to t l)) t (expr p next (CallOf ty f to es))
             (called_low_does program code callers size count first scope level within own p next counts_all lowers calls f (pass size count es to t l) t m sz (does t l sz));
         drop = λ t l sz. called_drop_does program code callers size count first scope level within own p next counts_all lowers calls f (pass size count es to t l) t m sz (does t l sz);
         deliver = λ at t l sz. called_deliver_does program code callers size count first scope level within own p next counts_all lowers calls at f (pass size count es to t l) t m sz (does t l sz);
@@ -553,7 +555,8 @@ module _ (program : TreeProgram) (code : List TreeItem) (callers : List Activati
         (expr p next a) (expr p next b) (advance_by_makes program code callers size count first scope level within own ty) (way_does a fit.0 std.0) (way_does b fit.1 std.1)
     way_does (RetreatOf ty a b) fit std = binary_does program code callers size count first scope level within own (retreat ty) (λ x y κ. κ (retreated ty x y)) (way size count a) (way size count b)
         (expr p next a) (expr p next b) (retreat_makes program code callers size count first scope level within own ty) (way_does a fit.0 std.0) (way_does b fit.1 std.1)
-    way_does (DistanceOf ty a b) fit std = binary_does program code callers size count first scope level within own (apart ty) (λ x y. or_trap (distance ty x y)) (way size count a) (way size count b)
+    way_does (DistanceOf ty a b) fit std =
+        binary_does program code callers size count first scope level within own (apart ty) (λ x y. or_trap (distance ty x y)) (way size count a) (way size count b)
         (expr p next a) (expr p next b) (apart_makes program code callers size count first scope level within own ty) (way_does a fit.0 std.0) (way_does b fit.1 std.1)
     way_does (ChoiceOf ty c a b) fit std = choose_does program code callers size count first scope level within own (way size count c) (way size count a) (way size count b) (expr p next c)
         (expr p next a) (expr p next b) (way_does c fit.0 std.0) (way_does a fit.1 std.1) (way_does b fit.2 std.2)

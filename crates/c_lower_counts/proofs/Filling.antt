@@ -131,14 +131,16 @@ module _ (program : TreeProgram) (code : List TreeItem) (callers : List Activati
       let goal : Runs = written (put_zeros t (x + size_of t) (suc c) (Some st)) 0 (λ v. κ) in
       let next_at : add32 (add32 b x) (size_of t) ≡ add32 b (x + size_of t) = omega arith in
       let whole = cbr_step program code callers (extra k (suc c)) l relations.Ne (Loc first) (in_block size last) is (λ y z. goal) d tt (held_small program size last lt) ag.ranged
-      (λ y z ey ez taken. leads_back (extra k (suc c)) (k.spare + c) goal _ _ (omega arith) (moves program code callers (extra k c) (behind code l) (spelled_all (turn t l last is)) d goal top (again st d ag is_b at_b (at_x ∙ ap Some next_at))))
+      (λ y z ey ez taken. leads_back (extra k (suc c)) (k.spare + c) goal _ _ (omega arith)
+      (moves program code callers (extra k c) (behind code l) (spelled_all (turn t l last is)) d goal top (again st d ag is_b at_b (at_x ∙ ap Some next_at))))
       (λ y z ey ez falls.
       let one : Number (add32 (add32 b x) (size_of t)) ≡ Number y = sym (ap there at_x) ∙ ey in
       let two : Number (add32 b last) ≡ Number z = sym end_value ∙ ez in
       let same : y ≡ z = eqb-true y z (not-false (y == z) falls) in
       let met : add32 (add32 b x) (size_of t) ≡ add32 b last = cc in
       absurd (not_last b x (size_of t) c last left (size_some t sized) lt met)) in
-      subst (λ o. Leads (extra k (suc c)) (on o (λ z. goal)) run) end_value (subst (λ o. Leads (extra k (suc c)) (on o (λ y. on (value program (in_block size last) d) (λ z. goal))) run) (ap there at_x) whole)
+      subst (λ o. Leads (extra k (suc c)) (on o (λ z. goal)) run) end_value
+      (subst (λ o. Leads (extra k (suc c)) (on o (λ y. on (value program (in_block size last) d) (λ z. goal))) run) (ap there at_x) whole)
 
   zeros_next : (t : CType) (l last b : ℕ) (is : List Item) (κ : State → Runs) (k : Depth) → size < first → b < 2 ^ 32 → HasSize t → last < 2 ^ 32 → behind code l ≡ spelled_all (turn t l last is)
       → ((st' : State) (d' : Desk) → fine st' d' → Leads k (κ st') (from is d')) → (c x : ℕ) → x + suc c * size_of t ≡ last → Again t l last b is κ k (x + size_of t) c → (st : State) (d : Desk)
@@ -190,7 +192,8 @@ module _ (program : TreeProgram) (code : List TreeItem) (callers : List Activati
       zeros_first t l last b is κ k blocked bl sized lt top h (suc c) x left
       (λ st' d' ag' is_b' at_b' at_x'. zeros_turn t l last b is κ k blocked bl sized lt top h c (x + size_of t) (omega arith) st' d' ag' is_b' at_b' at_x') st d ag is_b at_b at_x
 
-  pub zeros_does : (t : CType) (o n l : ℕ) (k : Depth) (s : ℕ) → s + n ≤ k.spare → (is : List Item) (κ : State → Runs) (st : State) (d : Desk) → size < first → HasSize t → 1 ≤ n → o + n * size_of t < 2 ^ 32
+  pub zeros_does : (t : CType) (o n l : ℕ) (k : Depth) (s : ℕ) → s + n ≤ k.spare → (is : List Item) (κ : State → Runs) (st : State) (d : Desk) → size < first → HasSize t → 1 ≤ n
+      → o + n * size_of t < 2 ^ 32
       → Resolves code ((zeros_in_block size first t o n l).items ++ is) → fine st d → ((st' : State) (d' : Desk) → fine st' d' → Leads (with_spare k s) (κ st') (from is d'))
       → Leads k (zeros_set t o n κ st) (from ((zeros_in_block size first t o n l).items ++ is) d)
   zeros_does t o zero l k s room is κ st d blocked sized some lt res ag h = absurd (omega arith)

@@ -31,7 +31,8 @@ use Rattle.c_lower_counts.proofs.Steps.{at, moves}
 use Rattle.c_lower_follows.proofs.Agreeing.{Agree, IsArea, extent_of}
 use Rattle.c_lower_counts.proofs.Calling.{AllSmall, Backed, Calls}
 use Rattle.c_lower_follows.proofs.Calling.{CodeOf, items_by}
-use Rattle.c_lower_counts.proofs.Statements.{Lands, rows_do, Leaves, arrive}
+use Rattle.c_lower_counts.proofs.Landing.{Lands, Leaves, arrive}
+use Rattle.c_lower_counts.proofs.Rows.{rows_do}
 use Rattle.c_sound.specs.Stands.{IsThere, Takes, StandsActs}
 use Rattle.c_sound.specs.Sound.{BodyStands}
 use Rattle.c_lower_counts.proofs.Doing.{due_does, delivered_does}
@@ -165,7 +166,8 @@ module _ (program : TreeProgram) (count : ℕ) (p : AProgram) (next : Next) (cou
   abbrev pub at_level : ℕ → Depth
   at_level t = record { turns = t; spare = 0; each = each }
 
-  body_does : (t : ℕ) → Calls program count p next (at_level t) → (k : Depth) → Under k (at_level t) → (f : ℕ) (g : ARoutine) → slice_get p.routines f ≡ Some g → (tf : TreeFn) → CodeOf pointer count g tf.items
+  body_does : (t : ℕ) → Calls program count p next (at_level t) → (k : Depth) → Under k (at_level t) → (f : ℕ) (g : ARoutine) → slice_get p.routines f ≡ Some g → (tf : TreeFn)
+      → CodeOf pointer count g tf.items
       → (vs : List ℕ) → AllSmall vs → (κ : Behind) (cs : List Activation) → Backed program k κ cs → (st : State) → st.active ≡ length cs → IsArea (extent_of program) st.area → AreBytes st.input
       → Leads (fuller k) (performed p.objects next g κ (begun g vs st)) (runs program (arrived (record { running = begun_tree tf vs; callers = cs; area = st.area; input = st.input })))
   body_does t calls k le f g at_f tf own vs lts κ cs backed st active area input =

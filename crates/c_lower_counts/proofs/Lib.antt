@@ -16,6 +16,9 @@ pub mod Conditions
 pub mod Expressions
 pub mod Constants
 pub mod Locals
+pub mod Landing
 pub mod Statements
+pub mod Loops
+pub mod Rows
 pub mod Functions
 pub mod Law

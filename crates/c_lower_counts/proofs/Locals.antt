@@ -52,7 +52,8 @@ module _ (program : TreeProgram) (code : List TreeItem) (callers : List Activati
         pointer = λ s. let k = ag.pointer s in (k.0, k.1, set_other d.locals n u size (λ q. omega (arith, ag.count)) ∙ k.2);
       })
 
-  pub local_step : (n u : ℕ) (k : Depth) (scope after : ℕ → Type 0) (is : List Item) (κ : State → Runs) (st : State) (d : Desk) → u < 2 ^ 32 → ((x : ℕ) → after x → (x ≡ n → ⊥) → scope x) → fair scope st d
+  pub local_step : (n u : ℕ) (k : Depth) (scope after : ℕ → Type 0) (is : List Item) (κ : State → Runs) (st : State) (d : Desk) → u < 2 ^ 32 → ((x : ℕ) → after x → (x ≡ n → ⊥) → scope x)
+      → fair scope st d
       → (fair after (with_locals st (slice_set st.call.locals n u)) (record d { locals = with_local d.locals n u })
       → Leads k (κ (with_locals st (slice_set st.call.locals n u))) (from is (record d { locals = with_local d.locals n u })))
       → Leads k (written (put_local n u st) u (λ v. κ)) (from is (record d { locals = with_local d.locals n u }))

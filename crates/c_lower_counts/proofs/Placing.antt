@@ -195,7 +195,8 @@ module _ (program : TreeProgram) (code : List TreeItem) (callers : List Activati
           (λ st1 d1 ag1 s1. read_place p.place p.type p.temps k is κ st1 d1 does.fits ag1 (h st1 d1 ag1 s1));
     }
 
-    pub address_does : (p : Located) (t : ℕ) (m : RestAt → State → Runs) → DoesPlace p t m → Does program code callers size count first scope level (address_low p) t (λ κ. m (λ ty s. address_of s κ))
+    pub address_does : (p : Located) (t : ℕ) (m : RestAt → State → Runs) → DoesPlace p t m
+        → Does program code callers size count first scope level (address_low p) t (λ κ. m (λ ty s. address_of s κ))
     address_does p t m does = record {
       grows = does.grows;
       below = below_address p.temps p.place does.fits;

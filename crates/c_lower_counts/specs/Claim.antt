@@ -24,8 +24,9 @@ Within n Deep output b = Unit {0}
 Within n Spent output b = Unit {0}
 Within n (Broken k) output b = Unit {0}
 
--- On every input: where the run of the program ends with n counted turns of loops and calls, the run of the trees ends so with at most as many
--- calls and jumps backward and the zeros that the program's declarations set, these before the first of them and behind each (`with_zeros`).
+-- On every input: where the run of the program ends with n counted turns of loops and calls, the run of the trees ends so with at most so
+-- many calls and jumps backward, and the zeros that the program's declarations set before the first of these and behind each
+-- (`with_zeros`).
 abbrev pub LoweringCountsNoMore : Type 0
 LoweringCountsNoMore =
     (p : AProgram) → IsSound p → (input : List ℕ) → AreBytes input → (n : ℕ)

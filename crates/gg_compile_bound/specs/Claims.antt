@@ -28,8 +28,9 @@ EndsIn n Spent output r = Unit {0}
 EndsIn n (Broken k) output r = Unit {0}
 
 -- The code that a description, whose rules are shown on the VAX, selects of a typed program whose functions fit their frames, on every input
--- of bytes: where the program's run ends with n counted turns and calls, the code's run ends so within `bound c m` instructions, m being n and
--- the zeros that the program's declarations set, before the first of these and behind each (`with_zeros`): n alone where they set none.
+-- of bytes: where the program's run ends with n counted turns and calls, the code's run ends so within `bound c m` instructions. There m is
+-- n and the zeros that the program's declarations set, before the first of these and behind each (`with_zeros`): n alone where they set
+-- none.
 abbrev pub TypedCodesAreBounded : Type 0
 TypedCodesAreBounded =
     (p : AProgram) (d : Content) (c : Code) → IsTypedUnit p → FitFrames p → IsFit vax d → SelectedAll vax d (lowered p) c

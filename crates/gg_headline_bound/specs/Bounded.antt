@@ -35,14 +35,16 @@ abbrev pub EndedTextsEndWithin : Passing → Type 0
 EndedTextsEndWithin by =
     (names : Files) (at : Outside) (compiled : IsCompiled by names at) → IsPlain by names at compiled → (bytes : List ℕ) (n value : ℕ)
     → (source compiled.program bytes n).end ≡ ends.Ended value
-    → ∥ EndsWithin compiled.text bytes (source compiled.program bytes n).output (ends.Ended value) (bound compiled.is_text.is_text.code (with_zeros compiled.program n)) ∥₁
+    → ∥ EndsWithin compiled.text bytes (source compiled.program bytes n).output (ends.Ended value)
+    (bound compiled.is_text.is_text.code (with_zeros compiled.program n)) ∥₁
 
 -- Where it traps, so does the run of its text, within as many.
 abbrev pub TrappingTextsTrapWithin : Passing → Type 0
 TrappingTextsTrapWithin by =
     (names : Files) (at : Outside) (compiled : IsCompiled by names at) → IsPlain by names at compiled → (bytes : List ℕ) (n : ℕ)
     → (source compiled.program bytes n).end ≡ ends.Trapped
-    → ∥ EndsWithin compiled.text bytes (source compiled.program bytes n).output ends.Trapped (bound compiled.is_text.is_text.code (with_zeros compiled.program n)) ∥₁
+    → ∥ EndsWithin compiled.text bytes (source compiled.program bytes n).output ends.Trapped
+    (bound compiled.is_text.is_text.code (with_zeros compiled.program n)) ∥₁
 
 -- Where there are no passes in the list before a call, they change nothing.
 abbrev pub NoPassesChangeNothing : {P : Type 0} → (P → ℕ → Code → Code → Type 0) → (P → ℕ) → List P → List P → Type 0
