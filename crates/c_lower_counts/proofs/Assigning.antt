@@ -24,9 +24,10 @@ use Rattle.c_lower_follows.proofs.Values.{SmallTree}
 use Rattle.c_lower_counts.proofs.Leads.{Leads, Depth, Under}
 use Rattle.c_lower_follows.proofs.Steps.{Desk, on, Resolves, resolves_back, resolves_split}
 use Rattle.c_lower_follows.proofs.Agreeing.{Below, below_more, alike_set, value, value_alike, value_stable, Since, since_start, set_same, set_other, not_nil, front_nil, back_nil}
-use Rattle.c_lower_counts.proofs.Placing.{place_on, SmallPlace, PurePlace, FitsPlace, read_mem, read_place, below_read, small_read}
-use Rattle.c_lower_counts.proofs.Storing.{Held, good, go, DoesIt, IsReady, IsPlace, then_at, assign_root, address_by, use_number, hold, waits}
 use Rattle.c_lower_counts.proofs.Doing.{Makes, since_both, save_temp, Maps}
+use Rattle.c_lower_follows.proofs.Placing.{place_on, SmallPlace, PurePlace}
+use Rattle.c_lower_counts.proofs.Placing.{FitsPlace, read_mem, read_place, below_read, small_read}
+use Rattle.c_lower_counts.proofs.Storing.{Held, good, go, DoesIt, IsReady, IsPlace, then_at, assign_root, address_by, use_number, hold, waits}
 
 module _ (program : TreeProgram) (code : List TreeItem) (callers : List Activation) (size count first : ℕ) (scope : ℕ → Type 0) (level : Depth) (within : (x : ℕ) → scope x → x < size)
     (own : size ≤ first) where

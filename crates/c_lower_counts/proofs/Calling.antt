@@ -2,74 +2,55 @@
 use Rattle.std.proofs.Common.{◌≡◌, ℕ, zero, suc, ◌+◌, ◌≤◌, ◌<◌, ◌^◌, ◌%◌, List, [], ◌∷◌, ◌++◌, length, Option, Some, None, refl, ap, arith, sym, ◌∙◌, subst, ◌⊎◌, inl, inr, ⊎_elim}
 use Rattle.std.specs.Prelude.{Bool, true, false, not, ◌&&◌, ◌||◌, cond, slice_get, nat_lt, take, ◌-◌, if◌then◌else◌}
 use Rattle.std.proofs.lemmas.Bool.{or_parts, or_cases, and_parts, not-false, not-true}
+use Rattle.std.proofs.lemmas.List.{take_at, drop_at}
+use Rattle.std.proofs.lemmas.Option.{slice_get_past}
 use Rattle.gg_base.specs.declared.run.End.TheVariants as ends
 use Rattle.gg_base.specs.Runs.{Runs, counted, one_first, stop, emit}
 use Rattle.tree_core.specs.declared.program.TreeItem.{TreeItem}
 use Rattle.tree_core.specs.declared.program.TreeProgram.{TreeProgram}
+use Rattle.tree_core.specs.declared.program.TreeFn.{TreeFn}
 use Rattle.tree_meaning.specs.declared.value.Value.{Value}
 use Rattle.tree_meaning.specs.declared.value.Value.TheVariants.{Number, ZeroDivisor, Wild}
 use Rattle.tree_meaning.specs.State.{Activation, with_local, arrived, returned, begun as begun_tree}
 use Rattle.tree_meaning.specs.Values.{there}
+use Rattle.tree_meaning.specs.Steps.{called_as, served, got as got_step}
+use Rattle.tree_meaning.specs.Meaning.{To, ended as ended_tree}
+use Rattle.tree_counts.specs.Counted.{tallied, tally, tallies}
+use Rattle.c_types.specs.declared.typed.Callee.{Callee}
+use Rattle.c_types.specs.declared.typed.Callee.TheVariants as callees
+use Rattle.c_program.specs.Programs.{ARoutine, AProgram}
 use Rattle.c_meaning.specs.State.{State}
 use Rattle.c_meaning.specs.Values.{RestAll, Behind, Next, Rest}
+use Rattle.c_meaning.specs.declared.flow.Flow.{Flow}
+use Rattle.c_meaning.specs.Calls.{put_char, got, call, answer, back, begun as begun_source, performed, entered, called as called_source}
+use Rattle.c_meaning.specs.Blocks.{pointer_number}
+use Rattle.c_sound.specs.Fits.{AreBytes}
 use Rattle.c_lower_scheme.specs.Trees.{Push, Call, Save, Tree, Loc, Item, AssignLoc, divides, reads, breaks, stable}
 use Rattle.c_lower_scheme.specs.Spelling.{spelled_all}
 use Rattle.c_lower_scheme.specs.Parts.{Passing, Lowered, is_nil, Destination, InLocal, AsResult, Releasing, delivered}
 use Rattle.c_lower_scheme.specs.Calls.{pushes, called_drop, called_low, must_pass_by, must_pass, pass_on, pass_so, no_arguments, callee_number, called_deliver}
 use Rattle.c_lower_scheme.specs.Assignments.{stays}
-use Rattle.c_sound.specs.Fits.{AreBytes}
+use Rattle.c_lower_scheme.proofs.Facts.{stable_inert, pushes_append}
 use Rattle.c_lower_follows.proofs.Values.{SmallTree, Ranged, Small, worth_small}
 use Rattle.c_lower_counts.proofs.Leads.{Leads, one_tree, leads_deep, leads_none, leads_below, leads_counted, leads_quiet, leads_emit, Depth, Under, deeper, fuller, at_turns}
+use Rattle.c_lower_counts.proofs.Carried.{called as called_tree, entered_is}
 use Rattle.c_lower_follows.proofs.Steps.{Desk, desk_sight, on, Resolves, resolves_back, resolves_split}
 use Rattle.c_lower_counts.proofs.Steps.{moves, state, lost, push_step, call_counts, save_step}
-use Rattle.c_lower_follows.proofs.Agreeing.{Below, below_more, Alike, value, value_alike, value_stable, value_pure, Since, agree_temp, set_same, set_other, not_nil, front_nil, back_nil, IsArea}
+use Rattle.c_lower_follows.proofs.Agreeing.{below_more, Alike, value, value_alike, value_stable, value_pure, Since, agree_temp, set_same, set_other, not_nil, front_nil, back_nil, IsArea}
 use Rattle.c_lower_follows.proofs.Agreeing.{extent_of}
-use Rattle.c_lower_counts.proofs.Storing.{use_number}
 use Rattle.c_lower_counts.proofs.Doing.{Drops, Delivers, delivered_does, assoc, save_temp}
-use Rattle.std.proofs.lemmas.List.{take_at, drop_at}
-use Rattle.tree_core.specs.declared.program.TreeFn.{TreeFn}
-use Rattle.tree_meaning.specs.Steps.{called_as, served, got as got_step}
-use Rattle.tree_meaning.specs.Meaning.{To, ended as ended_tree}
-use Rattle.tree_counts.specs.Counted.{tallied, tally, tallies}
-use Rattle.c_lower_follows.proofs.Calling.{CodeOf}
-use Rattle.c_program.specs.Programs.{ARoutine, AProgram}
-use Rattle.c_meaning.specs.declared.flow.Flow.{Flow}
-use Rattle.c_types.specs.declared.typed.Callee.{Callee}
-use Rattle.c_types.specs.declared.typed.Callee.TheVariants as callees
-use Rattle.c_lower_counts.proofs.Carried.{called as called_tree, entered_is}
-use Rattle.std.proofs.lemmas.Option.{slice_get_past}
-use Rattle.c_meaning.specs.Calls.{put_char, got, call, answer, back, begun as begun_source, performed, entered, called as called_source}
-use Rattle.c_meaning.specs.Blocks.{pointer_number}
-use Rattle.c_lower_scheme.proofs.Facts.{stable_inert, pushes_append}
+use Rattle.c_lower_counts.proofs.Storing.{use_number}
 use Rattle.c_lower_counts.proofs.Assigning.{agreed, gone, DoesLow}
-
-abbrev pub SmallAll : List Tree → Type 0
-SmallAll [] = Unit {0}
-SmallAll (w ∷ ws) = SmallTree w × SmallAll ws
-
-abbrev pub BelowAll : ℕ → List Tree → Type 0
-BelowAll u [] = Unit {0}
-BelowAll u (w ∷ ws) = Below u w × BelowAll u ws
+use Rattle.c_lower_follows.proofs.Calling.{AllSmall, on_all, PureBut, BelowAll, SmallAll, CodeOf}
 
 below_all_more : (u v : ℕ) (ws : List Tree) → u ≤ v → BelowAll u ws → BelowAll v ws
 below_all_more u v [] le h = tt
 below_all_more u v (w ∷ ws) le h = (below_more u v w le h.0, below_all_more u v ws le h.1)
 
--- no tree but the last may trap
-abbrev pub PureBut : List Tree → Type 0
-PureBut [] = Unit {0}
-PureBut (w ∷ []) = Unit {0}
-PureBut (w ∷ v ∷ ws) = (divides w ≡ false) × PureBut (v ∷ ws)
-
 pure_more : (w : Tree) (ws : List Tree) → (divides w ≡ false) ⊎ (ws ≡ []) → PureBut ws → PureBut (w ∷ ws)
 pure_more w [] o h = tt
 pure_more w (v ∷ ws) (inl e) h = (e, h)
 pure_more w (v ∷ ws) (inr e) h = absurd (cc)
-
--- what follows the values of trees, from left to right
-abbrev pub on_all : TreeProgram → List Tree → Desk → (List ℕ → Runs) → Runs
-on_all program [] d κ = κ []
-on_all program (w ∷ ws) d κ = on (value program w d) (λ v. on_all program ws d (λ vs. κ (v ∷ vs)))
 
 pushes_some : (ws : List Tree) (i : Item) (is : List Item) → pushes ws (i ∷ is) ≡ [] → ⊥
 pushes_some [] i is e = cc
@@ -78,10 +59,6 @@ pushes_some (w ∷ ws) i is e = pushes_some ws (Push w) (i ∷ is) e
 append_some : (is js : List Item) → (js ≡ [] → ⊥) → is ++ js ≡ [] → ⊥
 append_some [] js n e = n e
 append_some (i ∷ is) js n e = cc
-
-abbrev pub AllSmall : List ℕ → Type 0
-AllSmall [] = Unit {0}
-AllSmall (v ∷ vs) = (v < 2 ^ 32) × AllSmall vs
 
 nil_from : (a : List Item) → is_nil a ≡ true → a ≡ []
 nil_from [] e = refl

@@ -4,6 +4,7 @@ use Rattle.gg_base.specs.declared.run.End.TheVariants as ends
 use Rattle.gg_base.specs.declared.relation.Rel.{Rel}
 use Rattle.gg_base.specs.Relations.{holds}
 use Rattle.gg_base.specs.Runs.{Outcome, one_first}
+use Rattle.gg_base.specs.declared.run.Finish.TheVariants as finish
 use Rattle.tree_core.specs.declared.program.TreeFn.{TreeFn}
 use Rattle.tree_core.specs.declared.program.TreeProgram.{TreeProgram}
 use Rattle.tree_core.specs.declared.tree.Att.TheVariants as att
@@ -16,7 +17,6 @@ use Rattle.tree_meaning.specs.Deeds.{Deed, assigned as assigned_deed, branched a
 use Rattle.tree_meaning.specs.Steps.{Step, with_call, with_label, deed_step, tree_step, GoesTo, Goes}
 use Rattle.tree_meaning.specs.Steps as steps
 use Rattle.tree_meaning.specs.Meaning.{To, ended}
-use Rattle.gg_base.specs.declared.run.Finish.TheVariants as finish
 use Rattle.tree_counts.specs.Counted.{is_ahead, with_count, tallied, tally}
 use Rattle.c_lower_follows.proofs.Carried.{given}
 

@@ -4,9 +4,14 @@ use Rattle.std.specs.Prelude.{Bool, true, false, not, ◌==◌, nat_lt, nat_le}
 use Rattle.std.proofs.lemmas.Bool.{cases_lt, not-false, not-true, ne_eqb, lt-leb, le-leb, lt-ltb, le-ltb}
 use Rattle.gg_base.specs.declared.relation.Rel.TheVariants as relations
 use Rattle.gg_base.specs.Runs.{Runs, stop}
+use Rattle.gg_base.specs.declared.relation.Rel.{Rel}
+use Rattle.gg_base.specs.Relations.{holds}
+use Rattle.gg_base.specs.Numbers.{truth}
 use Rattle.tree_core.specs.declared.program.TreeItem.{TreeItem}
 use Rattle.tree_core.specs.declared.program.TreeProgram.{TreeProgram}
 use Rattle.tree_meaning.specs.State.{Activation, with_local, behind}
+use Rattle.c_types.specs.Constants.{apply_unary}
+use Rattle.c_types.specs.declared.typed.UnaryOperator.TheVariants as unaries
 use Rattle.c_meaning.specs.State.{State}
 use Rattle.c_meaning.specs.Values.{Rest, chosen, logical}
 use Rattle.c_lower_scheme.specs.Trees.{Jump, Num, Item, Label, AssignLoc, Cbr, sensed, opposite}
@@ -19,13 +24,9 @@ use Rattle.c_lower_counts.proofs.Ahead.{ahead_here, ahead_later, ahead_behind, a
 use Rattle.c_lower_follows.proofs.Steps.{Desk, Resolves, resolves_back, resolves_split}
 use Rattle.c_lower_counts.proofs.Steps.{label_step, label_counts, jump_step, at_items, to_label, goes_ahead, goes_on, from_before, moves, cbr_step}
 use Rattle.c_lower_follows.proofs.Agreeing.{Since, set_same, set_other, not_nil, back_nil}
-use Rattle.gg_base.specs.declared.relation.Rel.{Rel}
-use Rattle.gg_base.specs.Relations.{holds}
-use Rattle.gg_base.specs.Numbers.{truth}
-use Rattle.c_types.specs.Constants.{apply_unary}
-use Rattle.c_types.specs.declared.typed.UnaryOperator.TheVariants as unaries
-use Rattle.c_lower_counts.proofs.Doing.{either_way, Agrees, here, Does, DoesTwo, Drops, Asks, Delivers, DoesWay, assoc, save_temp, since_both, since_more, two_does, test_asks, delivered_does}
-use Rattle.c_lower_counts.proofs.Doing.{arrives_behind, Arrives}
+use Rattle.c_lower_follows.proofs.Doing.{either_way}
+use Rattle.c_lower_counts.proofs.Doing.{Agrees, here, Does, DoesTwo, Drops, Asks, Delivers, DoesWay, assoc, save_temp, since_both, since_more, two_does, test_asks, delivered_does, arrives_behind}
+use Rattle.c_lower_counts.proofs.Doing.{Arrives}
 use Rattle.c_lower_counts.proofs.Storing.{use_number}
 
 chosen_truth : (b : Bool) (κ : Rest) (st : State) → κ (truth b) st ≡ chosen (truth b) (κ 1 st) (κ 0 st)

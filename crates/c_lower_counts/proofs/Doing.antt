@@ -9,15 +9,16 @@ use Rattle.gg_base.specs.declared.size.Size.TheVariants as sizes
 use Rattle.gg_base.specs.LittleEndian.{with_number}
 use Rattle.tree_core.specs.declared.program.TreeItem.{TreeItem}
 use Rattle.tree_core.specs.declared.program.TreeProgram.{TreeProgram}
+use Rattle.tree_core.specs.Area.{stored, is_inside}
 use Rattle.tree_meaning.specs.declared.value.Value.{Value}
 use Rattle.tree_meaning.specs.declared.value.Value.TheVariants.{Number, ZeroDivisor, Wild}
 use Rattle.tree_meaning.specs.State.{Activation, with_local, returned}
+use Rattle.tree_meaning.specs.Values.{there, address_of as object_address}
 use Rattle.tree_counts.specs.Counted.{tallies as left_runs}
-use Rattle.tree_meaning.specs.Values.{bind, there, address_of as object_address}
-use Rattle.tree_core.specs.Area.{stored, is_inside}
+use Rattle.c_types.specs.declared.types.Integer.TheVariants as ints
 use Rattle.c_meaning.specs.State.{State}
 use Rattle.c_meaning.specs.Values.{Rest, chosen}
-use Rattle.c_types.specs.declared.types.Integer.TheVariants as ints
+use Rattle.c_sound.specs.Fits.{AreBytes, no_local}
 use Rattle.c_lower_scheme.specs.Trees.{Tree, Num, Gaddr, Loc, Item, AssignLoc, AssignMem, Cbr, Ret, divides, reads, breaks, stable}
 use Rattle.c_lower_scheme.specs.Spelling.{spelled_all}
 use Rattle.c_lower_scheme.specs.Parts.{Lowered, Pair, Emitted, Lowering, due, over, over_two, Destination, InLocal, AsResult, Releasing, delivered}
@@ -25,24 +26,15 @@ use Rattle.c_lower_scheme.specs.Saving.{saving, saved, next_if}
 use Rattle.c_lower_scheme.specs.Conditions.{valued, effective, mapped, test}
 use Rattle.c_lower_scheme.specs.Values.{must, join_so, join, binary, joined}
 use Rattle.c_lower_scheme.proofs.Facts.{stable_inert, must_not}
-use Rattle.c_sound.specs.Fits.{AreBytes, no_local}
 use Rattle.c_lower_follows.proofs.Values.{SmallTree, Small, worth_small, Ranged}
 use Rattle.c_lower_counts.proofs.Leads.{Leads, one_tree, leads_wild, Depth, Under}
 use Rattle.c_lower_follows.proofs.Steps.{Desk, desk_sight, on, Resolves, resolves_back, resolves_split}
 use Rattle.c_lower_counts.proofs.Steps.{at, written_at, moves, lost, assign_loc_step, assign_mem_step, cbr_step, ret_step, to_label}
+use Rattle.c_lower_follows.proofs.Areas.{stored_bytes}
 use Rattle.c_lower_follows.proofs.Agreeing.{Below, below_more, value, value_stable, value_pure, Agree, Since, since_start, agree_temp, set_same, set_other, not_nil, front_nil, back_nil}
 use Rattle.c_lower_follows.proofs.Agreeing.{value_unread, IsArea, extent_of}
-use Rattle.c_lower_follows.proofs.Areas.{stored_bytes}
+use Rattle.c_lower_follows.proofs.Doing.{either_way}
 use Rattle.c_lower_follows.proofs.Scopes.{agree_less}
-
-pub on_bind : (o : Value) (f : ℕ → Value) (κ : ℕ → Runs) → on (bind o f) κ ≡ on o (λ x. on (f x) κ)
-on_bind (Number x) f κ = refl
-on_bind ZeroDivisor f κ = refl
-on_bind Wild f κ = refl
-
-abbrev pub either_way : Bool → (State → Runs) → (State → Runs) → State → Runs
-either_way true met unmet = met
-either_way false met unmet = unmet
 
 -- A block can be given back: the stack's pointer, an object, lies in the data area, and the local behind the function's own keeps the block's address.
 pub record Opens (program : TreeProgram) (size first pointer n : ℕ) : Type 0 where

@@ -16,9 +16,9 @@ use Rattle.tree_core.specs.declared.program.TreeItem.{TreeItem}
 use Rattle.tree_core.specs.declared.program.TreeProgram.{TreeProgram}
 use Rattle.tree_core.specs.Area.{fetched, stored, is_inside}
 use Rattle.tree_meaning.specs.declared.value.Value.TheVariants.{Number, ZeroDivisor}
-use Rattle.tree_counts.specs.Counted.{tallies as left_runs}
 use Rattle.tree_meaning.specs.State.{Activation, with_local, behind, returned}
 use Rattle.tree_meaning.specs.Values.{bind, there, address_of as object_address}
+use Rattle.tree_counts.specs.Counted.{tallies as left_runs}
 use Rattle.c_types.specs.declared.types.Integer.TheVariants as ints
 use Rattle.c_types.specs.declared.typed.ArithmeticOperator.TheVariants as ariths
 use Rattle.c_types.specs.Types.{kept}
@@ -30,14 +30,14 @@ use Rattle.c_meaning.specs.State.{State, address, with_area, put}
 use Rattle.c_meaning.specs.Values.{Rest, Behind, or_wild, or_trap, written, read_at, store_at}
 use Rattle.c_meaning.specs.Calls.{answer}
 use Rattle.c_meaning.specs.Blocks.{int, pointer_number, area_number, beginning, with_block, claimed, released}
+use Rattle.c_sound.specs.Fits.{AreBytes, no_local}
 use Rattle.c_lower_scheme.specs.Trees.{Tree, Num, Gaddr, Loc, Indir, Bin, Item, Label, AssignLoc, AssignMem, Cbr, Ret}
 use Rattle.c_lower_scheme.specs.Spelling.{spelled_all}
 use Rattle.c_lower_scheme.specs.Flow.{claimed as claiming}
-use Rattle.c_sound.specs.Fits.{AreBytes, no_local}
 use Rattle.c_lower_follows.proofs.Values.{SmallTree, Small, worth_small, or_zero}
 use Rattle.c_lower_counts.proofs.Leads.{Leads, leads_quiet, Depth}
-use Rattle.c_lower_follows.proofs.Steps.{Desk, desk_sight, on, Resolves}
 use Rattle.c_lower_counts.proofs.Ahead.{ahead_here, ahead_later}
+use Rattle.c_lower_follows.proofs.Steps.{Desk, desk_sight, on, Resolves}
 use Rattle.c_lower_counts.proofs.Steps.{goes_on, at, written_at, moves, lost, assign_loc_step, assign_mem_step, cbr_step, ret_step}
 use Rattle.c_lower_follows.proofs.Agreeing.{value, IsArea, extent_of, Agree, agree_temp, set_same}
 use Rattle.c_lower_counts.proofs.Placing.{put_memory_step, read_mem}

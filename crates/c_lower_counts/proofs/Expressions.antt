@@ -41,6 +41,9 @@ use Rattle.c_meaning.specs.declared.store.Spot.TheVariants.{Memory}
 use Rattle.c_meaning.specs.State.{State, address, block_address}
 use Rattle.c_meaning.specs.Values.{Rest, RestAt, Next, or_wild, or_trap, read_at, store_at, stepped, of_moment, step_at, address_of, located, array_address}
 use Rattle.c_meaning.specs.Meaning.{expr, place, arguments}
+use Rattle.c_meaning.specs.Blocks.{pointer_number}
+use Rattle.c_sound.specs.Fits.{StandsIn, FitsAt, Fits, FitsAll}
+use Rattle.c_sound.specs.Stands.{Stands, StandsAt, StandAll}
 use Rattle.c_lower_scheme.specs.Trees.{Tree, Num, Gaddr, Neg, Com, Bin, Item}
 use Rattle.c_lower_scheme.specs.Parts.{Lowered, Lowering, Located, due, over, Destination, InLocal}
 use Rattle.c_lower_scheme.specs.Places.{in_block, where_of, address_tree, fitted, found, pointed, read_low, address_low, integer_of, conv}
@@ -50,16 +53,15 @@ use Rattle.c_lower_scheme.specs.Expressions.{unary, seek, way, pass}
 use Rattle.c_lower_scheme.specs.Calls.{callee_number, called_low}
 use Rattle.c_lower_scheme.specs.Conditions.{mapped, deliver_as, converting}
 use Rattle.c_lower_scheme.proofs.Places.{local_is}
-use Rattle.c_sound.specs.Fits.{StandsIn, FitsAt, Fits, FitsAll}
-use Rattle.c_sound.specs.Stands.{Stands, StandsAt, StandAll}
-use Rattle.c_meaning.specs.Blocks.{pointer_number}
 use Rattle.c_lower_follows.proofs.Values.{SmallTree, Small, worth_small, or_zero}
 use Rattle.c_lower_counts.proofs.Leads.{Leads, leads_wild, Depth}
 use Rattle.c_lower_follows.proofs.Steps.{Desk, desk_sight, on}
 use Rattle.c_lower_follows.proofs.Agreeing.{Below, value, since_start}
-use Rattle.c_lower_counts.proofs.Doing.{on_bind, Agrees, here, Does, Drops, Delivers, DoesWay, test_asks, delivered_does, due_does, Makes, Maps, valued_does, effective_does, binary_does}
-use Rattle.c_lower_counts.proofs.Doing.{mapped_does, over_does, way_same}
-use Rattle.c_lower_counts.proofs.Placing.{DoesReady, DoesPlace, fitted_maps, read_does, address_does, whole_value}
+use Rattle.c_lower_follows.proofs.Doing.{on_bind}
+use Rattle.c_lower_counts.proofs.Doing.{Agrees, here, Does, Drops, Delivers, DoesWay, test_asks, delivered_does, due_does, Makes, Maps, valued_does, effective_does, binary_does, mapped_does}
+use Rattle.c_lower_counts.proofs.Doing.{over_does, way_same}
+use Rattle.c_lower_follows.proofs.Placing.{whole_value}
+use Rattle.c_lower_counts.proofs.Placing.{DoesReady, DoesPlace, fitted_maps, read_does, address_does}
 use Rattle.c_lower_counts.proofs.Storing.{store_drop_does, store_low_does, fill_low_does, fill_drop_does}
 use Rattle.c_lower_counts.proofs.Assigning.{assign_does, assign_pure, update_does, update_pure, post_does}
 use Rattle.c_lower_follows.proofs.Calling.{CodeOf}

@@ -22,20 +22,21 @@ use Rattle.c_meaning.specs.declared.store.Spot.TheVariants.{Memory}
 use Rattle.c_meaning.specs.State.{State, integer_access, with_area, put, put_zeros}
 use Rattle.c_meaning.specs.Values.{written}
 use Rattle.c_meaning.specs.Blocks.{block_set, zeros_set}
+use Rattle.c_sound.specs.Fits.{HasSize}
 use Rattle.c_lower_scheme.specs.Trees.{Tree, Num, Loc, Bin, Item, Label, AssignLoc, AssignMem, Cbr}
 use Rattle.c_lower_scheme.specs.Spelling.{spelled_all}
 use Rattle.c_lower_scheme.specs.Places.{integer_of, in_block}
 use Rattle.c_lower_scheme.specs.Flow.{zeros_in_block}
-use Rattle.c_sound.specs.Fits.{HasSize}
 use Rattle.c_lower_follows.proofs.Values.{SmallTree, or_zero}
 use Rattle.c_lower_counts.proofs.Leads.{Leads, leads_quiet, Depth, with_spare, leads_more, leads_back}
 use Rattle.c_lower_follows.proofs.Steps.{Desk, on, Resolves}
 use Rattle.c_lower_counts.proofs.Steps.{narrowed, written_at, moves, assign_mem_step, cbr_step, label_step}
 use Rattle.c_lower_follows.proofs.Agreeing.{value, set_same, set_other}
 use Rattle.c_lower_counts.proofs.Doing.{Agrees, here, save_temp}
+use Rattle.c_lower_follows.proofs.Placing.{stored_narrowed}
+use Rattle.c_lower_counts.proofs.Placing.{put_memory_step}
 use Rattle.c_lower_follows.proofs.Blocks.{block_put, block_put_is}
 use Rattle.c_lower_follows.proofs.Held.{held_small, held_value, sum_of}
-use Rattle.c_lower_counts.proofs.Placing.{put_memory_step, stored_narrowed}
 
 -- what is stored has bytes
 size_some : (t : CType) → HasSize t → 1 ≤ size_of t

@@ -6,8 +6,8 @@ use Rattle.tree_core.specs.declared.program.Object.{Object}
 use Rattle.tree_core.specs.declared.program.TreeFn.{TreeFn}
 use Rattle.tree_core.specs.declared.program.TreeProgram.{TreeProgram}
 use Rattle.tree_meaning.specs.State.{Activation, returned, arrived, begun as begun_tree}
-use Rattle.tree_counts.specs.Counted.{tallies as runs}
 use Rattle.tree_meaning.specs.Values.{there as found_there}
+use Rattle.tree_counts.specs.Counted.{tallies as runs}
 use Rattle.c_types.specs.declared.typed.Variable.{Variable}
 use Rattle.c_types.specs.declared.typed.Variable.TheVariants as variables
 use Rattle.c_program.specs.Statements.{SomeActions}
@@ -19,25 +19,25 @@ use Rattle.c_meaning.specs.Values.{Behind, Task, Body, Next}
 use Rattle.c_meaning.specs.Meaning.{stmts, task}
 use Rattle.c_meaning.specs.Blocks.{pointer_number, claimed, released}
 use Rattle.c_meaning.specs.Calls.{answer, begun, performed}
+use Rattle.c_sound.specs.Fits.{AreBytes, FitsActs, no_local}
+use Rattle.c_sound.specs.Stands.{IsThere, Takes, StandsActs}
+use Rattle.c_sound.specs.Sound.{BodyStands}
 use Rattle.c_lower_scheme.specs.Trees.{Num}
 use Rattle.c_lower_scheme.specs.Spelling.{spelled_all}
 use Rattle.c_lower_scheme.specs.Parts.{Emitted, Destination, AsResult, Releasing, due, delivered}
 use Rattle.c_lower_scheme.specs.Flow.{claimed as claiming}
 use Rattle.c_lower_scheme.specs.Statements.{lower_row}
-use Rattle.c_sound.specs.Fits.{AreBytes, FitsActs, no_local}
+use Rattle.c_lower_counts.specs.Zeros.{row_zeros}
 use Rattle.c_lower_counts.proofs.Leads.{Leads, Depth, Under, fuller}
 use Rattle.c_lower_follows.proofs.Steps.{Desk, Resolves, resolves_back}
 use Rattle.c_lower_counts.proofs.Steps.{at, moves}
 use Rattle.c_lower_follows.proofs.Agreeing.{Agree, IsArea, extent_of}
-use Rattle.c_lower_counts.proofs.Calling.{AllSmall, Backed, Calls}
-use Rattle.c_lower_follows.proofs.Calling.{CodeOf, items_by}
+use Rattle.c_lower_counts.proofs.Doing.{due_does, delivered_does}
+use Rattle.c_lower_follows.proofs.Calling.{AllSmall, CodeOf, items_by}
+use Rattle.c_lower_counts.proofs.Calling.{Backed, Calls}
+use Rattle.c_lower_counts.proofs.Entering.{claim_does, gives_back, object_value}
 use Rattle.c_lower_counts.proofs.Landing.{Lands, Leaves, arrive}
 use Rattle.c_lower_counts.proofs.Rows.{rows_do}
-use Rattle.c_sound.specs.Stands.{IsThere, Takes, StandsActs}
-use Rattle.c_sound.specs.Sound.{BodyStands}
-use Rattle.c_lower_counts.proofs.Doing.{due_does, delivered_does}
-use Rattle.c_lower_counts.proofs.Entering.{claim_does, gives_back, object_value}
-use Rattle.c_lower_counts.specs.Zeros.{row_zeros}
 
 small_get : (vs : List ℕ) (n v : ℕ) → AllSmall vs → slice_get vs n ≡ Some v → v < 2 ^ 32
 small_get [] n v h e = absurd (cc)

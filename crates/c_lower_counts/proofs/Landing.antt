@@ -8,10 +8,10 @@ use Rattle.tree_meaning.specs.State.{Activation, behind}
 use Rattle.c_meaning.specs.declared.flow.Flow.TheVariants.{Onward, Broke, Continued, Returned}
 use Rattle.c_meaning.specs.State.{State}
 use Rattle.c_meaning.specs.Values.{Behind, Rest}
+use Rattle.c_sound.specs.Fits.{no_local}
 use Rattle.c_lower_scheme.specs.Trees.{Item}
 use Rattle.c_lower_scheme.specs.Spelling.{spelled_all}
 use Rattle.c_lower_scheme.specs.Parts.{Emitted, Destination, InLocal, AsResult, Releasing}
-use Rattle.c_sound.specs.Fits.{no_local}
 use Rattle.c_lower_counts.proofs.Leads.{Leads, one_tree, jumped, leads_below, Depth, Under, deeper, with_spare, leads_more}
 use Rattle.c_lower_follows.proofs.Steps.{Desk, Resolves}
 use Rattle.c_lower_counts.proofs.Steps.{at, at_items, moves, to_label}

@@ -12,18 +12,18 @@ use Rattle.c_program.specs.Programs.{ARoutine, AProgram}
 use Rattle.c_meaning.specs.Blocks.{pointer_number}
 use Rattle.c_meaning.specs.Programs.{finished, means, at_first, main_of}
 use Rattle.c_meaning.proofs.Law.{means_is}
-use Rattle.c_lower_scheme.specs.Programs.{body_of, function_of, lower_all, lowered}
-use Rattle.c_lower_scheme.proofs.Facts.{all_lowered}
 use Rattle.c_sound.specs.Fits.{AreBytes}
 use Rattle.c_sound.specs.Sound.{IsMain, IsSound}
 use Rattle.c_sound.proofs.Bytes.{zeros_are_bytes, bytes_joined}
+use Rattle.c_lower_scheme.specs.Programs.{body_of, function_of, lower_all, lowered}
+use Rattle.c_lower_scheme.proofs.Facts.{all_lowered}
 use Rattle.c_lower_counts.specs.Claim.{LoweringCountsNoMore, Within}
+use Rattle.c_lower_counts.specs.Zeros.{row_zeros, all_zeros, zeros_of, with_zeros}
 use Rattle.c_lower_counts.proofs.Leads.{Leads, leads_ended, Depth, fuller, times_suc}
 use Rattle.c_lower_follows.proofs.Calling.{CodeOf}
 use Rattle.c_lower_counts.proofs.Calling.{Backed}
 use Rattle.c_lower_counts.proofs.Functions.{calls_at}
 use Rattle.c_lower_follows.proofs.Labels.{all_code}
-use Rattle.c_lower_counts.specs.Zeros.{row_zeros, all_zeros, zeros_of, with_zeros}
 
 -- the data area holds bytes
 opening_bytes : (at : ℕ) (os : List Object) → ((n : ℕ) (o : Object) → slice_get os n ≡ Some o → AreBytes o.bytes) → AreBytes (bytes_from at os)

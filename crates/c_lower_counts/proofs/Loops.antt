@@ -20,17 +20,17 @@ use Rattle.c_meaning.specs.State.{State}
 use Rattle.c_meaning.specs.Blocks.{pointer_number}
 use Rattle.c_meaning.specs.Values.{Behind, ALoop, plain_loop, for_loop, Task, Look, Next, chosen}
 use Rattle.c_meaning.specs.Meaning.{expr, dropped, turned, turn_by, look_by, stmt, task}
+use Rattle.c_sound.specs.Fits.{Fits, FitsMaybe}
+use Rattle.c_sound.specs.Stands.{Stands, StandsMaybe}
 use Rattle.c_lower_scheme.specs.Trees.{Item, Label, Jump}
 use Rattle.c_lower_scheme.specs.Spelling.{spelled_all}
 use Rattle.c_lower_scheme.specs.Parts.{Emitted, Destination}
 use Rattle.c_lower_scheme.specs.Expressions.{way}
 use Rattle.c_lower_scheme.specs.Flow.{loop_done, while_done, turns_done, for_done, ever_done}
 use Rattle.c_lower_scheme.specs.Statements.{unless, when, effect, while_by, for_tested, for_of, lower}
-use Rattle.c_sound.specs.Fits.{Fits, FitsMaybe}
-use Rattle.c_sound.specs.Stands.{Stands, StandsMaybe}
+use Rattle.c_lower_counts.specs.Zeros.{act_zeros}
 use Rattle.c_lower_counts.proofs.Leads.{Leads, one_tree, jumped, leads_wild, leads_quiet, leads_counted, leads_none, Depth, Under, deeper, at_turns, with_spare, fuller}
 use Rattle.c_lower_counts.proofs.Ahead.{ahead_here, ahead_later, ahead_behind, ahead_joined}
-use Rattle.c_lower_counts.proofs.Constants.{constant_goes}
 use Rattle.c_lower_follows.proofs.Steps.{Desk, Resolves, resolves_back, resolves_split}
 use Rattle.c_lower_counts.proofs.Steps.{at, at_items, moves, jump_step, jump_counts, label_step, label_counts, is_back, goes_on}
 use Rattle.c_lower_follows.proofs.Agreeing.{Agree, extent_of}
@@ -39,7 +39,7 @@ use Rattle.c_lower_follows.proofs.Calling.{CodeOf}
 use Rattle.c_lower_counts.proofs.Calling.{Calls}
 use Rattle.c_lower_counts.proofs.Expressions.{way_does}
 use Rattle.c_lower_follows.proofs.Scopes.{agree_less}
-use Rattle.c_lower_counts.specs.Zeros.{act_zeros}
+use Rattle.c_lower_counts.proofs.Constants.{constant_goes}
 use Rattle.c_lower_counts.proofs.Landing.{Lands, DoesStmt, Turned, joined_at, lands_below, lands_more}
 use Rattle.c_lower_counts.proofs.Statements.{effect_does}
 

@@ -1,20 +1,17 @@
 -- What the items of places and assignments do.
-use Rattle.std.proofs.Common.{◌≡◌, ℕ, ◌+◌, ◌≤◌, ◌<◌, ◌^◌, ◌%◌, List, ◌++◌, length, Option, Some, None, refl, ap, arith, sym, ◌∙◌, subst, ⊎_elim}
-use Rattle.std.specs.Prelude.{Bool, true, false, cond, slice_get, slice_set, nat_lt, take, drop, ◌-◌}
-use Rattle.std.specs.Int.{w16, to_le_bytes}
+use Rattle.std.proofs.Common.{◌≡◌, ℕ, ◌≤◌, ◌<◌, ◌^◌, List, ◌++◌, length, Option, Some, None, refl, ap, arith, sym, ◌∙◌, subst, ⊎_elim}
+use Rattle.std.specs.Prelude.{Bool, true, false, cond, slice_get, slice_set, nat_lt}
 use Rattle.std.specs.Option.{option_map}
 use Rattle.std.proofs.lemmas.Bool.{cases_eq, ltb-true}
 use Rattle.std.proofs.lemmas.List.{length-set}
-use Rattle.std.proofs.lemmas.Bool.Decides.{nat_tests}
 use Rattle.gg_base.specs.declared.run.End.TheVariants as ends
 use Rattle.gg_base.specs.declared.size.Size.{Size}
 use Rattle.gg_base.specs.declared.size.Size.TheVariants as sizes
-use Rattle.gg_base.specs.Arithmetic.{sext8, sext16, zext8, zext16}
 use Rattle.gg_base.specs.Runs.{Runs, stop}
 use Rattle.gg_base.proofs.Facts.{slice_set_same, slice_set_other}
 use Rattle.tree_core.specs.declared.program.TreeItem.{TreeItem}
 use Rattle.tree_core.specs.declared.program.TreeProgram.{TreeProgram}
-use Rattle.tree_core.specs.Area.{fetched, stored, is_inside}
+use Rattle.tree_core.specs.Area.{fetched, stored}
 use Rattle.tree_meaning.specs.declared.value.Value.{Value}
 use Rattle.tree_meaning.specs.declared.value.Value.TheVariants.{Number, ZeroDivisor, Wild}
 use Rattle.tree_meaning.specs.State.{Activation, with_local}
@@ -26,88 +23,25 @@ use Rattle.c_types.specs.declared.types.CType.TheVariants as types
 use Rattle.c_types.specs.Types.{kept}
 use Rattle.c_types.specs.Constants.{converted}
 use Rattle.c_meaning.specs.declared.store.Spot.{Spot}
-use Rattle.c_meaning.specs.declared.store.Spot.TheVariants.{Local, Parameter, Memory}
+use Rattle.c_meaning.specs.declared.store.Spot.TheVariants.{Memory}
 use Rattle.c_meaning.specs.State.{State, integer_access, set_at, with_locals, with_parameters, with_area, put_local, put}
 use Rattle.c_meaning.specs.Values.{Rest, RestAt, or_wild, written, read_at, address_of}
-use Rattle.c_lower_scheme.specs.Trees.{Tree, Indir, Item, divides}
+use Rattle.c_lower_scheme.specs.Trees.{Tree, Indir, Item}
 use Rattle.c_lower_scheme.specs.Parts.{Where, InLoc, InArg, InMem, Located, Assignable}
 use Rattle.c_lower_scheme.specs.Places.{integer_of, conv, fitted, read_from, address_tree, read_low, address_low}
 use Rattle.c_lower_follows.proofs.Values.{SmallTree}
 use Rattle.c_lower_counts.proofs.Leads.{Leads, leads_wild, Depth, Under}
 use Rattle.c_lower_follows.proofs.Steps.{Desk, on, Resolves}
 use Rattle.c_lower_counts.proofs.Steps.{narrowed, written_at}
-use Rattle.c_lower_follows.proofs.Agreeing.{Below, value, ranged_set, set_both, set_other}
-use Rattle.c_lower_counts.proofs.Doing.{on_bind, Agrees, here, Onto, Does, Maps}
 use Rattle.c_lower_follows.proofs.Areas.{stored_bytes, stored_long}
-
--- memory takes the low bits
-stored_zext8 : (area : List ℕ) (x v w : ℕ) → v % 2 ^ 8 ≡ w % 2 ^ 8 → stored sizes.Byte area x v ≡ stored sizes.Byte area x w
-stored_zext8 area x v w e = ap (λ b. cond (is_inside sizes.Byte area x) (Some (slice_set area (x - 65536) b)) None) e
-
-stored_zext16 : (area : List ℕ) (x v w : ℕ) → v % 2 ^ 16 ≡ w % 2 ^ 16 → stored sizes.Word area x v ≡ stored sizes.Word area x w
-stored_zext16 area x v w e = ap (λ b. cond (is_inside sizes.Word area x) (Some (take (x - 65536) area ++ (to_le_bytes w16 b ++ drop (x - 65536 + 2) area))) None) e
-
-low_sext8 : (v : ℕ) → sext8 v % 2 ^ 8 ≡ v % 2 ^ 8
-low_sext8 v = grind (arith, nat_tests)
-
-low_sext16 : (v : ℕ) → sext16 v % 2 ^ 16 ≡ v % 2 ^ 16
-low_sext16 v = grind (arith, nat_tests)
-
-low_zext8 : (v : ℕ) → zext8 v % 2 ^ 8 ≡ v % 2 ^ 8
-low_zext8 v = omega arith
-
-low_zext16 : (v : ℕ) → zext16 v % 2 ^ 16 ≡ v % 2 ^ 16
-low_zext16 v = omega arith
-
--- what is narrowed, or converted, is stored as the value itself
-pub stored_kept : (i : Integer) (area : List ℕ) (x v : ℕ) → stored (integer_access i) area x (kept i v) ≡ stored (integer_access i) area x v
-unfolding kept
-stored_kept ints.Char area x v = stored_zext8 area x (sext8 v) v (low_sext8 v)
-stored_kept ints.UnsignedChar area x v = stored_zext8 area x (zext8 v) v (low_zext8 v)
-stored_kept ints.Short area x v = stored_zext16 area x (sext16 v) v (low_sext16 v)
-stored_kept ints.UnsignedShort area x v = stored_zext16 area x (zext16 v) v (low_zext16 v)
-stored_kept ints.Int area x v = refl
-
-pub stored_narrowed : (program : TreeProgram) (code : List TreeItem) (callers : List Activation) (i : Integer) (area : List ℕ) (x v : ℕ)
-    → stored (integer_access i) area x (narrowed program code callers i v) ≡ stored (integer_access i) area x v
-stored_narrowed p c cs ints.Char area x v = stored_zext8 area x (zext8 v) v (low_zext8 v)
-stored_narrowed p c cs ints.UnsignedChar area x v = stored_zext8 area x (zext8 v) v (low_zext8 v)
-stored_narrowed p c cs ints.Short area x v = stored_zext16 area x (zext16 v) v (low_zext16 v)
-stored_narrowed p c cs ints.UnsignedShort area x v = stored_zext16 area x (zext16 v) v (low_zext16 v)
-stored_narrowed p c cs ints.Int area x v = refl
-
--- what is converted to a type
-pub conv_value : (t : CType) (v : ℕ) → converted t v ≡ kept (integer_of t) v
-unfolding converted kept
-conv_value types.Void v = refl
-conv_value (types.Integer i) v = refl
-conv_value (types.Pointer i n) v = refl
-
--- a type as wide as a longword takes a value as it is
-pub whole_value : (t : CType) (v : ℕ) → integer_of t ≡ ints.Int → converted t v ≡ v
-unfolding kept
-whole_value t v is = conv_value t v ∙ ap (λ i. kept i v) is
+use Rattle.c_lower_follows.proofs.Agreeing.{Below, value, ranged_set, set_both, set_other}
+use Rattle.c_lower_follows.proofs.Doing.{on_bind}
+use Rattle.c_lower_counts.proofs.Doing.{Agrees, here, Onto, Does, Maps}
+use Rattle.c_lower_follows.proofs.Placing.{SmallPlace, place_on, conv_value}
 
 on_there : (o : Option ℕ) (κ : Rest) (st : State) → on (there o) (λ v. κ v st) ≡ or_wild o κ st
 on_there None κ st = refl
 on_there (Some v) κ st = refl
-
--- what follows a place
-abbrev pub place_on : TreeProgram → Where → Desk → (Spot → Runs) → Runs
-place_on program (InLoc n) d f = f (Local n)
-place_on program (InArg n) d f = f (Parameter n)
-place_on program (InMem a) d f = on (value program a d) (λ x. f (Memory x))
-
-abbrev pub SmallPlace : Where → Type 0
-SmallPlace (InLoc n) = Unit {0}
-SmallPlace (InArg n) = Unit {0}
-SmallPlace (InMem a) = SmallTree a
-
--- an address has no zero divisor
-abbrev pub PurePlace : Where → Type 0
-PurePlace (InLoc n) = Unit {0}
-PurePlace (InArg n) = Unit {0}
-PurePlace (InMem a) = divides a ≡ false
 
 module _ (program : TreeProgram) (code : List TreeItem) (callers : List Activation) (size count first : ℕ) (scope : ℕ → Type 0) (level : Depth) where
   abbrev pub ok : State → Desk → Type 0

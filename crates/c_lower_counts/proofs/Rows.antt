@@ -18,12 +18,13 @@ use Rattle.c_meaning.specs.State.{State}
 use Rattle.c_meaning.specs.Blocks.{pointer_number}
 use Rattle.c_meaning.specs.Values.{Behind, for_loop, Task, Next}
 use Rattle.c_meaning.specs.Meaning.{look_by, followed, stmt, stmts, task}
+use Rattle.c_sound.specs.Fits.{behind_act, FitsAct, FitsActs}
+use Rattle.c_sound.specs.Stands.{StandsAct, StandsActs}
 use Rattle.c_lower_scheme.specs.Trees.{Item}
 use Rattle.c_lower_scheme.specs.Parts.{Emitted, Destination}
 use Rattle.c_lower_scheme.specs.Zeros.{is_overwritten}
 use Rattle.c_lower_scheme.specs.Statements.{unless, effect, for_of, lower, lower_row, going}
-use Rattle.c_sound.specs.Fits.{behind_act, FitsAct, FitsActs}
-use Rattle.c_sound.specs.Stands.{StandsAct, StandsActs}
+use Rattle.c_lower_counts.specs.Zeros.{act_zeros, row_zeros}
 use Rattle.c_lower_counts.proofs.Leads.{Leads, Depth, Under, with_spare, leads_more}
 use Rattle.c_lower_follows.proofs.Steps.{Desk, Resolves, resolves_back, resolves_split}
 use Rattle.c_lower_counts.proofs.Steps.{at, jump_counts, from_before}
@@ -32,7 +33,6 @@ use Rattle.c_lower_follows.proofs.Calling.{CodeOf}
 use Rattle.c_lower_counts.proofs.Calling.{Calls}
 use Rattle.c_lower_follows.proofs.Scopes.{behind_more, behind_within, agree_less}
 use Rattle.c_lower_follows.proofs.Waiting.{sets_or_not, Partly, wholly, none_waits, past_declare, into_block}
-use Rattle.c_lower_counts.specs.Zeros.{act_zeros, row_zeros}
 use Rattle.c_lower_counts.proofs.Landing.{Lands, DoesStmt, joined_at, lands_more}
 use Rattle.c_lower_counts.proofs.Statements.{declare_does, evaluate_by, first_part_does, return_does, if_by_does, if_else_does}
 use Rattle.c_lower_counts.proofs.Loops.{do_does, while_by_does, for_does}

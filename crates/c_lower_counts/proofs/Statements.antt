@@ -22,6 +22,8 @@ use Rattle.c_meaning.specs.State.{State, with_locals, put_local}
 use Rattle.c_meaning.specs.Blocks.{pointer_number, block_set}
 use Rattle.c_meaning.specs.Values.{Behind, Task, Next, chosen, written, store_at}
 use Rattle.c_meaning.specs.Meaning.{expr, dropped, local_set, declared, followed, stmt, stmts, task, returned as returned_source}
+use Rattle.c_sound.specs.Fits.{Fits, FitsMaybe, more, declaring, behind_act, FitsDeclared, FitsAct, FitsActs}
+use Rattle.c_sound.specs.Stands.{Stands, StandsMaybe, StandsDeclared, StandsAct, StandsActs}
 use Rattle.c_lower_scheme.specs.Trees.{Num, Item, Label, AssignLoc, AssignMem, Jump}
 use Rattle.c_lower_scheme.specs.Spelling.{spelled_all}
 use Rattle.c_lower_scheme.specs.Parts.{InLoc, Emitted, Destination, InLocal, due, delivered}
@@ -32,25 +34,24 @@ use Rattle.c_lower_scheme.specs.Mentions.{mentions}
 use Rattle.c_lower_scheme.specs.Zeros.{sets, is_zeroed}
 use Rattle.c_lower_scheme.specs.Flow.{clearing, begin_of, zeros_in_block, if_done, if_else_done}
 use Rattle.c_lower_scheme.specs.Statements.{unless, when, effect, returning, declare, lower, going, going_alone, if_by}
-use Rattle.c_sound.specs.Fits.{Fits, FitsMaybe, more, declaring, behind_act, FitsDeclared, FitsAct, FitsActs}
-use Rattle.c_sound.specs.Stands.{Stands, StandsMaybe, StandsDeclared, StandsAct, StandsActs}
 use Rattle.c_lower_scheme.proofs.Places.{local_is}
+use Rattle.c_lower_counts.specs.Zeros.{declared_zeros, act_zeros}
 use Rattle.c_lower_counts.proofs.Leads.{Leads, one_tree, leads_quiet, Depth, Under, with_spare, leads_more}
 use Rattle.c_lower_counts.proofs.Ahead.{ahead_here, ahead_later, ahead_behind, ahead_joined}
 use Rattle.c_lower_follows.proofs.Steps.{Desk, Resolves, resolves_back, resolves_split}
 use Rattle.c_lower_counts.proofs.Steps.{at, moves, jump_step, label_step, to_label, goes_on, from_before}
 use Rattle.c_lower_follows.proofs.Agreeing.{Agree, extent_of}
 use Rattle.c_lower_counts.proofs.Doing.{DoesWay, Does as DoesValue, due_does, delivered_does}
+use Rattle.c_lower_follows.proofs.Placing.{whole_value}
+use Rattle.c_lower_counts.proofs.Placing.{fitted_maps}
+use Rattle.c_lower_counts.proofs.Filling.{stored_does, zeros_does}
 use Rattle.c_lower_follows.proofs.Calling.{CodeOf}
 use Rattle.c_lower_counts.proofs.Calling.{Calls}
-use Rattle.c_lower_counts.proofs.Placing.{fitted_maps, whole_value}
 use Rattle.c_lower_counts.proofs.Expressions.{way_does}
 use Rattle.c_lower_follows.proofs.Scopes.{without, fits_without, behind_more, more_within, agree_less}
 use Rattle.c_lower_follows.proofs.Waiting.{Sets, SetsLocal, sets_or_not, Partly, past_keep, past_clear, past_left, past_begin, begin_fits, past_store, store_fits, past_zeros, past_other}
 use Rattle.c_lower_follows.proofs.Waiting.{other_fits, past_set, set_fits, for_live, for_set, for_fits}
 use Rattle.c_lower_counts.proofs.Locals.{local_step, cleared_by, set_local}
-use Rattle.c_lower_counts.proofs.Filling.{stored_does, zeros_does}
-use Rattle.c_lower_counts.specs.Zeros.{declared_zeros, act_zeros}
 use Rattle.c_lower_counts.proofs.Landing.{Lands, DoesStmt, arrive, joined_at, lands_more}
 
 module _ (program : TreeProgram) (code : List TreeItem) (callers : List Activation) (size count first : ℕ) (level : Depth) (out : Destination) (own : size ≤ first) where

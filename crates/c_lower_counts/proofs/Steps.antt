@@ -33,11 +33,11 @@ use Rattle.c_meaning.specs.State.{integer_access}
 use Rattle.c_lower_scheme.specs.Trees.{Tree, Item, Label, AssignLoc, AssignArg, AssignMem, Cbr, Jump, Push, Call, Save, Ret}
 use Rattle.c_lower_scheme.specs.Spelling.{leaf, plain, leaves_onto, spelled_all}
 use Rattle.c_lower_follows.proofs.Values.{SmallTree, Ranged, planted, grown_one, grown_two, grown_tree, worth, stands, stands_is}
-use Rattle.c_lower_follows.proofs.Carried.{given}
-use Rattle.c_lower_follows.proofs.Steps.{Desk, desk_sight, on}
-use Rattle.c_lower_counts.proofs.Carried.{done, assigned, called, given_is, branched_is}
 use Rattle.c_lower_counts.proofs.Leads.{Leads, one_tree, jumped, leads_quiet, leads_wild, leads_trapped, leads_less, Depth}
+use Rattle.c_lower_follows.proofs.Carried.{given}
+use Rattle.c_lower_counts.proofs.Carried.{done, assigned, called, given_is, branched_is}
 use Rattle.c_lower_counts.proofs.Ahead.{IsAhead, ahead_behind}
+use Rattle.c_lower_follows.proofs.Steps.{Desk, desk_sight, on}
 
 module _ (program : TreeProgram) (code : List TreeItem) (callers : List Activation) where
   abbrev pub activation : List TreeItem → Desk → Activation

@@ -31,9 +31,9 @@ use Rattle.c_lower_counts.proofs.Leads.{Leads, Depth, Under}
 use Rattle.c_lower_follows.proofs.Steps.{Desk, desk_sight, on, Resolves, resolves_back, resolves_split}
 use Rattle.c_lower_counts.proofs.Steps.{lost, narrowed, written_at, assign_loc_step, assign_arg_step, assign_mem_step}
 use Rattle.c_lower_follows.proofs.Agreeing.{Below, alike_set, value, value_alike, value_stable, value_pure, Since, set_same, set_other, not_nil, back_nil}
-use Rattle.c_lower_counts.proofs.Placing.{stored_kept, stored_narrowed, conv_value, place_on, SmallPlace, PurePlace, ok, run_at, DoesPlace, DoesReady, fitted_maps, put_local_step}
-use Rattle.c_lower_counts.proofs.Placing.{put_argument_step, put_memory_step, whole_value, FitsPlace}
 use Rattle.c_lower_counts.proofs.Doing.{waits_by, Does, Drops, Delivers, assoc, save_temp}
+use Rattle.c_lower_follows.proofs.Placing.{stored_kept, stored_narrowed, conv_value, place_on, SmallPlace, PurePlace, whole_value}
+use Rattle.c_lower_counts.proofs.Placing.{ok, run_at, DoesPlace, DoesReady, fitted_maps, put_local_step, put_argument_step, put_memory_step, FitsPlace}
 
 -- what a part that may be saved, and the items behind it, leave
 pub record Held (size t0 v u : ℕ) (items : List Item) (st : State) (d : Desk) (st' : State) (d' : Desk) : Type 0 where
