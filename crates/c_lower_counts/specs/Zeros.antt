@@ -1,4 +1,4 @@
--- How many zeros the declarations of a program set: those of the missing elements of its automatic arrays.
+-- How many zeros the declarations of a program set: one for each element of its automatic arrays that a declaration gives no value.
 use Rattle.std.specs.Prelude.{ℕ, ◌+◌, ◌*◌, List, [], ◌∷◌}
 use Rattle.c_program.specs.Statements.{ADeclaration, KeepOf, ClearOf, BeginOf, StoreOf, ZerosOf, AnAction, SomeActions, NoActions}
 use Rattle.c_program.specs.Statements.{MoreActions, DeclareOf, BlockOf, EvaluateOf, BreakOf, ContinueOf, ReturnOf, IfOf, IfElseOf}
