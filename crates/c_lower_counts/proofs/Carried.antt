@@ -1,10 +1,10 @@
--- How the tally of a tree program goes on behind a tree, by the values that the tree reads.
 use Rattle.std.proofs.Common.{◌≡◌, ℕ, ◌+◌, Bool, true, false, cond, List, length, Option, refl, nat_lt}
 use Rattle.std.specs.Prelude.{not}
 use Rattle.gg_base.specs.declared.run.End.TheVariants as ends
 use Rattle.gg_base.specs.declared.relation.Rel.{Rel}
 use Rattle.gg_base.specs.Relations.{holds}
 use Rattle.gg_base.specs.Runs.{Outcome, one_first}
+use Rattle.gg_base.specs.declared.run.Finish.TheVariants as finish
 use Rattle.tree_core.specs.declared.program.TreeFn.{TreeFn}
 use Rattle.tree_core.specs.declared.program.TreeProgram.{TreeProgram}
 use Rattle.tree_core.specs.declared.tree.Att.TheVariants as att
@@ -17,7 +17,6 @@ use Rattle.tree_meaning.specs.Deeds.{Deed, assigned as assigned_deed, branched a
 use Rattle.tree_meaning.specs.Steps.{Step, with_call, with_label, deed_step, tree_step, GoesTo, Goes}
 use Rattle.tree_meaning.specs.Steps as steps
 use Rattle.tree_meaning.specs.Meaning.{To, ended}
-use Rattle.gg_base.specs.declared.run.Finish.TheVariants as finish
 use Rattle.tree_counts.specs.Counted.{is_ahead, with_count, tallied, tally}
 use Rattle.c_lower_follows.proofs.Carried.{given}
 

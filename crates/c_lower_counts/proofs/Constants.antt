@@ -7,8 +7,8 @@ use Rattle.gg_base.specs.Relations.{holds}
 use Rattle.gg_base.specs.Numbers.{truth}
 use Rattle.gg_base.proofs.Facts.{not_zero, guarded}
 use Rattle.c_types.specs.Constants.{converted, is_zero, apply_unary, apply, advanced, retreated, distance, is_constant, option_of, value_of, constant_of}
-use Rattle.c_types.specs.Typed.{AnExpression, Constant, SizeOfExpression, SizeOf, UnaryOf, CastTo, ArithmeticOf, CompareOf}
-use Rattle.c_types.specs.Typed.{BothOf, EitherOf, AdvanceOf, AdvanceByOf, RetreatOf, DistanceOf, ChoiceOf}
+use Rattle.c_types.specs.Typed.{AnExpression, Constant, SizeOfExpression, SizeOf, UnaryOf, CastTo, ArithmeticOf, CompareOf, BothOf, EitherOf, AdvanceOf, AdvanceByOf, RetreatOf, DistanceOf}
+use Rattle.c_types.specs.Typed.{ChoiceOf}
 use Rattle.c_program.specs.Programs.{AProgram}
 use Rattle.c_meaning.specs.State.{State}
 use Rattle.c_meaning.specs.Values.{Rest, Next, chosen, logical, or_trap}

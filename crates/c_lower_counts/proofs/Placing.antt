@@ -1,21 +1,17 @@
 -- What the items of places and assignments do.
-use Rattle.std.proofs.Common.{◌≡◌, ℕ, zero, suc, ◌+◌, ◌≤◌, ◌<◌, ◌^◌, ◌%◌, List, [], ◌∷◌, ◌++◌, length, Option, Some, None, refl, ap, arith, sym, ◌∙◌, subst, ⊎_elim}
-use Rattle.std.specs.Prelude.{Bool, true, false, cond, slice_get, slice_set, nat_lt, take, drop, ◌-◌}
-use Rattle.std.specs.Int.{w16, w32, to_le_bytes}
+use Rattle.std.proofs.Common.{◌≡◌, ℕ, ◌≤◌, ◌<◌, ◌^◌, List, ◌++◌, length, Option, Some, None, refl, ap, arith, sym, ◌∙◌, subst, ⊎_elim}
+use Rattle.std.specs.Prelude.{Bool, true, false, cond, slice_get, slice_set, nat_lt}
 use Rattle.std.specs.Option.{option_map}
 use Rattle.std.proofs.lemmas.Bool.{cases_eq, ltb-true}
 use Rattle.std.proofs.lemmas.List.{length-set}
-use Rattle.std.proofs.lemmas.Bool.Decides.{nat_tests}
 use Rattle.gg_base.specs.declared.run.End.TheVariants as ends
 use Rattle.gg_base.specs.declared.size.Size.{Size}
 use Rattle.gg_base.specs.declared.size.Size.TheVariants as sizes
-use Rattle.gg_base.specs.Arithmetic.{sext8, sext16, zext8, zext16}
 use Rattle.gg_base.specs.Runs.{Runs, stop}
-use Rattle.gg_base.specs.LittleEndian.{with_number}
 use Rattle.gg_base.proofs.Facts.{slice_set_same, slice_set_other}
 use Rattle.tree_core.specs.declared.program.TreeItem.{TreeItem}
 use Rattle.tree_core.specs.declared.program.TreeProgram.{TreeProgram}
-use Rattle.tree_core.specs.Area.{fetched, stored, is_inside}
+use Rattle.tree_core.specs.Area.{fetched, stored}
 use Rattle.tree_meaning.specs.declared.value.Value.{Value}
 use Rattle.tree_meaning.specs.declared.value.Value.TheVariants.{Number, ZeroDivisor, Wild}
 use Rattle.tree_meaning.specs.State.{Activation, with_local}
@@ -27,116 +23,32 @@ use Rattle.c_types.specs.declared.types.CType.TheVariants as types
 use Rattle.c_types.specs.Types.{kept}
 use Rattle.c_types.specs.Constants.{converted}
 use Rattle.c_meaning.specs.declared.store.Spot.{Spot}
-use Rattle.c_meaning.specs.declared.store.Spot.TheVariants.{Local, Parameter, Memory}
+use Rattle.c_meaning.specs.declared.store.Spot.TheVariants.{Memory}
 use Rattle.c_meaning.specs.State.{State, integer_access, set_at, with_locals, with_parameters, with_area, put_local, put}
 use Rattle.c_meaning.specs.Values.{Rest, RestAt, or_wild, written, read_at, address_of}
-use Rattle.c_lower_scheme.specs.Trees.{Tree, Indir, Item, divides}
+use Rattle.c_lower_scheme.specs.Trees.{Tree, Indir, Item}
 use Rattle.c_lower_scheme.specs.Parts.{Where, InLoc, InArg, InMem, Located, Assignable}
 use Rattle.c_lower_scheme.specs.Places.{integer_of, conv, fitted, read_from, address_tree, read_low, address_low}
-use Rattle.c_sound.specs.Fits.{AreBytes}
-use Rattle.c_sound.proofs.Bytes.{bytes_joined, bytes_drop}
-use Rattle.c_lower_follows.proofs.Values.{bytes_take, SmallTree}
-use Rattle.c_lower_counts.proofs.Leads.{Leads, leads_wild}
+use Rattle.c_lower_follows.proofs.Values.{SmallTree}
+use Rattle.c_lower_counts.proofs.Leads.{Leads, leads_wild, Depth, Under}
 use Rattle.c_lower_follows.proofs.Steps.{Desk, on, Resolves}
 use Rattle.c_lower_counts.proofs.Steps.{narrowed, written_at}
-use Rattle.c_lower_follows.proofs.Agreeing.{Below, value, ranged_set, set_both}
-use Rattle.c_lower_counts.proofs.Doing.{on_bind, Agrees, here, Onto, Does, Maps}
-
--- writing to memory keeps bytes
-pub bytes_set : (xs : List ℕ) (n v : ℕ) → v < 256 → AreBytes xs → AreBytes (slice_set xs n v)
-bytes_set [] n v lt h = tt
-bytes_set (x ∷ xs) zero v lt h = (lt, h.1)
-bytes_set (x ∷ xs) (suc n) v lt h = (h.0, bytes_set xs n v lt h.1)
-
-number_bytes : (z : Size) (area : List ℕ) (x v : ℕ) → AreBytes area → AreBytes (with_number z area x v)
-number_bytes sizes.Byte area x v h = bytes_set area x (v % 2 ^ 8) (omega arith) h
-number_bytes sizes.Word area x v h = bytes_joined (take x area) _ (bytes_take x area h)
-    (bytes_joined (to_le_bytes w16 (v % 2 ^ 16)) (drop (x + 2) area) (omega arith, (omega arith, tt)) (bytes_drop (x + 2) area h))
-number_bytes sizes.Long area x v h = bytes_joined (take x area) _ (bytes_take x area h)
-    (bytes_joined (to_le_bytes w32 v) (drop (x + 4) area) (omega arith, (omega arith, (omega arith, (omega arith, tt)))) (bytes_drop (x + 4) area h))
-
-stored_by : (b : Bool) (xs ys : List ℕ) → cond b (Some xs) None ≡ Some ys → xs ≡ ys
-stored_by true xs ys e = cc
-stored_by false xs ys e = absurd (cc)
-
-stored_bytes : (z : Size) (area : List ℕ) (x v : ℕ) (area' : List ℕ) → AreBytes area → stored z area x v ≡ Some area' → AreBytes area'
-stored_bytes z area x v area' h e = subst AreBytes (stored_by (is_inside z area x) (with_number z area (x - 65536) v) area' e) (number_bytes z area (x - 65536) v h)
-
--- memory takes the low bits
-stored_zext8 : (area : List ℕ) (x v w : ℕ) → v % 2 ^ 8 ≡ w % 2 ^ 8 → stored sizes.Byte area x v ≡ stored sizes.Byte area x w
-stored_zext8 area x v w e = ap (λ b. cond (is_inside sizes.Byte area x) (Some (slice_set area (x - 65536) b)) None) e
-
-stored_zext16 : (area : List ℕ) (x v w : ℕ) → v % 2 ^ 16 ≡ w % 2 ^ 16 → stored sizes.Word area x v ≡ stored sizes.Word area x w
-stored_zext16 area x v w e = ap (λ b. cond (is_inside sizes.Word area x) (Some (take (x - 65536) area ++ (to_le_bytes w16 b ++ drop (x - 65536 + 2) area))) None) e
-
-low_sext8 : (v : ℕ) → sext8 v % 2 ^ 8 ≡ v % 2 ^ 8
-low_sext8 v = grind (arith, nat_tests)
-
-low_sext16 : (v : ℕ) → sext16 v % 2 ^ 16 ≡ v % 2 ^ 16
-low_sext16 v = grind (arith, nat_tests)
-
-low_zext8 : (v : ℕ) → zext8 v % 2 ^ 8 ≡ v % 2 ^ 8
-low_zext8 v = omega arith
-
-low_zext16 : (v : ℕ) → zext16 v % 2 ^ 16 ≡ v % 2 ^ 16
-low_zext16 v = omega arith
-
--- what is narrowed, or converted, is stored as the value itself
-pub stored_kept : (i : Integer) (area : List ℕ) (x v : ℕ) → stored (integer_access i) area x (kept i v) ≡ stored (integer_access i) area x v
-unfolding kept
-stored_kept ints.Char area x v = stored_zext8 area x (sext8 v) v (low_sext8 v)
-stored_kept ints.UnsignedChar area x v = stored_zext8 area x (zext8 v) v (low_zext8 v)
-stored_kept ints.Short area x v = stored_zext16 area x (sext16 v) v (low_sext16 v)
-stored_kept ints.UnsignedShort area x v = stored_zext16 area x (zext16 v) v (low_zext16 v)
-stored_kept ints.Int area x v = refl
-
-pub stored_narrowed : (program : TreeProgram) (code : List TreeItem) (callers : List Activation) (i : Integer) (area : List ℕ) (x v : ℕ)
-    → stored (integer_access i) area x (narrowed program code callers i v) ≡ stored (integer_access i) area x v
-stored_narrowed p c cs ints.Char area x v = stored_zext8 area x (zext8 v) v (low_zext8 v)
-stored_narrowed p c cs ints.UnsignedChar area x v = stored_zext8 area x (zext8 v) v (low_zext8 v)
-stored_narrowed p c cs ints.Short area x v = stored_zext16 area x (zext16 v) v (low_zext16 v)
-stored_narrowed p c cs ints.UnsignedShort area x v = stored_zext16 area x (zext16 v) v (low_zext16 v)
-stored_narrowed p c cs ints.Int area x v = refl
-
--- what is converted to a type
-pub conv_value : (t : CType) (v : ℕ) → converted t v ≡ kept (integer_of t) v
-unfolding converted kept
-conv_value types.Void v = refl
-conv_value (types.Integer i) v = refl
-conv_value (types.Pointer i n) v = refl
-
--- a type as wide as a longword takes a value as it is
-pub whole_value : (t : CType) (v : ℕ) → integer_of t ≡ ints.Int → converted t v ≡ v
-unfolding kept
-whole_value t v is = conv_value t v ∙ ap (λ i. kept i v) is
+use Rattle.c_lower_follows.proofs.Areas.{stored_bytes, stored_long}
+use Rattle.c_lower_follows.proofs.Agreeing.{Below, value, ranged_set, set_both, set_other}
+use Rattle.c_lower_follows.proofs.Doing.{on_bind}
+use Rattle.c_lower_counts.proofs.Doing.{Agrees, here, Onto, Does, Maps}
+use Rattle.c_lower_follows.proofs.Placing.{SmallPlace, place_on, conv_value}
 
 on_there : (o : Option ℕ) (κ : Rest) (st : State) → on (there o) (λ v. κ v st) ≡ or_wild o κ st
 on_there None κ st = refl
 on_there (Some v) κ st = refl
 
--- what follows a place
-abbrev pub place_on : TreeProgram → Where → Desk → (Spot → Runs) → Runs
-place_on program (InLoc n) d f = f (Local n)
-place_on program (InArg n) d f = f (Parameter n)
-place_on program (InMem a) d f = on (value program a d) (λ x. f (Memory x))
-
-abbrev pub SmallPlace : Where → Type 0
-SmallPlace (InLoc n) = Unit {0}
-SmallPlace (InArg n) = Unit {0}
-SmallPlace (InMem a) = SmallTree a
-
--- an address has no zero divisor
-abbrev pub PurePlace : Where → Type 0
-PurePlace (InLoc n) = Unit {0}
-PurePlace (InArg n) = Unit {0}
-PurePlace (InMem a) = divides a ≡ false
-
-module _ (program : TreeProgram) (code : List TreeItem) (callers : List Activation) (size count : ℕ) (scope : ℕ → Type 0) (level : ℕ) where
+module _ (program : TreeProgram) (code : List TreeItem) (callers : List Activation) (size count first : ℕ) (scope : ℕ → Type 0) (level : Depth) where
   abbrev pub ok : State → Desk → Type 0
-  ok st d = Agrees program code callers size count scope level st d
+  ok st d = Agrees program code callers size count first scope level st d
 
   abbrev pub run_at : List Item → Desk → Runs
-  run_at is d = here program code callers size count scope level is d
+  run_at is d = here program code callers size count first scope level is d
 
   -- a local is in scope, an address's locals are below a number
   abbrev pub FitsPlace : ℕ → Where → Type 0
@@ -148,8 +60,9 @@ module _ (program : TreeProgram) (code : List TreeItem) (callers : List Activati
     pub grows : t ≤ p.temps
     pub fits : FitsPlace p.temps p.place
     pub small : SmallPlace p.place
-    pub runs : (k : ℕ) → k ≤ level → (is : List Item) (κ : RestAt) → Resolves code (p.items ++ is) → (st : State) (d : Desk) → ok st d
-        → Onto program code callers size count scope level k t p.temps p.items is st d (λ st' d'. place_on program p.place d' (λ s. κ p.type s st')) → Leads k (m κ st) (run_at (p.items ++ is) d)
+    pub runs : (k : Depth) → Under k level → (is : List Item) (κ : RestAt) → Resolves code (p.items ++ is) → (st : State) (d : Desk) → ok st d
+        → Onto program code callers size count first scope level k t p.temps p.items is st d (λ st' d'. place_on program p.place d' (λ s. κ p.type s st'))
+        → Leads k (m κ st) (run_at (p.items ++ is) d)
 
   -- a place and a value for it
   pub record DoesReady (r : Assignable) (t : ℕ) (m : (CType → Spot → Rest) → State → Runs) : Type 0 where
@@ -158,11 +71,11 @@ module _ (program : TreeProgram) (code : List TreeItem) (callers : List Activati
     pub small : SmallPlace r.place
     pub below_value : Below r.temps r.value
     pub small_value : SmallTree r.value
-    pub runs : (k : ℕ) → k ≤ level → (is : List Item) (κ : CType → Spot → Rest) → Resolves code (r.items ++ is) → (st : State) (d : Desk) → ok st d
-        → Onto program code callers size count scope level k t r.temps r.items is st d (λ st' d'. place_on program r.place d' (λ s. on (value program r.value d') (λ v. κ r.type s v st')))
+    pub runs : (k : Depth) → Under k level → (is : List Item) (κ : CType → Spot → Rest) → Resolves code (r.items ++ is) → (st : State) (d : Desk) → ok st d
+        → Onto program code callers size count first scope level k t r.temps r.items is st d (λ st' d'. place_on program r.place d' (λ s. on (value program r.value d') (λ v. κ r.type s v st')))
         → Leads k (m κ st) (run_at (r.items ++ is) d)
 
-  void_by : (k : ℕ) (o : Value) (f : ℕ → Value) (κ : ℕ → Runs) (q : Runs) → Leads k (on (bind o f) κ) q → Leads k (on o (λ x. stop ends.Wild)) q
+  void_by : (k : Depth) (o : Value) (f : ℕ → Value) (κ : ℕ → Runs) (q : Runs) → Leads k (on (bind o f) κ) q → Leads k (on o (λ x. stop ends.Wild)) q
   void_by k (Number x) f κ q h = leads_wild k q
   void_by k ZeroDivisor f κ q h = h
   void_by k Wild f κ q h = h
@@ -179,7 +92,7 @@ module _ (program : TreeProgram) (code : List TreeItem) (callers : List Activati
   loaded_pointer i n (Some v) κ st = refl
 
   -- reading a place
-  pub read_mem : (ty : CType) (a : Tree) (k : ℕ) (is : List Item) (κ : Rest) (st : State) (d : Desk) → ok st d
+  pub read_mem : (ty : CType) (a : Tree) (k : Depth) (is : List Item) (κ : Rest) (st : State) (d : Desk) → ok st d
       → Leads k (on (value program (Indir (integer_of ty) a) d) (λ v. κ v st)) (run_at is d) → Leads k (on (value program a d) (λ x. read_at ty (Memory x) κ st)) (run_at is d)
   read_mem types.Void a k is κ st d ag h = void_by k (value program a d) _ (λ v. κ v st) (run_at is d) h
   read_mem (types.Integer i) a k is κ st d ag h = subst (λ r. Leads k r (run_at is d))
@@ -189,14 +102,14 @@ module _ (program : TreeProgram) (code : List TreeItem) (callers : List Activati
       (on_bind (value program a d) _ (λ v. κ v st) ∙ (λ j. on (value program a d) (λ x. loaded_pointer i n (fetched sizes.Long d.area x) κ st j))
       ∙ ap (λ z. on (value program a d) (λ x. or_wild (option_map (converted (types.Pointer i n)) (fetched sizes.Long z x)) κ st)) ag.area) h
 
-  pub read_place : (s : Where) (ty : CType) (u k : ℕ) (is : List Item) (κ : Rest) (st : State) (d : Desk) → FitsPlace u s → ok st d
+  pub read_place : (s : Where) (ty : CType) (u : ℕ) (k : Depth) (is : List Item) (κ : Rest) (st : State) (d : Desk) → FitsPlace u s → ok st d
       → Leads k (on (value program (read_from ty s) d) (λ v. κ v st)) (run_at is d) → Leads k (place_on program s d (λ s. read_at ty s κ st)) (run_at is d)
   read_place (InLoc n) ty u k is κ st d fit ag h = subst (λ r. Leads k r (run_at is d)) (on_there (d.locals n) κ st ∙ ap (λ o. or_wild o κ st) (ag.local n fit)) h
   read_place (InArg n) ty u k is κ st d fit ag h = subst (λ r. Leads k r (run_at is d)) (on_there (slice_get d.arguments n) κ st ∙ ap (λ l. or_wild (slice_get l n) κ st) ag.arguments) h
   read_place (InMem a) ty u k is κ st d fit ag h = read_mem ty a k is κ st d ag h
 
-  module _ (within : (x : ℕ) → scope x → x < size) where
-    pub below_read : (s : Where) (ty : CType) (u : ℕ) → size ≤ u → FitsPlace u s → Below u (read_from ty s)
+  module _ (within : (x : ℕ) → scope x → x < size) (own : size ≤ first) where
+    pub below_read : (s : Where) (ty : CType) (u : ℕ) → first ≤ u → FitsPlace u s → Below u (read_from ty s)
     below_read (InLoc n) ty u sz fit = let lt = within n fit in omega arith
     below_read (InArg n) ty u sz fit = tt
     below_read (InMem a) ty u sz fit = fit
@@ -206,7 +119,8 @@ module _ (program : TreeProgram) (code : List TreeItem) (callers : List Activati
     small_read (InArg n) ty h = tt
     small_read (InMem a) ty h = h
 
-    pub read_does : (p : Located) (t : ℕ) (m : RestAt → State → Runs) → size ≤ t → DoesPlace p t m → Does program code callers size count scope level (read_low p) t (λ κ. m (λ ty s. read_at ty s κ))
+    pub read_does : (p : Located) (t : ℕ) (m : RestAt → State → Runs) → first ≤ t → DoesPlace p t m
+        → Does program code callers size count first scope level (read_low p) t (λ κ. m (λ ty s. read_at ty s κ))
     read_does p t m sz does = record {
       grows = does.grows;
       below = below_read p.place p.type p.temps (omega (arith, does.grows)) does.fits;
@@ -215,7 +129,8 @@ module _ (program : TreeProgram) (code : List TreeItem) (callers : List Activati
           (λ st1 d1 ag1 s1. read_place p.place p.type p.temps k is κ st1 d1 does.fits ag1 (h st1 d1 ag1 s1));
     }
 
-    pub address_does : (p : Located) (t : ℕ) (m : RestAt → State → Runs) → DoesPlace p t m → Does program code callers size count scope level (address_low p) t (λ κ. m (λ ty s. address_of s κ))
+    pub address_does : (p : Located) (t : ℕ) (m : RestAt → State → Runs) → DoesPlace p t m
+        → Does program code callers size count first scope level (address_low p) t (λ κ. m (λ ty s. address_of s κ))
     address_does p t m does = record {
       grows = does.grows;
       below = below_address p.temps p.place does.fits;
@@ -234,7 +149,7 @@ module _ (program : TreeProgram) (code : List TreeItem) (callers : List Activati
         small_address (InArg n) h = omega arith
         small_address (InMem a) h = h
 
-        address_place : (k : ℕ) (s : Where) (is : List Item) (κ : Rest) (st : State) (d : Desk) → Leads k (on (value program (address_tree s) d) (λ v. κ v st)) (run_at is d)
+        address_place : (k : Depth) (s : Where) (is : List Item) (κ : Rest) (st : State) (d : Desk) → Leads k (on (value program (address_tree s) d) (λ v. κ v st)) (run_at is d)
             → Leads k (place_on program s d (λ s. address_of s κ st)) (run_at is d)
         address_place k (InLoc n) is κ st d h = leads_wild k _
         address_place k (InArg n) is κ st d h = leads_wild k _
@@ -266,7 +181,7 @@ module _ (program : TreeProgram) (code : List TreeItem) (callers : List Activati
     conv_below ints.UnsignedShort u a h = h
     conv_below ints.Int u a h = h
 
-    pub fitted_maps : (t : CType) → Maps program code callers size count scope level within (fitted t) (converted t)
+    pub fitted_maps : (t : CType) → Maps program code callers size count first scope level within own (fitted t) (converted t)
     fitted_maps t = record {
       below = λ u a h. conv_below (integer_of t) u a h;
       small = λ a h. conv_small (integer_of t) a h;
@@ -274,7 +189,7 @@ module _ (program : TreeProgram) (code : List TreeItem) (callers : List Activati
     }
 
     -- a value is put where a place is, on both sides
-    put_local_by : (n u k : ℕ) (is : List Item) (κ : Rest) (st : State) (d : Desk) (b : Bool) → nat_lt n (length st.call.locals) ≡ b → u < 2 ^ 32 → ok st d
+    put_local_by : (n u : ℕ) (k : Depth) (is : List Item) (κ : Rest) (st : State) (d : Desk) (b : Bool) → nat_lt n (length st.call.locals) ≡ b → u < 2 ^ 32 → ok st d
         → (n < size → ok (with_locals st (slice_set st.call.locals n u)) (record d { locals = with_local d.locals n u })
         → Leads k (κ u (with_locals st (slice_set st.call.locals n u))) (run_at is (record d { locals = with_local d.locals n u })))
         → Leads k (written (option_map (with_locals st) (cond b (Some (slice_set st.call.locals n u)) None)) u κ) (run_at is (record d { locals = with_local d.locals n u }))
@@ -291,9 +206,11 @@ module _ (program : TreeProgram) (code : List TreeItem) (callers : List Activati
           active = ag.active;
           ranged = ranged_set d n u lt ag.ranged;
           bytes = ag.bytes;
+          whole = ag.whole;
+          pointer = λ s. let k = ag.pointer s in (k.0, k.1, set_other d.locals n u size (λ q. omega (arith, ag.count)) ∙ k.2);
         })
 
-    pub put_local_step : (n u k : ℕ) (is : List Item) (κ : Rest) (st : State) (d : Desk) → u < 2 ^ 32 → ok st d
+    pub put_local_step : (n u : ℕ) (k : Depth) (is : List Item) (κ : Rest) (st : State) (d : Desk) → u < 2 ^ 32 → ok st d
         → (n < size → ok (with_locals st (slice_set st.call.locals n u)) (record d { locals = with_local d.locals n u })
         → Leads k (κ u (with_locals st (slice_set st.call.locals n u))) (run_at is (record d { locals = with_local d.locals n u })))
         → Leads k (written (put_local n u st) u κ) (run_at is (record d { locals = with_local d.locals n u }))
@@ -306,7 +223,7 @@ module _ (program : TreeProgram) (code : List TreeItem) (callers : List Activati
         (λ ne. r m v (sym (slice_set_other xs n u m ne) ∙ e))
         (cases_eq m n)
 
-    put_argument_by : (n u k : ℕ) (is : List Item) (κ : Rest) (st : State) (d : Desk) (b : Bool) → nat_lt n (length st.call.parameters) ≡ b → u < 2 ^ 32 → ok st d
+    put_argument_by : (n u : ℕ) (k : Depth) (is : List Item) (κ : Rest) (st : State) (d : Desk) (b : Bool) → nat_lt n (length st.call.parameters) ≡ b → u < 2 ^ 32 → ok st d
         → (n < length d.arguments → ok (with_parameters st (slice_set st.call.parameters n u)) (record d { arguments = slice_set d.arguments n u })
         → Leads k (κ u (with_parameters st (slice_set st.call.parameters n u))) (run_at is (record d { arguments = slice_set d.arguments n u })))
         → Leads k (written (option_map (with_parameters st) (cond b (Some (slice_set st.call.parameters n u)) None)) u κ) (run_at is (record d { arguments = slice_set d.arguments n u }))
@@ -324,16 +241,18 @@ module _ (program : TreeProgram) (code : List TreeItem) (callers : List Activati
           active = ag.active;
           ranged = record { local = ag.ranged.local; argument = λ m v e. get_set d.arguments n u m v lt ag.ranged.argument inside' e; area = ag.ranged.area };
           bytes = ag.bytes;
+          whole = ag.whole;
+          pointer = ag.pointer;
         })
 
-    pub put_argument_step : (n u k : ℕ) (is : List Item) (κ : Rest) (st : State) (d : Desk) → u < 2 ^ 32 → ok st d
+    pub put_argument_step : (n u : ℕ) (k : Depth) (is : List Item) (κ : Rest) (st : State) (d : Desk) → u < 2 ^ 32 → ok st d
         → (n < length d.arguments → ok (with_parameters st (slice_set st.call.parameters n u)) (record d { arguments = slice_set d.arguments n u })
         → Leads k (κ u (with_parameters st (slice_set st.call.parameters n u))) (run_at is (record d { arguments = slice_set d.arguments n u })))
         → Leads k (written (option_map (with_parameters st) (set_at st.call.parameters n u)) u κ) (run_at is (record d { arguments = slice_set d.arguments n u }))
     put_argument_step n u k is κ st d lt ag h = put_argument_by n u k is κ st d (nat_lt n (length st.call.parameters)) refl lt ag h
 
     -- memory is written on both sides
-    put_area_by : (z : Size) (x v u k : ℕ) (is : List Item) (κ : Rest) (st : State) (d : Desk) (o : Option (List ℕ)) → stored z d.area x v ≡ o → ok st d
+    put_area_by : (z : Size) (x v u : ℕ) (k : Depth) (is : List Item) (κ : Rest) (st : State) (d : Desk) (o : Option (List ℕ)) → stored z d.area x v ≡ o → ok st d
         → ((area : List ℕ) → ok (with_area st area) (record d { area = area }) → Leads k (κ u (with_area st area)) (run_at is (record d { area = area })))
         → Leads k (written (option_map (with_area st) o) u κ) (written_at program code callers is d o)
     put_area_by z x v u k is κ st d None e ag h = leads_wild k _
@@ -347,10 +266,12 @@ module _ (program : TreeProgram) (code : List TreeItem) (callers : List Activati
       active = ag.active;
       ranged = record { local = ag.ranged.local; argument = ag.ranged.argument; area = stored_bytes z d.area x v area ag.ranged.area e };
       bytes = ag.bytes;
+      whole = record { bytes = stored_bytes z d.area x v area ag.whole.bytes e; long = stored_long z d.area x v area e ∙ ag.whole.long };
+      pointer = ag.pointer;
     })
 
     -- what is written is the value, converted or narrowed
-    put_area_step : (z : Size) (x v v' u k : ℕ) (is : List Item) (κ : Rest) (st : State) (d : Desk) → stored z d.area x v' ≡ stored z d.area x v → ok st d
+    put_area_step : (z : Size) (x v v' u : ℕ) (k : Depth) (is : List Item) (κ : Rest) (st : State) (d : Desk) → stored z d.area x v' ≡ stored z d.area x v → ok st d
         → ((area : List ℕ) → ok (with_area st area) (record d { area = area }) → Leads k (κ u (with_area st area)) (run_at is (record d { area = area })))
         → Leads k (written (option_map (with_area st) (stored z st.area x v)) u κ) (written_at program code callers is d (stored z d.area x v'))
     put_area_step z x v v' u k is κ st d same ag h =
@@ -358,7 +279,7 @@ module _ (program : TreeProgram) (code : List TreeItem) (callers : List Activati
         let two = subst (λ a. Leads k (written (option_map (with_area st) (stored z a x v)) u κ) (written_at program code callers is d (stored z d.area x v))) ag.area one in
         subst (λ o. Leads k (written (option_map (with_area st) (stored z st.area x v)) u κ) (written_at program code callers is d o)) (sym same) two
 
-    pub put_memory_step : (ty : CType) (x v w k : ℕ) (is : List Item) (κ : Rest) (st : State) (d : Desk)
+    pub put_memory_step : (ty : CType) (x v w : ℕ) (k : Depth) (is : List Item) (κ : Rest) (st : State) (d : Desk)
         → stored (integer_access (integer_of ty)) d.area x (narrowed program code callers (integer_of ty) w) ≡ stored (integer_access (integer_of ty)) d.area x v → ok st d
         → ((area : List ℕ) → ok (with_area st area) (record d { area = area }) → Leads k (κ v (with_area st area)) (run_at is (record d { area = area })))
         → Leads k (written (put ty (Memory x) v st) v κ) (written_at program code callers is d (stored (integer_access (integer_of ty)) d.area x (narrowed program code callers (integer_of ty) w)))

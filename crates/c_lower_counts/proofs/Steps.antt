@@ -33,11 +33,11 @@ use Rattle.c_meaning.specs.State.{integer_access}
 use Rattle.c_lower_scheme.specs.Trees.{Tree, Item, Label, AssignLoc, AssignArg, AssignMem, Cbr, Jump, Push, Call, Save, Ret}
 use Rattle.c_lower_scheme.specs.Spelling.{leaf, plain, leaves_onto, spelled_all}
 use Rattle.c_lower_follows.proofs.Values.{SmallTree, Ranged, planted, grown_one, grown_two, grown_tree, worth, stands, stands_is}
+use Rattle.c_lower_counts.proofs.Leads.{Leads, one_tree, jumped, leads_quiet, leads_wild, leads_trapped, leads_less, Depth}
 use Rattle.c_lower_follows.proofs.Carried.{given}
-use Rattle.c_lower_follows.proofs.Steps.{Desk, desk_sight, on}
 use Rattle.c_lower_counts.proofs.Carried.{done, assigned, called, given_is, branched_is}
-use Rattle.c_lower_counts.proofs.Leads.{Leads, one_tree, jumped, leads_quiet, leads_wild, leads_trapped, leads_less}
 use Rattle.c_lower_counts.proofs.Ahead.{IsAhead, ahead_behind}
+use Rattle.c_lower_follows.proofs.Steps.{Desk, desk_sight, on}
 
 module _ (program : TreeProgram) (code : List TreeItem) (callers : List Activation) where
   abbrev pub activation : List TreeItem → Desk → Activation
@@ -53,7 +53,7 @@ module _ (program : TreeProgram) (code : List TreeItem) (callers : List Activati
   abbrev pub at : List Item → Desk → Runs
   at is d = at_items (spelled_all is) d
 
-  pub moves : (k : ℕ) (is js : List TreeItem) (d : Desk) (r : Runs) → is ≡ js → Leads k r (at_items js d) → Leads k r (at_items is d)
+  pub moves : (k : Depth) (is js : List TreeItem) (d : Desk) (r : Runs) → is ≡ js → Leads k r (at_items js d) → Leads k r (at_items is d)
   moves k is js d r e h = subst (λ x. Leads k r (at_items x d)) (sym e) h
 
   -- a root that comes next is done
@@ -62,22 +62,22 @@ module _ (program : TreeProgram) (code : List TreeItem) (callers : List Activati
   root_at w f is d q e same zero = refl
   root_at w f is d q e same (suc n) = sym (ap (done program (tally program n) (state is d)) e ∙ same n)
 
-  pub quiet : (k : ℕ) (w : List Leaf) (f : Forest) (is : List TreeItem) (d : Desk) (r q : Runs) → grown w ≡ f → ((n : ℕ) → done program (tally program n) (state is d) f ≡ q n) → Leads k r q
+  pub quiet : (k : Depth) (w : List Leaf) (f : Forest) (is : List TreeItem) (d : Desk) (r q : Runs) → grown w ≡ f → ((n : ℕ) → done program (tally program n) (state is d) f ≡ q n) → Leads k r q
       → Leads k r (at_items (tree_item.Root w ∷ is) d)
   quiet k w f is d r q e same h = subst (Leads k r) (λ j n. root_at w f is d q e same n j) (leads_quiet k r q h)
 
   -- the same root, still to be done
-  pub counts : (k : ℕ) (w : List Leaf) (f : Forest) (is : List TreeItem) (d : Desk) (r q : Runs) → grown w ≡ f → ((n : ℕ) → done program (tally program n) (state is d) f ≡ q n)
+  pub counts : (k : Depth) (w : List Leaf) (f : Forest) (is : List TreeItem) (d : Desk) (r q : Runs) → grown w ≡ f → ((n : ℕ) → done program (tally program n) (state is d) f ≡ q n)
       → Leads k r (one_tree q) → Leads k r (at_items (tree_item.Root w ∷ is) d)
   counts k w f is d r q e same h = subst (Leads k r) (λ j n. root_at w f is d q e same n j) h
 
   -- a tree's value is what goes on, or both sides break
-  pub on_step : (k : ℕ) (o : Value) (κ f : ℕ → Runs) → ((v : ℕ) → o ≡ Number v → Leads k (κ v) (f v)) → Leads k (on o κ) (λ n. given o (λ v. f v n))
+  pub on_step : (k : Depth) (o : Value) (κ f : ℕ → Runs) → ((v : ℕ) → o ≡ Number v → Leads k (κ v) (f v)) → Leads k (on o κ) (λ n. given o (λ v. f v n))
   on_step k (Number v) κ f h = h v refl
   on_step k ZeroDivisor κ f h = leads_trapped k
   on_step k Wild κ f h = leads_wild k _
 
-  pub lost : (k : ℕ) (is : List TreeItem) (d : Desk) → Leads k (stop ends.Wild) (at_items is d)
+  pub lost : (k : Depth) (is : List TreeItem) (d : Desk) → Leads k (stop ends.Wild) (at_items is d)
   lost k is d = leads_wild k (at_items is d)
 
   abbrev value : Tree → Desk → Value
@@ -93,7 +93,7 @@ module _ (program : TreeProgram) (code : List TreeItem) (callers : List Activati
   abbrev rest_of : Forest
   rest_of = grown (end_leaf ∷ [])
 
-  pub assign_loc_step : (k n : ℕ) (w : Tree) (is : List Item) (κ : ℕ → Runs) (d : Desk) → SmallTree w → Ranged (desk_sight d)
+  pub assign_loc_step : (k : Depth) (n : ℕ) (w : Tree) (is : List Item) (κ : ℕ → Runs) (d : Desk) → SmallTree w → Ranged (desk_sight d)
       → ((v : ℕ) → value w d ≡ Number v → Leads k (κ v) (at is (record d { locals = with_local d.locals n v }))) → Leads k (on (value w d) κ) (at (AssignLoc n w ∷ is) d)
   assign_loc_step k n w is κ d small r h =
       quiet k _ (tree (plain tok.AssignL) (tree (leaf tok.Loc (att.Slot n)) none (planted w none)) rest_of) (spelled_all is) d _
@@ -103,7 +103,7 @@ module _ (program : TreeProgram) (code : List TreeItem) (callers : List Activati
       ∙ ap (λ o. given o (λ v. tallied (tally program m) (deed_step program (state (spelled_all is) d) (Puts (meaning.Local n) v)))) (reads w d small r))
       (on_step k (value w d) κ (λ v. at is (record d { locals = with_local d.locals n v })) h)
 
-  pub assign_arg_step : (k n : ℕ) (w : Tree) (is : List Item) (κ : ℕ → Runs) (d : Desk) → SmallTree w → Ranged (desk_sight d)
+  pub assign_arg_step : (k : Depth) (n : ℕ) (w : Tree) (is : List Item) (κ : ℕ → Runs) (d : Desk) → SmallTree w → Ranged (desk_sight d)
       → ((v : ℕ) → value w d ≡ Number v → Leads k (κ v) (at is (record d { arguments = slice_set d.arguments n v }))) → Leads k (on (value w d) κ) (at (AssignArg n w ∷ is) d)
   assign_arg_step k n w is κ d small r h =
       let e : suc n - 1 ≡ n = omega arith in
@@ -145,11 +145,11 @@ module _ (program : TreeProgram) (code : List TreeItem) (callers : List Activati
   given_bind ZeroDivisor g f = refl
   given_bind Wild g f = refl
 
-  on_two : (k : ℕ) (o p : Value) (κ f : ℕ → ℕ → Runs) → ((x y : ℕ) → o ≡ Number x → p ≡ Number y → Leads k (κ x y) (f x y))
+  on_two : (k : Depth) (o p : Value) (κ f : ℕ → ℕ → Runs) → ((x y : ℕ) → o ≡ Number x → p ≡ Number y → Leads k (κ x y) (f x y))
       → Leads k (on o (λ x. on p (κ x))) (λ n. given o (λ x. given p (λ y. f x y n)))
   on_two k o p κ f h = on_step k o (λ x. on p (κ x)) (λ x n. given p (λ y. f x y n)) (λ x e. on_step k p (κ x) (f x) (λ y e'. h x y e e'))
 
-  narrow_step : (k : ℕ) (z : Size) (root place low : Tok) (g : ℕ → ℕ) (a w : Tree) (is : List Item) (κ : ℕ → ℕ → Runs) (d : Desk) → SmallTree a → SmallTree w → Ranged (desk_sight d)
+  narrow_step : (k : Depth) (z : Size) (root place low : Tok) (g : ℕ → ℕ) (a w : Tree) (is : List Item) (κ : ℕ → ℕ → Runs) (d : Desk) → SmallTree a → SmallTree w → Ranged (desk_sight d)
       → grown (plain root ∷ plain place ∷ leaves_onto a (plain low ∷ leaves_onto w (end_leaf ∷ [])))
       ≡ tree (plain root) (tree (plain place) (planted a none) (tree (plain low) (planted w none) none)) rest_of
       → ((m : ℕ) → done program (tally program m) (state (spelled_all is) d) (tree (plain root) (tree (plain place) (planted a none) (tree (plain low) (planted w none) none)) rest_of)
@@ -172,7 +172,7 @@ module _ (program : TreeProgram) (code : List TreeItem) (callers : List Activati
       (grown_one (plain place) (leaves_onto a (plain low ∷ leaves_onto w (end_leaf ∷ []))) _ _ _ ep
       (grown_tree a (plain low ∷ leaves_onto w (end_leaf ∷ [])) ∙ ap (planted a) (grown_one (plain low) (leaves_onto w (end_leaf ∷ [])) _ _ _ el (grown_tree w (end_leaf ∷ [])))))
 
-  pub assign_mem_step : (k : ℕ) (i : Integer) (a w : Tree) (is : List Item) (κ : ℕ → ℕ → Runs) (d : Desk) → SmallTree a → SmallTree w → Ranged (desk_sight d)
+  pub assign_mem_step : (k : Depth) (i : Integer) (a w : Tree) (is : List Item) (κ : ℕ → ℕ → Runs) (d : Desk) → SmallTree a → SmallTree w → Ranged (desk_sight d)
       → ((x v : ℕ) → value a d ≡ Number x → value w d ≡ Number v → Leads k (κ x v) (written_at is d (stored (integer_access i) d.area x (narrowed i v))))
       → Leads k (on (value a d) (λ x. on (value w d) (κ x))) (at (AssignMem i a w ∷ is) d)
   assign_mem_step k ints.Char a w is κ d small small' r h = narrow_step k sizes.Byte tok.AssignB tok.IndirB tok.Ncb zext8 a w is κ d small small' r
@@ -201,10 +201,10 @@ module _ (program : TreeProgram) (code : List TreeItem) (callers : List Activati
   to_label l is d = jumped (is_back is l) (at_items (behind code l) d)
 
   -- it is not counted where the label stands ahead
-  pub goes_ahead : (k l : ℕ) (is : List Item) (d : Desk) (r : Runs) → IsAhead is l → Leads k r (one_tree (at_items (behind code l) d)) → Leads k r (one_tree (to_label l is d))
+  pub goes_ahead : (k : Depth) (l : ℕ) (is : List Item) (d : Desk) (r : Runs) → IsAhead is l → Leads k r (one_tree (at_items (behind code l) d)) → Leads k r (one_tree (to_label l is d))
   goes_ahead k l is d r ahead h = subst (λ (b : Bool). Leads k r (one_tree (jumped b (at_items (behind code l) d)))) (sym (ap not ahead)) h
 
-  pub goes_on : (k l : ℕ) (is : List Item) (d : Desk) (r : Runs) → IsAhead is l → Leads k r (at_items (behind code l) d) → Leads k r (one_tree (to_label l is d))
+  pub goes_on : (k : Depth) (l : ℕ) (is : List Item) (d : Desk) (r : Runs) → IsAhead is l → Leads k r (at_items (behind code l) d) → Leads k r (one_tree (to_label l is d))
   goes_on k l is d r ahead h = goes_ahead k l is d r ahead (leads_quiet k r (at_items (behind code l) d) h)
 
   is_there : (b : Bool) → not b ≡ false → b ≡ true
@@ -212,17 +212,17 @@ module _ (program : TreeProgram) (code : List TreeItem) (callers : List Activati
   is_there false e = absurd (cc)
 
   -- nor is it then from before further items
-  pub from_before : (k l : ℕ) (a is : List Item) (d : Desk) (r : Runs) → Leads k r (one_tree (to_label l is d)) → Leads k r (one_tree (to_label l (a ++ is) d))
+  pub from_before : (k : Depth) (l : ℕ) (a is : List Item) (d : Desk) (r : Runs) → Leads k r (one_tree (to_label l is d)) → Leads k r (one_tree (to_label l (a ++ is) d))
   from_before k l a is d r h =
       leads_less k r (at_items (behind code l) d) (is_back is l) (is_back (a ++ is) l) (λ e. ap not (ahead_behind l a is (is_there (is_ahead (spelled_all is) l) e))) h
 
   -- a branch, whose tree is still to be done on both ways
-  chosen_step : (k l : ℕ) (b : Bool) (is : List Item) (d : Desk) (r : Runs) → (b ≡ true → Leads k r (one_tree (to_label l is d))) → (b ≡ false → Leads k r (one_tree (at is d)))
+  chosen_step : (k : Depth) (l : ℕ) (b : Bool) (is : List Item) (d : Desk) (r : Runs) → (b ≡ true → Leads k r (one_tree (to_label l is d))) → (b ≡ false → Leads k r (one_tree (at is d)))
       → Leads k r (one_tree (λ m. cond b (to_label l is d m) (at is d m)))
   chosen_step k l true is d r h g = h refl
   chosen_step k l false is d r h g = g refl
 
-  branched_step : (k l : ℕ) (rel : Rel) (o p : Value) (is : List Item) (κ : ℕ → ℕ → Runs) (d : Desk)
+  branched_step : (k : Depth) (l : ℕ) (rel : Rel) (o p : Value) (is : List Item) (κ : ℕ → ℕ → Runs) (d : Desk)
       → ((x y : ℕ) → o ≡ Number x → p ≡ Number y → holds rel x y ≡ true → Leads k (κ x y) (one_tree (to_label l is d)))
       → ((x y : ℕ) → o ≡ Number x → p ≡ Number y → holds rel x y ≡ false → Leads k (κ x y) (one_tree (at is d)))
       → Leads k (on o (λ x. on p (κ x))) (one_tree (λ m. given o (λ x. given p (λ y. cond (holds rel x y) (to_label l is d m) (at is d m)))))
@@ -232,7 +232,7 @@ module _ (program : TreeProgram) (code : List TreeItem) (callers : List Activati
   branched_step k l rel ZeroDivisor p is κ d h g = leads_quiet k _ _ (leads_trapped k)
   branched_step k l rel Wild p is κ d h g = leads_wild k _
 
-  pub cbr_step : (k l : ℕ) (rel : Rel) (a b : Tree) (is : List Item) (κ : ℕ → ℕ → Runs) (d : Desk) → SmallTree a → SmallTree b → Ranged (desk_sight d)
+  pub cbr_step : (k : Depth) (l : ℕ) (rel : Rel) (a b : Tree) (is : List Item) (κ : ℕ → ℕ → Runs) (d : Desk) → SmallTree a → SmallTree b → Ranged (desk_sight d)
       → ((x y : ℕ) → value a d ≡ Number x → value b d ≡ Number y → holds rel x y ≡ true → Leads k (κ x y) (one_tree (to_label l is d)))
       → ((x y : ℕ) → value a d ≡ Number x → value b d ≡ Number y → holds rel x y ≡ false → Leads k (κ x y) (one_tree (at is d)))
       → Leads k (on (value a d) (λ x. on (value b d) (κ x))) (at (Cbr rel l a b ∷ is) d)
@@ -246,13 +246,13 @@ module _ (program : TreeProgram) (code : List TreeItem) (callers : List Activati
       ∙ ap (λ o. given (value a d) (λ x. given o (λ y. cond (holds rel x y) (to_label l is d m) (at is d m)))) (reads b d small' r))
       (branched_step k l rel (value a d) (value b d) is κ d h g)
 
-  pub jump_counts : (k l : ℕ) (is : List Item) (r : Runs) (d : Desk) → Leads k r (one_tree (to_label l is d)) → Leads k r (at (Jump l ∷ is) d)
+  pub jump_counts : (k : Depth) (l : ℕ) (is : List Item) (r : Runs) (d : Desk) → Leads k r (one_tree (to_label l is d)) → Leads k r (at (Jump l ∷ is) d)
   jump_counts k l is r d h = counts k _ (tree (leaf tok.Jump (att.Label l)) none rest_of) (spelled_all is) d r (to_label l is d) refl (λ m. refl) h
 
-  pub jump_step : (k l : ℕ) (is : List Item) (r : Runs) (d : Desk) → IsAhead is l → Leads k r (at_items (behind code l) d) → Leads k r (at (Jump l ∷ is) d)
+  pub jump_step : (k : Depth) (l : ℕ) (is : List Item) (r : Runs) (d : Desk) → IsAhead is l → Leads k r (at_items (behind code l) d) → Leads k r (at (Jump l ∷ is) d)
   jump_step k l is r d ahead h = jump_counts k l is r d (goes_on k l is d r ahead h)
 
-  pub push_step : (k : ℕ) (w : Tree) (is : List Item) (κ : ℕ → Runs) (d : Desk) → SmallTree w → Ranged (desk_sight d)
+  pub push_step : (k : Depth) (w : Tree) (is : List Item) (κ : ℕ → Runs) (d : Desk) → SmallTree w → Ranged (desk_sight d)
       → ((v : ℕ) → value w d ≡ Number v → Leads k (κ v) (at is (record d { pushed = v ∷ d.pushed }))) → Leads k (on (value w d) κ) (at (Push w ∷ is) d)
   push_step k w is κ d small r h =
       quiet k _ (tree (plain tok.Push) (planted w none) rest_of) (spelled_all is) d _ (λ m. given (value w d) (λ v. at is (record d { pushed = v ∷ d.pushed }) m))
@@ -260,14 +260,14 @@ module _ (program : TreeProgram) (code : List TreeItem) (callers : List Activati
       (λ m. given_is program m (state (spelled_all is) d) (seen w d) Pushes ∙ ap (λ o. given o (λ v. at is (record d { pushed = v ∷ d.pushed }) m)) (reads w d small r))
       (on_step k (value w d) κ (λ v. at is (record d { pushed = v ∷ d.pushed })) h)
 
-  pub save_step : (k n : ℕ) (is : List Item) (r : Runs) (d : Desk) → Leads k r (at is (record d { locals = with_local d.locals n d.result })) → Leads k r (at (Save n ∷ is) d)
+  pub save_step : (k : Depth) (n : ℕ) (is : List Item) (r : Runs) (d : Desk) → Leads k r (at is (record d { locals = with_local d.locals n d.result })) → Leads k r (at (Save n ∷ is) d)
   save_step k n is r d h = quiet k _ (tree (leaf tok.Save (att.Slot n)) none rest_of) (spelled_all is) d r (at is (record d { locals = with_local d.locals n d.result })) refl (λ m. refl) h
 
   -- a caller goes on with a value
   abbrev pub back : ℕ → List ℕ → List ℕ → Runs
   back v area input = tallies program (returned v callers area input)
 
-  pub ret_step : (k : ℕ) (w : Tree) (is : List Item) (κ : ℕ → Runs) (d : Desk) → SmallTree w → Ranged (desk_sight d)
+  pub ret_step : (k : Depth) (w : Tree) (is : List Item) (κ : ℕ → Runs) (d : Desk) → SmallTree w → Ranged (desk_sight d)
       → ((v : ℕ) → value w d ≡ Number v → Leads k (κ v) (back v d.area d.input)) → Leads k (on (value w d) κ) (at (Ret w ∷ is) d)
   ret_step k w is κ d small r h =
       quiet k _ (tree (plain tok.Ret) (planted w none) rest_of) (spelled_all is) d _ (λ m. given (value w d) (λ v. back v d.area d.input m))
@@ -276,7 +276,7 @@ module _ (program : TreeProgram) (code : List TreeItem) (callers : List Activati
       (on_step k (value w d) κ (λ v. back v d.area d.input) h)
 
   -- a call, still to be done
-  pub call_counts : (k f n : ℕ) (is : List Item) (r q : Runs) (d : Desk) → ((m : ℕ) → called program (tally program m) (state (spelled_all is) d) f n ≡ q m) → Leads k r (one_tree q)
+  pub call_counts : (k : Depth) (f n : ℕ) (is : List Item) (r q : Runs) (d : Desk) → ((m : ℕ) → called program (tally program m) (state (spelled_all is) d) f n ≡ q m) → Leads k r (one_tree q)
       → Leads k r (at (Call f n ∷ is) d)
   call_counts k f n is r q d same h = counts k _ (tree (leaf tok.Call (att.Callee f n)) none rest_of) (spelled_all is) d r q refl same h
 
@@ -286,11 +286,11 @@ module _ (program : TreeProgram) (code : List TreeItem) (callers : List Activati
   coming_same None is js d x = refl
   coming_same (Some r) is js d x = refl
 
-  pub label_step : (k l : ℕ) (is : List Item) (d : Desk) (r : Runs) → Leads k r (at is d) → Leads k r (at (Label l ∷ is) d)
+  pub label_step : (k : Depth) (l : ℕ) (is : List Item) (d : Desk) (r : Runs) → Leads k r (at is d) → Leads k r (at (Label l ∷ is) d)
   label_step k l is d r h =
       subst (λ x. Leads k r (tallies program x))
       (coming_same (ahead (spelled_all is)) (spelled_all is) (tree_item.Label l ∷ spelled_all is) d (returned 0 callers d.area d.input)) h
 
-  pub label_counts : (k l : ℕ) (is : List Item) (d : Desk) (r : Runs) → Leads k r (one_tree (at is d)) → Leads k r (one_tree (at (Label l ∷ is) d))
+  pub label_counts : (k : Depth) (l : ℕ) (is : List Item) (d : Desk) (r : Runs) → Leads k r (one_tree (at is d)) → Leads k r (one_tree (at (Label l ∷ is) d))
   label_counts k l is d r h = subst (λ x. Leads k r (one_tree (tallies program x)))
       (coming_same (ahead (spelled_all is)) (spelled_all is) (tree_item.Label l ∷ spelled_all is) d (returned 0 callers d.area d.input)) h

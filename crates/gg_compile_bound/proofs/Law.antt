@@ -14,6 +14,7 @@ use Rattle.c_lower_scheme.specs.Programs.{lowered}
 use Rattle.c_lower_valid.proofs.Law.{lowered_is_valid}
 use Rattle.c_lower_valid.proofs.Naming.{labels_stay}
 use Rattle.c_lower_calm.proofs.Law.{each_tree_is_calm}
+use Rattle.c_lower_counts.specs.Zeros.{with_zeros}
 use Rattle.c_lower_counts.specs.Claim.{Within}
 use Rattle.c_lower_counts.proofs.Law.{lowering_counts_no_more}
 use Rattle.vax_core.specs.declared.code.Code.{Code}
@@ -99,4 +100,4 @@ typed_codes_are_bounded p d c t few fit selected input bytes n =
     let sound : IsSound p = typed_is_sound p t.unit t.ends t.tokens t.typed in
     let ok = selectable p sound (typed_programs_are_within_limits p t few) in
     bounded_by (lowered p) c input (λ m. written_codes_count_no_more (lowered p) c (is_written (lowered p) d c ok fit selected) input (all_below input bytes) m)
-    n (source p input n).end (source p input n).output (lowering_counts_no_more p sound input bytes n)
+    (with_zeros p n) (source p input n).end (source p input n).output (lowering_counts_no_more p sound input bytes n)

@@ -8,6 +8,7 @@ use Rattle.c_typed_check.specs.Typed.{IsTypedUnit}
 use Rattle.c_sound.specs.Fits.{AreBytes}
 use Rattle.c_meaning.specs.Programs.{source}
 use Rattle.c_lower_scheme.specs.Programs.{lowered}
+use Rattle.c_lower_counts.specs.Zeros.{with_zeros}
 use Rattle.md_reader.specs.State.{Content}
 use Rattle.sel_parse_written.specs.sel_parse_effect.specs.Claims.{IsFit}
 use Rattle.vax_core.specs.declared.code.Code.{Code}
@@ -27,9 +28,11 @@ EndsIn n Spent output r = Unit {0}
 EndsIn n (Broken k) output r = Unit {0}
 
 -- The code that a description, whose rules are shown on the VAX, selects of a typed program whose functions fit their frames, on every input
--- of bytes: where the program's run ends with n counted turns and calls, the code's run ends so within `bound c n` instructions.
+-- of bytes: where the program's run ends with n counted turns and calls, the code's run ends so within `bound c m` instructions. There m is
+-- n and the zeros that the program's declarations set, before the first of these and behind each (`with_zeros`): n alone where they set
+-- none.
 abbrev pub TypedCodesAreBounded : Type 0
 TypedCodesAreBounded =
     (p : AProgram) (d : Content) (c : Code) → IsTypedUnit p → FitFrames p → IsFit vax d → SelectedAll vax d (lowered p) c
     → (input : List ℕ) → AreBytes input → (n : ℕ)
-    → EndsIn (bound c n) (source p input n).end (source p input n).output (run c input)
+    → EndsIn (bound c (with_zeros p n)) (source p input n).end (source p input n).output (run c input)

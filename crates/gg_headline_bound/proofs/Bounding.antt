@@ -10,6 +10,7 @@ use Rattle.c_program.specs.Programs.{AProgram}
 use Rattle.c_typed_words.proofs.Tokens.{unit_has_tokens}
 use Rattle.c_typed_check.specs.Typed.{IsTypedUnit}
 use Rattle.c_meaning.specs.Programs.{source}
+use Rattle.c_lower_counts.specs.Zeros.{with_zeros}
 use Rattle.md_reader.specs.State.{Content}
 use Rattle.sel_parse.specs.Shown.{Refusal, is_shown}
 use Rattle.sel_parse.proofs.EachShown.{rules_shown, lines_shown}
@@ -137,10 +138,10 @@ module _ (by : Passing) (names : Files) (at : Outside) (compiled : IsCompiled by
 
   -- the code is the selected one
   bounded : (bytes : List ℕ) → AreBytes bytes → (n : ℕ)
-      → EndsIn (bound text_is.code n) (source of_program bytes n).end (source of_program bytes n).output (run text_is.code bytes)
+      → EndsIn (bound text_is.code (with_zeros of_program n)) (source of_program bytes n).end (source of_program bytes n).output (run text_is.code bytes)
   bounded bytes are n =
       let same : text_is.code ≡ text_is.first = plain.unchanged text_is.first text_is.code compiled.is_text.led in
-      subst (λ (c : Code). EndsIn (bound c n) (source of_program bytes n).end (source of_program bytes n).output (run c bytes)) (sym same)
+      subst (λ (c : Code). EndsIn (bound c (with_zeros of_program n)) (source of_program bytes n).end (source of_program bytes n).output (run c bytes)) (sym same)
       (typed_codes_are_bounded of_program of_description text_is.first typed text_is.fit fit text_is.selected bytes are n)
 
   -- an end within the bound stays
@@ -151,19 +152,19 @@ module _ (by : Passing) (names : Files) (at : Outside) (compiled : IsCompiled by
       let within = one.within (bound text_is.code n) in
       ap (λ (o : Outcome). o.end) (one.stays m (bound text_is.code n) (λ s. over (sym e ∙ s)) (omega (arith, within, le))) ∙ e
 
-  ended : (bytes : List ℕ) (n value : ℕ) → (source of_program bytes n).end ≡ ends.Ended value → AreBytes bytes → (m : ℕ) → bound text_is.code n ≤ m
+  ended : (bytes : List ℕ) (n value : ℕ) → (source of_program bytes n).end ≡ ends.Ended value → AreBytes bytes → (m : ℕ) → bound text_is.code (with_zeros of_program n) ≤ m
       → (run text_is.code bytes m).end ≡ ends.Ended value
   ended bytes n value e are m le =
-      let says : EndsIn (bound text_is.code n) (ends.Ended value) (source of_program bytes n).output (run text_is.code bytes) =
-      subst (λ (x : End). EndsIn (bound text_is.code n) x (source of_program bytes n).output (run text_is.code bytes)) e (bounded bytes are n) in
-      stays bytes (ends.Ended value) n m (λ s. absurd (cc)) says.1 le
+      let says : EndsIn (bound text_is.code (with_zeros of_program n)) (ends.Ended value) (source of_program bytes n).output (run text_is.code bytes) =
+      subst (λ (x : End). EndsIn (bound text_is.code (with_zeros of_program n)) x (source of_program bytes n).output (run text_is.code bytes)) e (bounded bytes are n) in
+      stays bytes (ends.Ended value) (with_zeros of_program n) m (λ s. absurd (cc)) says.1 le
 
-  trapped : (bytes : List ℕ) (n : ℕ) → (source of_program bytes n).end ≡ ends.Trapped → AreBytes bytes → (m : ℕ) → bound text_is.code n ≤ m
+  trapped : (bytes : List ℕ) (n : ℕ) → (source of_program bytes n).end ≡ ends.Trapped → AreBytes bytes → (m : ℕ) → bound text_is.code (with_zeros of_program n) ≤ m
       → (run text_is.code bytes m).end ≡ ends.Trapped
   trapped bytes n e are m le =
-      let says : EndsIn (bound text_is.code n) ends.Trapped (source of_program bytes n).output (run text_is.code bytes) =
-      subst (λ (x : End). EndsIn (bound text_is.code n) x (source of_program bytes n).output (run text_is.code bytes)) e (bounded bytes are n) in
-      stays bytes ends.Trapped n m (λ s. absurd (cc)) says.1 le
+      let says : EndsIn (bound text_is.code (with_zeros of_program n)) ends.Trapped (source of_program bytes n).output (run text_is.code bytes) =
+      subst (λ (x : End). EndsIn (bound text_is.code (with_zeros of_program n)) x (source of_program bytes n).output (run text_is.code bytes)) e (bounded bytes are n) in
+      stays bytes ends.Trapped (with_zeros of_program n) m (λ s. absurd (cc)) says.1 le
 
 pub ended_texts_end_within : (by : Passing) → EndedTextsEndWithin by
 ended_texts_end_within by names at compiled plain bytes n value e =
@@ -171,7 +172,7 @@ ended_texts_end_within by names at compiled plain bytes n value e =
     ∥∥₁_elim is.keeps ∥∥₁_prop (λ k.
     ∥∥₁_map (ended_texts_end compiled.description compiled.program compiled.text bytes n value is e) (λ h.
     within compiled.description compiled.program compiled.text is bytes k (ends.Ended value) spent_done
-    (source compiled.program bytes n).output (bound is.code n) (ended by names at compiled plain bytes n value e) h.0 h.1))
+    (source compiled.program bytes n).output (bound is.code (with_zeros compiled.program n)) (ended by names at compiled plain bytes n value e) h.0 h.1))
 
 pub trapping_texts_trap_within : (by : Passing) → TrappingTextsTrapWithin by
 trapping_texts_trap_within by names at compiled plain bytes n e =
@@ -179,7 +180,7 @@ trapping_texts_trap_within by names at compiled plain bytes n e =
     ∥∥₁_elim is.keeps ∥∥₁_prop (λ k.
     ∥∥₁_map (trapping_texts_trap compiled.description compiled.program compiled.text bytes n is e) (λ h.
     within compiled.description compiled.program compiled.text is bytes k ends.Trapped spent_trapped
-    (source compiled.program bytes n).output (bound is.code n) (trapped by names at compiled plain bytes n e) h.0 h.1))
+    (source compiled.program bytes n).output (bound is.code (with_zeros compiled.program n)) (trapped by names at compiled plain bytes n e) h.0 h.1))
 
 module _ {P : Type 0} (wrote : P → ℕ → Code → Code → Type 0) (made : P → ℕ) where
   pub no_passes_change_nothing : (before behind : List P) → NoPassesChangeNothing wrote made before behind

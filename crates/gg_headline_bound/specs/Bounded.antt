@@ -4,6 +4,7 @@ use Rattle.gg_base.specs.declared.run.End.{End}
 use Rattle.gg_base.specs.declared.run.End.TheVariants as ends
 use Rattle.c_sound.specs.Fits.{AreBytes}
 use Rattle.c_meaning.specs.Programs.{source}
+use Rattle.c_lower_counts.specs.Zeros.{with_zeros}
 use Rattle.vax_core.specs.declared.code.Code.{Code}
 use Rattle.vax_bound.specs.Bound.{bound}
 use Rattle.cmd_files.specs.Outsides.{Outside}
@@ -28,19 +29,22 @@ pub record IsPlain (by : Passing) (names : Files) (at : Outside) (compiled : IsC
   pub are_bytes : AreBytes compiled.finds.holds.bytes
 
 -- Where the source's program ends with a value, and n turns of loops and calls are counted, the run of its text ends so within K times
--- (n + 1) instructions, K being one more than the number of the items of the text's code (`bound`).
+-- (m + 1) instructions, K being one more than the number of the items of the text's code (`bound`), and m being n and the zeros that the
+-- program's declarations set, before the first of these turns and calls and behind each (`with_zeros`).
 abbrev pub EndedTextsEndWithin : Passing → Type 0
 EndedTextsEndWithin by =
     (names : Files) (at : Outside) (compiled : IsCompiled by names at) → IsPlain by names at compiled → (bytes : List ℕ) (n value : ℕ)
     → (source compiled.program bytes n).end ≡ ends.Ended value
-    → ∥ EndsWithin compiled.text bytes (source compiled.program bytes n).output (ends.Ended value) (bound compiled.is_text.is_text.code n) ∥₁
+    → ∥ EndsWithin compiled.text bytes (source compiled.program bytes n).output (ends.Ended value)
+    (bound compiled.is_text.is_text.code (with_zeros compiled.program n)) ∥₁
 
 -- Where it traps, so does the run of its text, within as many.
 abbrev pub TrappingTextsTrapWithin : Passing → Type 0
 TrappingTextsTrapWithin by =
     (names : Files) (at : Outside) (compiled : IsCompiled by names at) → IsPlain by names at compiled → (bytes : List ℕ) (n : ℕ)
     → (source compiled.program bytes n).end ≡ ends.Trapped
-    → ∥ EndsWithin compiled.text bytes (source compiled.program bytes n).output ends.Trapped (bound compiled.is_text.is_text.code n) ∥₁
+    → ∥ EndsWithin compiled.text bytes (source compiled.program bytes n).output ends.Trapped
+    (bound compiled.is_text.is_text.code (with_zeros compiled.program n)) ∥₁
 
 -- Where there are no passes in the list before a call, they change nothing.
 abbrev pub NoPassesChangeNothing : {P : Type 0} → (P → ℕ → Code → Code → Type 0) → (P → ℕ) → List P → List P → Type 0

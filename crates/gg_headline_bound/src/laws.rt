@@ -5,9 +5,9 @@ ghost use Rattle.gg_headline_bound.specs.Bounded.{EndedTextsEndWithin, TrappingT
 
 use cmd_compile::Pass;
 
-/// The law: where the source ends with a value, with n counted turns and calls, `run` of its text, whose code no pass changed, answers 0 with
-/// that output and that value, with each number of steps from a least one on, which is at most K times (n + 1). K is one more than the number
-/// of the items of the text's code.
+/// The law: where the source ends with a value, with n counted turns and calls, `run` of its text, whose code no pass changed, answers 0
+/// with that output and that value, with each number of steps from a least one on, which is at most K times (m + 1). K is one more than
+/// the number of the items of the text's code, and m is n + Z (n + 1) where the program's declarations set Z zeros.
 pub fn ended_texts_end_within(_before: &[Box<dyn Pass>], _behind: &[Box<dyn Pass>])
     ensures { EndedTextsEndWithin (passing (λ p n c e. wrote p n c e) (λ p. made p) _before.now _behind.now) }
 {}
