@@ -107,7 +107,7 @@ fn put_sum(told: &mut String, counts: &Counts) -> Result<(), AllocError> {
     let taken = counts.rules.iter().filter(|count| 0 < **count).count();
     writeln!(told, "{taken} of {rules} rules are taken")?;
     if counts.stopped > 0 {
-        writeln!(told, "{} trees have no code", counts.stopped)?;
+        writeln!(told, "trees without code: {}", counts.stopped)?;
     }
     Ok(())
 }
