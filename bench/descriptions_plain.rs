@@ -4,6 +4,7 @@
 #![allow(dead_code)]
 mod check;
 mod desc;
+mod expand;
 mod lr;
 mod select;
 mod term;
