@@ -41,8 +41,8 @@ abbrev pub RunsComeTo : Type 0
 RunsComeTo = (d : Content) (p : AProgram) (text : List ℕ) (result : Status) (call : Call) → IsTextOf d p text → HoldsText text call
     → Leaves text_form code_runner result call → RunComesTo text result call
 
--- A call of `run` whose file is this text, of at most `TEXT_LIMIT` bytes, on this input, of at most `SOURCE_LIMIT` bytes, both told, and by
--- which no fault was counted.
+-- A call of `run` whose file is this text, of at most `TEXT_LIMIT` bytes, on this input, of at most `SOURCE_LIMIT` bytes, both told, and
+-- by which no fault was counted.
 pub record IsRunOf (text bytes : List ℕ) (result : Status) (call : Call) : Type 0 where
   pub leaves : Leaves text_form code_runner result call
   pub exact : IsExact text_form code_runner result call

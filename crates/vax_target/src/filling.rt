@@ -61,7 +61,11 @@ pub fn addr_number(n: u32) -> Addr
 fn word_operand(k: u32) -> Operand
     ensures { result ≡ word_operand k }
 {
-    if k < NEED_LIMIT { Operand::home(k) } else { spare() }
+    if k < NEED_LIMIT {
+        Operand::home(k)
+    } else {
+        spare()
+    }
 }
 
 fn slot_operand(token: Tok, k: u32) -> Operand
