@@ -1,6 +1,7 @@
 -- The blocks of memory locals. They lie on a second stack in the data area, whose pointer and area are the last two objects; both are bytes
 -- as any others.
 use Rattle.std.specs.Prelude.{ℕ, zero, suc, ◌-◌, ◌+◌, List, length, nat_lt, Option, Some, None, if◌then◌else◌}
+use Rattle.c_types.specs.declared.typed.TheConstants.{BLOCK_LIMIT}
 use Rattle.gg_base.specs.Arithmetic.{add32, sub32}
 use Rattle.gg_base.specs.Runs.{Runs}
 use Rattle.tree_core.specs.declared.program.Object.{Object}
@@ -24,7 +25,7 @@ area_number objects = pointer_number objects + 1
 -- Where a block of n bytes begins: where the pointer points to. The stack has room for it if its end less that address, without sign,
 -- is n or more.
 abbrev pub beginning : ℕ → ℕ → ℕ → Option ℕ
-beginning area n b = if nat_lt (sub32 (add32 area 262144) b) n then None else Some b
+beginning area n b = if nat_lt (sub32 (add32 area BLOCK_LIMIT) b) n then None else Some b
 
 abbrev pub with_block : ℕ → State → State
 with_block b st = record st { call = record { locals = st.call.locals; parameters = st.call.parameters; block = Some b } }

@@ -1,6 +1,7 @@
 -- What a call does, and how its caller goes on.
 use Rattle.std.specs.Prelude.{ℕ, ◌+◌, ◌%◌, ◌-◌, ◌^◌, List, [], ◌∷◌, Option, Some, None, nat_lt}
 use Rattle.std.specs.Prelude.{if◌then◌else◌, slice_get, replicate, length}
+use Rattle.gg_base.specs.declared.limits.TheConstants.{ACTIVE_CALL_LIMIT}
 use Rattle.gg_base.specs.declared.run.End.TheVariants.{Wild, Deep}
 use Rattle.gg_base.specs.Runs.{Runs, stop, emit, counted}
 use Rattle.c_types.specs.declared.types.CType.{CType}
@@ -52,9 +53,10 @@ begun g vs st = record st {
 abbrev pub performed : List Object → Next → ARoutine → Behind → State → Runs
 performed objects next g κ = claimed objects g.block (next (Body g.body) (released objects g.block κ))
 
--- at most 1,024 calls are active
+-- at most `ACTIVE_CALL_LIMIT` calls are active
 abbrev pub entered : List Object → Next → ARoutine → List ℕ → Rest → State → Runs
-entered objects next g vs κ st = if nat_lt st.active 1024 then performed objects next g (back κ st) (begun g vs st) else stop Deep
+entered objects next g vs κ st =
+    if nat_lt st.active ACTIVE_CALL_LIMIT then performed objects next g (back κ st) (begun g vs st) else stop Deep
 
 -- a call of a function is counted
 abbrev pub called : List Object → Option ARoutine → Next → List ℕ → Rest → State → Runs

@@ -82,7 +82,7 @@ impl<'a> Machine<'a> {
         }
     }
 
-    // A call of a function is counted, and begins unless 1,024 calls are active.
+    // A call of a function is counted, and begins unless `ACTIVE_CALL_LIMIT` calls are active.
     fn enter(
         &mut self,
         alloc: Global,

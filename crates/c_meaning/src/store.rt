@@ -2,6 +2,7 @@
 
 ghost use Rattle.std.specs.Prelude.{◌≡◌, ◌<◌, ◌+◌, [], IfOk, IfSome, Some, is_some, unwrap_or, replicate, drop};
 ghost use Rattle.std.specs.Option.{option_copied};
+ghost use Rattle.gg_base.specs.declared.limits.TheConstants.{ACTIVE_CALL_LIMIT};
 ghost use Rattle.c_meaning.specs.State.{access_size, held, put_local, put, put_zeros, spot_of, address, block_address, loaded};
 ghost use Rattle.c_meaning.specs.declared.store.Spot.TheVariants.{Memory};
 ghost use Rattle.c_meaning.specs.Parts.{state, activation, got_byte};
@@ -240,7 +241,7 @@ impl<'a> Store<'a> {
 
     /// Begins a call, and answers the one that waits for it.
     pub(crate) fn enter(&mut self, call: Activation) -> Activation
-        requires { self.old.active < 1024 }
+        requires { self.old.active < ACTIVE_CALL_LIMIT }
         ensures caller { result ≡ self.old.call }
         ensures new { state self.new ≡ record (state self.old) { call = activation call; active = self.old.active + 1 } }
     {

@@ -16,7 +16,7 @@ pub struct Routine {
     pub locals: Types,
     /// The numbers of those that are declared `register`, in order.
     pub registers: LocalNumbers,
-    /// The bytes of its memory locals, a multiple of 4 of at most 262,144; 0 where it has none.
+    /// The bytes of its memory locals, a multiple of 4 of at most `BLOCK_LIMIT`; 0 where it has none.
     pub block: u32,
     pub body: Vec<Action>,
     /// The longwords of its frame: its automatic locals that are no memory locals, 8 where it has memory locals, and three for

@@ -2,6 +2,8 @@
 use Rattle.std.specs.Prelude.{◌≡◌, ℕ, ◌<◌, ◌≤◌, ◌^◌, List, [], length, map, codes, Some, false, true, slice_get, IsTrue}
 use Rattle.std.specs.Str.{bytes_eq}
 use Rattle.std.specs.List.{All}
+use Rattle.gg_base.specs.declared.limits.TheConstants.{AREA_START}
+use Rattle.c_types.specs.declared.typed.TheConstants.{BLOCK_LIMIT}
 use Rattle.tree_core.specs.declared.program.Object.{Object}
 use Rattle.tree_core.specs.Locals.{LocalsStand}
 use Rattle.tree_core.specs.Valid.{objects_lie, LinksLie}
@@ -29,8 +31,8 @@ pub record IsSound (p : AProgram) : Type 0 where
   pub stands : (f : ℕ) (g : ARoutine) → slice_get p.routines f ≡ Some g → BodyStands p g
   -- the numbers of its `register` locals differ, and are those of locals
   pub registers : (f : ℕ) (g : ARoutine) → slice_get p.routines f ≡ Some g → LocalsStand (length g.locals) g.registers
-  -- a function has at most 262,144 bytes of memory locals; where it has some, the second stack lies behind the other objects
-  pub blocks : (f : ℕ) (g : ARoutine) → slice_get p.routines f ≡ Some g → g.block ≤ 262144
+  -- a function has at most `BLOCK_LIMIT` bytes of memory locals; where it has some, the second stack lies behind the other objects
+  pub blocks : (f : ℕ) (g : ARoutine) → slice_get p.routines f ≡ Some g → g.block ≤ BLOCK_LIMIT
   pub stacked : (f : ℕ) (g : ARoutine) → slice_get p.routines f ≡ Some g → 1 ≤ g.block → 2 ≤ length p.objects
   -- a function has at most 32 parameters
   pub parameters : (f : ℕ) (g : ARoutine) → slice_get p.routines f ≡ Some g → length g.parameters ≤ 32
@@ -43,7 +45,7 @@ pub record IsSound (p : AProgram) : Type 0 where
   pub main : (g : ARoutine) × (slice_get p.routines p.main ≡ Some g) × IsMain g.name × (g.parameters ≡ [])
   pub only_main : (f : ℕ) (g : ARoutine) → slice_get p.routines f ≡ Some g → IsMain g.name → f ≡ p.main
   -- the objects lie one behind another in the data area, with bytes as contents and links to objects
-  pub objects : IsTrue (objects_lie 65536 p.objects)
+  pub objects : IsTrue (objects_lie AREA_START p.objects)
   pub links : All (LinksLie (length p.objects)) p.objects
   pub addresses : (n : ℕ) (o : Object) → slice_get p.objects n ≡ Some o → o.address < 2 ^ 32
   pub contents : HoldBytes p.objects

@@ -1,6 +1,7 @@
 -- What is in scope while a function's body is typed, and what typing adds.
 use Rattle.std.specs.Prelude.{◌≡◌, ℕ, ◌<◌, ◌≤◌, ◌^◌, false, List, length}
 use Rattle.std.specs.List.{AllByRecursion}
+use Rattle.c_types.specs.declared.typed.TheConstants.{BLOCK_LIMIT}
 use Rattle.tree_core.specs.Locals.{LocalsStand}
 use Rattle.c_types.specs.declared.typed.Variable.{Variable}
 use Rattle.c_types.specs.declared.typed.Variable.TheVariants as variables
@@ -40,7 +41,8 @@ pub record ScopeOf (known : Variable → ℕ → Type 0) (s : Scope) : Type 0 wh
 -- Each variable that is in scope is there, and literals take room. Bytes of memory locals past their limit are not counted, and the
 -- function is refused then.
 pub record InOrder (scope : ℕ → Type 0) (parameters : ℕ) (s : State) : Type 0 where
-  pub names : s.room.length ≤ 262144 → ScopeOf (IsKnown scope (length s.locals) parameters (length s.area.objects) s.room.length) s.scope
+  pub names : s.room.length ≤ BLOCK_LIMIT
+      → ScopeOf (IsKnown scope (length s.locals) parameters (length s.area.objects) s.room.length) s.scope
   pub laying : s.area.measuring ≡ false
 
 -- objects are added to an area, and literals take as much room as before
@@ -53,7 +55,7 @@ pub record Extends (a b : Area) : Type 0 where
 pub record Grows (s r : State) : Type 0 where
   pub locals : length s.locals ≤ length r.locals
   pub registers : LocalsStand (length s.locals) s.registers → LocalsStand (length r.locals) r.registers
-  pub room : r.room.length ≤ 262144 → s.room.length ≤ r.room.length
+  pub room : r.room.length ≤ BLOCK_LIMIT → s.room.length ≤ r.room.length
   pub stores : r.room.stores ≡ s.room.stores
   pub area : Extends s.area r.area
   pub outer : r.scope.outer ≡ s.scope.outer
@@ -61,10 +63,10 @@ pub record Grows (s r : State) : Type 0 where
 -- a function of so many locals has room for a state, whose memory locals are within their limit
 pub record HasRoom (size : ℕ) (r : State) : Type 0 where
   pub locals : length r.locals ≤ size
-  pub block : r.room.length ≤ 262144
+  pub block : r.room.length ≤ BLOCK_LIMIT
 
 -- so many objects and so many bytes of memory locals, which are within their limit, are enough for a state
 pub record HasPlaces (most size : ℕ) (r : State) : Type 0 where
   pub objects : length r.area.objects ≤ most
   pub block : r.room.length ≤ size
-  pub limit : size ≤ 262144
+  pub limit : size ≤ BLOCK_LIMIT

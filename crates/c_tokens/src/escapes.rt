@@ -1,5 +1,6 @@
 // Elements of strings and of character constants.
 ghost use Rattle.std.specs.Prelude.{◌≡◌, ◌≤◌, ◌<◌, length, IfSome};
+ghost use Rattle.gg_base.specs.declared.limits.TheConstants.{SOURCE_LIMIT};
 ghost use Rattle.c_tokens.specs.Escapes.{named_escape, byte_of, octal_escape, hexadecimal_escape, one_longer, numeric_escape};
 ghost use Rattle.c_tokens.specs.Escapes.{escape_of, element_of};
 
@@ -58,7 +59,7 @@ fn hexadecimal_escape(text: &[u8]) -> Option<(u8, usize)>
 }
 
 fn one_longer(part: Option<(u8, usize)>) -> Option<(u8, usize)>
-    requires { IfSome part (λ x. x.1 < 1048576) }
+    requires { IfSome part (λ x. x.1 < SOURCE_LIMIT) }
     ensures { result ≡ one_longer part }
 {
     let (value, len) = part?;
@@ -66,7 +67,7 @@ fn one_longer(part: Option<(u8, usize)>) -> Option<(u8, usize)>
 }
 
 fn numeric_escape(text: &[u8]) -> Option<(u8, usize)>
-    requires { length text.now < 1048576 }
+    requires { length text.now < SOURCE_LIMIT }
     ensures is { result ≡ numeric_escape text.now }
     ensures within { IfSome result (λ x. (1 ≤ x.1) × (x.1 ≤ length text.now)) }
 {
@@ -81,7 +82,7 @@ fn numeric_escape(text: &[u8]) -> Option<(u8, usize)>
 
 /// The escape behind a backslash: the byte that it stands for, and its length.
 pub fn escape_of(text: &[u8]) -> Option<(u8, usize)>
-    requires { length text.now < 1048576 }
+    requires { length text.now < SOURCE_LIMIT }
     ensures is { result ≡ escape_of text.now }
     ensures within { IfSome result (λ x. (1 ≤ x.1) × (x.1 ≤ length text.now)) }
 {
@@ -96,7 +97,7 @@ pub fn escape_of(text: &[u8]) -> Option<(u8, usize)>
 
 /// The element at the front, with an escape's value where a backslash stands there, and its length.
 pub fn element_of(text: &[u8]) -> Option<(u8, usize)>
-    requires { length text.now ≤ 1048576 }
+    requires { length text.now ≤ SOURCE_LIMIT }
     ensures is { result ≡ element_of text.now }
     ensures within { IfSome result (λ x. (1 ≤ x.1) × (x.1 ≤ length text.now)) }
 {

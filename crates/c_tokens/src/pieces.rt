@@ -1,5 +1,6 @@
 // The piece at the front of a text: a token, or what parts tokens.
 ghost use Rattle.std.specs.Prelude.{◌≡◌, ◌≤◌, ◌<◌, ◌+◌, length, IfSome, IfOk};
+ghost use Rattle.gg_base.specs.declared.limits.TheConstants.{SOURCE_LIMIT};
 ghost use Rattle.c_tokens.specs.Pieces.{word_token, word_piece, number_piece, sign_copied, character_end, character_piece};
 ghost use Rattle.c_tokens.specs.Pieces.{comment_len, string_from, string_token, mark_piece, slash_piece, piece_of};
 ghost use Rattle.c_tokens.specs.Reading.{Gives};
@@ -78,7 +79,7 @@ fn sign_copied(value: u8) -> u32
 
 // What stands behind the element of a character constant, which has so many bytes.
 fn character_end(value: u8, taken: usize, rest: &[u8], at: u32) -> Result<Piece, TokenFault>
-    requires { taken ≤ 1048576 }
+    requires { taken ≤ SOURCE_LIMIT }
     ensures is { Gives result (character_end at value taken rest.now) }
     ensures within { IfOk result (λ p. p.length ≤ taken + length rest.now + 1) }
 {
@@ -106,7 +107,7 @@ fn character_end(value: u8, taken: usize, rest: &[u8], at: u32) -> Result<Piece,
 
 // The character constant whose opening mark stands at the offset, in front of the text.
 fn character_piece(text: &[u8], at: u32) -> Result<Piece, TokenFault>
-    requires { at + length text.now < 1048576 }
+    requires { at + length text.now < SOURCE_LIMIT }
     ensures is { Gives result (character_piece at text.now) }
     ensures within { IfOk result (λ p. p.length ≤ length text.now + 1) }
 {
@@ -139,7 +140,7 @@ fn character_piece(text: &[u8], at: u32) -> Result<Piece, TokenFault>
 
 // The string whose opening mark stands at the offset, in front of the text: its bytes, and the length with the closing mark.
 fn string_bytes(alloc: Global, text: &[u8], at: u32) -> Result<(Bytes, usize), TokenFault>
-    requires { at + length text.now < 1048576 }
+    requires { at + length text.now < SOURCE_LIMIT }
     ensures is { Gives result (string_from at (at + 1) 0 text.now) }
     ensures within { IfOk result (λ x. x.1 ≤ length text.now) }
 {
@@ -173,7 +174,7 @@ fn string_bytes(alloc: Global, text: &[u8], at: u32) -> Result<(Bytes, usize), T
 }
 
 fn string_piece(alloc: Global, text: &[u8], at: u32) -> Result<Piece, TokenFault>
-    requires { at + length text.now < 1048576 }
+    requires { at + length text.now < SOURCE_LIMIT }
     ensures is { Gives result (string_token (string_from at (at + 1) 0 text.now)) }
     ensures within { IfOk result (λ p. p.length ≤ length text.now + 1) }
 {
@@ -212,7 +213,7 @@ fn mark_piece(text: &[u8], at: u32) -> Result<Piece, TokenFault>
 // What the sign `/` at the front begins, by what stands behind it.
 fn slash_piece(behind: &[u8], text: &[u8], at: u32) -> Result<Piece, TokenFault>
     requires one { length text.now ≡ length behind.now + 1 }
-    requires small { length text.now ≤ 1048576 }
+    requires small { length text.now ≤ SOURCE_LIMIT }
     ensures is { Gives result (slash_piece at behind.now text.now) }
     ensures within { IfOk result (λ p. p.length ≤ length text.now) }
 {
@@ -243,7 +244,7 @@ fn slash_piece(behind: &[u8], text: &[u8], at: u32) -> Result<Piece, TokenFault>
 /// The piece at the front of a text that begins at the offset.
 pub fn piece_of(alloc: Global, text: &[u8], at: u32) -> Result<Piece, TokenFault>
     requires some { 0 < length text.now }
-    requires small { at + length text.now ≤ 1048576 }
+    requires small { at + length text.now ≤ SOURCE_LIMIT }
     ensures is { Gives result (piece_of at text.now) }
     ensures within { IfOk result (λ p. p.length ≤ length text.now) }
 {

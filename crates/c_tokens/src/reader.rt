@@ -1,5 +1,6 @@
 // The tokens of a text, and where an offset stands.
 ghost use Rattle.std.specs.Prelude.{ℕ, List, ◌≡◌, ◌≤◌, ◌++◌, length, take, IfOk, IfErr};
+ghost use Rattle.gg_base.specs.declared.limits.TheConstants.{SOURCE_LIMIT};
 ghost use Rattle.c_tokens.specs.Reading.{Answers, spanned, read};
 ghost use Rattle.c_tokens.specs.declared.token.TokenFault.TheVariants.{NoMemory};
 ghost use Rattle.c_tokens.specs.declared.token.Spanned.{Spanned};
@@ -31,7 +32,7 @@ fn keep(
 }
 
 fn read(alloc: Global, bytes: &[u8]) -> Result<Vec<Spanned>, TokenFault>
-    requires { length bytes.now ≤ 1048576 }
+    requires { length bytes.now ≤ SOURCE_LIMIT }
     ensures answers { Answers result (read bytes.now) }
 {
     let mut found = Vec::new(alloc);
@@ -48,11 +49,11 @@ fn read(alloc: Global, bytes: &[u8]) -> Result<Vec<Spanned>, TokenFault>
     Ok(found)
 }
 
-/// The tokens of a text of at most 1,048,576 bytes, the last one `End`; or the first fault from the left.
+/// The tokens of a text of at most `SOURCE_LIMIT` bytes, the last one `End`; or the first fault from the left.
 /// `Tokens` is the grammar over whole texts, `FirstFault` says what is wrong and where.
 #[tactic(auto, using(crate::proofs::TextLaws::text_laws))]
 pub fn tokens(alloc: Global, bytes: &[u8]) -> Result<Vec<Spanned>, TokenFault>
-    requires { length bytes.now ≤ 1048576 }
+    requires { length bytes.now ≤ SOURCE_LIMIT }
     ensures found { IfOk result (λ v. Tokens 0 bytes.now v.items) }
     ensures only { (ts : List Spanned) → Tokens 0 bytes.now ts → AreTokens result ts }
     ensures first { IfErr result (IsFirstFault bytes.now) }
@@ -64,7 +65,7 @@ pub fn tokens(alloc: Global, bytes: &[u8]) -> Result<Vec<Spanned>, TokenFault>
 /// The line and column of an offset in the text or at its end, both counted from 1. A line ends with LF.
 pub fn place_of(bytes: &[u8], offset: u32) -> Place
     requires within { offset ≤ length bytes.now }
-    requires small { length bytes.now ≤ 1048576 }
+    requires small { length bytes.now ≤ SOURCE_LIMIT }
     ensures line { result.line ≡ line_of (take offset bytes.now) }
     ensures column { result.column ≡ column_of (take offset bytes.now) }
 {

@@ -1,5 +1,6 @@
 // From the bytes of a source to its program.
 ghost use Rattle.std.specs.Prelude.{◌≡◌, ◌≤◌, ◌⊎◌, length, List, IfOk, IfErr};
+ghost use Rattle.gg_base.specs.declared.limits.TheConstants.{SOURCE_LIMIT};
 ghost use Rattle.c_tokens.specs.declared.token.Spanned.{Spanned as ASpanned};
 ghost use Rattle.c_tokens.specs.Grammar.{Tokens};
 ghost use Rattle.c_program.specs.Programs.{AProgram};
@@ -78,7 +79,7 @@ pub enum SourceFault {
 
 // The place of an offset, and that of the end for every larger one.
 fn place_at(bytes: &[u8], offset: u32) -> Place
-    requires { length bytes.now ≤ 1048576 }
+    requires { length bytes.now ≤ SOURCE_LIMIT }
     ensures { result ≡ place_at bytes.now offset }
 {
     if offset as usize > bytes.len() {
@@ -88,10 +89,10 @@ fn place_at(bytes: &[u8], offset: u32) -> Place
     }
 }
 
-/// The program of a source of at most 1,048,576 bytes, or its first fault: of its tokens, else of its phrases, else of
+/// The program of a source of at most `SOURCE_LIMIT` bytes, or its first fault: of its tokens, else of its phrases, else of
 /// its types.
 pub fn read_source(alloc: Global, bytes: &[u8]) -> Result<Program, SourceFault>
-    requires { length bytes.now ≤ 1048576 }
+    requires { length bytes.now ≤ SOURCE_LIMIT }
     ensures found { IfOk result (λ p. Reads bytes.now (typed p)) }
     ensures only { (p : AProgram) → Reads bytes.now p → IsOnly result p }
     ensures refused { IfErr result (λ fault. IsRefused bytes.now fault) }

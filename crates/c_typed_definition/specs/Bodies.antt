@@ -1,6 +1,7 @@
 -- What a function's body is typed as, with the block of its memory locals.
 -- This is how the code computes it; the rules of typing are the relations of c_typed_law.
 use Rattle.std.specs.Prelude.{ℕ, nat_lt, List, [], ◌∷◌, length, map, slice_index_or, Option, Some, None, Result, Ok, if◌then◌else◌}
+use Rattle.c_types.specs.declared.typed.TheConstants.{BLOCK_LIMIT}
 use Rattle.c_phrases.specs.declared.operator.Spec.{Spec}
 use Rattle.c_phrases.specs.Units.{SomeItems, AFunction}
 use Rattle.c_types.specs.declared.types.CType.{CType}
@@ -25,9 +26,9 @@ abbrev pub with_stores : List ADeclaration → SomeActions → SomeActions
 with_stores [] body = body
 with_stores (d ∷ ds) body = MoreActions (DeclareOf (d ∷ ds)) body
 
--- the memory locals of a function take at most 262,144 bytes; the place is the end of its body
+-- the memory locals of a function take at most `BLOCK_LIMIT` bytes; the place is the end of its body
 unfoldable pub fits_stack : ℕ → Room → Result (Unit {0}) Fault
-fits_stack at room = if nat_lt 262144 room.length then bad at DataFull else Ok tt
+fits_stack at room = if nat_lt BLOCK_LIMIT room.length then bad at DataFull else Ok tt
 
 abbrev pub end_in : Text → ℕ
 end_in t = slice_index_or t.ends (length t.bodies) 0

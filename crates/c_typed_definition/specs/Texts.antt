@@ -3,6 +3,7 @@
 use Rattle.std.specs.Prelude.{ℕ, ◌+◌, ◌==◌, nat_lt, Bool, true, false, ◌&&◌, ◌||◌, is_some, List, [], ◌∷◌}
 use Rattle.std.specs.Prelude.{length, codes, Option, Some, None, option_map, Result, Ok, if◌then◌else◌}
 use Rattle.std.specs.Str.{bytes_eq}
+use Rattle.gg_base.specs.declared.limits.TheConstants.{AREA_START}
 use Rattle.c_phrases.specs.declared.operator.Spec.{Spec}
 use Rattle.c_types.specs.declared.types.CType.TheVariants as types
 use Rattle.c_types.specs.declared.types.Integer.TheVariants as ints
@@ -115,7 +116,7 @@ empty_text ends = record {
     registers = [];
     room = no_room;
     area =
-        record { objects = []; end = 65536; literals = 0; statics = 0; measuring = false };
+        record { objects = []; end = AREA_START; literals = 0; statics = 0; measuring = false };
   };
   declared = services;
   bodies = [];

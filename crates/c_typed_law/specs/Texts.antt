@@ -1,5 +1,6 @@
 -- Functions and whole texts: what a text is typed as, and which fault is its first.
 use Rattle.std.specs.Prelude.{◌≡◌, ℕ, ◌+◌, nat_lt, Bool, false, is_some, List, [], ◌∷◌, length, Option, Some, None}
+use Rattle.c_types.specs.declared.typed.TheConstants.{BLOCK_LIMIT}
 use Rattle.c_phrases.specs.declared.operator.Spec.{Spec}
 use Rattle.c_types.specs.declared.fault.TypeKind.TheVariants.{DataFull}
 use Rattle.c_types.specs.Answers.{Fault}
@@ -67,14 +68,14 @@ module _ (names : List (List ℕ × Entry)) (signatures : List Signature) where
   IsBody spec f None s t r = r ≡ with_state (left_function s) t
   IsBody spec f (Some row) s t r =
       Joint (AreItems names signatures (written spec f.stars) false row s) (λ x.
-      Without (nat_lt 262144 x.1.room.length) (λ u. u ≡ with_body (routine_of spec f x.1 x.0) (with_state (left_function x.1) t))) r
+      Without (nat_lt BLOCK_LIMIT x.1.room.length) (λ u. u ≡ with_body (routine_of spec f x.1 x.0) (with_state (left_function x.1) t))) r
 
   -- DataFull of its memory locals comes behind its other faults, where it ends
   abbrev pub BodyFault : Spec → AFunction → Option SomeItems → State → Text → Fault → Type 0
   BodyFault spec f None s t g = ⊥
   BodyFault spec f (Some row) s t g = FirstOf (AreItems names signatures (written spec f.stars) false row s)
       (ItemsFault names signatures (written spec f.stars) false row s)
-      (λ x. Unless (nat_lt 262144 x.1.room.length) (end_in t) DataFull Never) g
+      (λ x. Unless (nat_lt BLOCK_LIMIT x.1.room.length) (end_in t) DataFull Never) g
 
   -- once its name is in scope: its parameters, its agreement with an earlier declaration, and its body
   abbrev pub IsIntroduced : Option ℕ → Spec → AFunction → Text → Text → Type 0

@@ -59,7 +59,7 @@ WrittenFault (types.Pointer b n) place x f = PointerFault (types.Pointer b n) pl
 
 -- names of the functions that are defined in the text, and their signatures
 module _ (names : List (List ℕ × Entry)) (signatures : List Signature) (scope : Scope) where
-  -- a length in brackets: a constant from 1 to 1,048,576
+  -- a length in brackets: a constant from 1 to `AREA_LIMIT`
   abbrev pub IsLength : AnExp → Area → ℕ × Area → Type 0
   IsLength e a r = Joint (IsTyped names signatures scope e a) (λ x. Joint (λ n. length_of x.0 ≡ Some n) (λ n u. u ≡ (n, x.1))) r
 

@@ -14,7 +14,7 @@ use c_typed_scope::{Blocks, Contents, Data};
 use c_types::{CType, TypeFault};
 use std::alloc::Global;
 
-/// The value of a length in brackets, a constant from 1 to 1,048,576.
+/// The value of a length in brackets, a constant from 1 to `AREA_LIMIT`.
 #[tactic(auto, unfolding(c_typed_definition::specs::Initialisers::type_length))]
 pub fn array_length(
     alloc: Global,

@@ -21,7 +21,7 @@ abbrev pub wanted : {A : Type 0} → Option A → ℕ → Result A Fault
 wanted None place = bad place BadConst
 wanted (Some v) place = Ok v
 
--- a length is from 1 to 1,048,576
+-- a length is from 1 to `AREA_LIMIT`
 abbrev pub in_range : Option ℕ → Option ℕ
 in_range None = None
 in_range (Some v) = if nat_lt 0 v && nat_lt v 1048577 then Some v else None

@@ -34,7 +34,7 @@ with_object label align size bytes a = added (record {
   links = [];
 }) (aligned a.end align + size) a
 
--- An object behind the others, whose end lies at most 1,048,576 bytes past address 65,536; and its number.
+-- An object behind the others, whose end lies at most `AREA_LIMIT` bytes past address `AREA_START`; and its number.
 unfoldable pub placed : ℕ → List ℕ → ℕ → ℕ → List ℕ → Area → Result (ℕ × Area) Fault
 placed at label align size bytes a =
     if nat_lt 1114112 (aligned a.end align + size) then bad at DataFull else Ok (length a.objects, with_object label align size bytes a)

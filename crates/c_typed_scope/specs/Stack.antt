@@ -1,12 +1,13 @@
 -- The second stack, on which the memory locals of calls lie: a pointer to the first byte that is free, and the area, the last two objects.
 use Rattle.std.specs.Prelude.{ℕ, [], codes, Result, Ok}
+use Rattle.c_types.specs.declared.typed.TheConstants.{BLOCK_LIMIT}
 use Rattle.c_types.specs.Answers.{Fault, ◌>>=◌}
 use Rattle.c_typed_scope.specs.Layout.{Area, placed}
 use Rattle.c_typed_scope.specs.Contents.{Filled, filled_to, with_link, filled}
 
 -- the bytes of the area
 abbrev pub stack_size : ℕ
-stack_size = 262144
+stack_size = BLOCK_LIMIT
 
 abbrev pub nothing : Filled
 nothing = record { bytes = []; links = [] }

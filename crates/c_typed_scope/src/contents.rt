@@ -31,7 +31,7 @@ fn bad_constant<T>(place: u32) -> Result<T, TypeFault>
     })
 }
 
-/// The value of a length that is written in brackets, a constant from 1 to 1,048,576; BadConst at this place where it is
+/// The value of a length that is written in brackets, a constant from 1 to `AREA_LIMIT`; BadConst at this place where it is
 /// none.
 #[tactic(auto, unfolding(crate::specs::Contents::length_of))]
 pub fn length_of(place: u32, x: &Expression) -> Result<u32, TypeFault>

@@ -34,7 +34,7 @@ fn aligned(end: u32, align: u32) -> u64
 }
 
 /// Lays an object behind the others, at the next multiple of `align`, and answers its number. DataFull, at this place,
-/// where its end lies more than 1,048,576 bytes past address 65,536.
+/// where its end lies more than `AREA_LIMIT` bytes past address `AREA_START`.
 #[tactic(auto, unfolding(crate::specs::Layout::placed))]
 pub fn lay(
     alloc: Global,

@@ -47,7 +47,7 @@ fn open(alloc: Global, layout: &mut Data, pointer: u32, stack: u32) -> Result<()
 }
 
 /// Lays the stack's pointer and its area behind the other objects. DataFull, at this place, where they end more than
-/// 1,048,576 bytes past address 65,536.
+/// `AREA_LIMIT` bytes past address `AREA_START`.
 #[tactic(auto, unfolding(crate::specs::Stack::with_stack))]
 pub fn lay_stack(alloc: Global, layout: &mut Data, at: u32) -> Result<(), TypeFault>
     ensures { OnlyTurns result (area layout.new) (with_stack at (area layout.old)) }

@@ -20,7 +20,7 @@ pub data IsLiteral (bytes : List ℕ) (a : Area) (t : AnExpression × Area) : Ty
         one_more_literal (with_object (83 ∷ decimal a.literals) 1 (length bytes + 1) (bytes ++ 0 ∷ []) a),
       )) → IsLiteral bytes a t
 
--- its end lies more than 1,048,576 bytes past address 65,536
+-- its end lies more than `AREA_LIMIT` bytes past address `AREA_START`
 pub record LiteralFault (at : ℕ) (bytes : List ℕ) (a : Area) (f : Fault) : Type 0 where
   pub lying : a.measuring ≡ false
   pub over : 1114112 < end_with (length bytes + 1) a

@@ -41,8 +41,8 @@ description_form = record {
   of_files = tt;
 }
 
--- a description is accepted: it has tables, with no more than 4,000,000 summaries, by which no typed statement stops the parse, and all
--- its rules are shown
+-- a description is accepted: it has tables, with no more than `SUMMARY_LIMIT` summaries, by which no typed statement stops the parse, and
+-- all its rules are shown
 pub record IsAccepted (d : Content) : Type 0 where
   pub few : ¬ HasTooManySets d
   pub sums : ¬ HasTooManySums d

@@ -49,7 +49,7 @@ pub fn read_file<T: FileForm, F: Folder, E: Sink>(
     }
 }
 
-/// Reads the whole input, of at most 1,048,576 bytes. No more than one byte beyond that is taken.
+/// Reads the whole input, of at most `SOURCE_LIMIT` bytes. No more than one byte beyond that is taken.
 pub fn read_input<I: Source, E: Sink>(
     alloc: Global,
     input: &mut I,

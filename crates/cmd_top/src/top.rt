@@ -59,7 +59,7 @@ fn compile<F: Folder, O: Sink, E: Sink>(
 
 /// The whole program: the command that the words say, or the line of the usage. Its commands are `check D`, `compile D S`, `run A N`,
 /// `meaning S N`, `load D K`, `image A` and `text I`. What `compile` writes does, read again and run, what the source does: until the
-/// source makes a wild access or nests over 1,024 calls.
+/// source makes a wild access or nests over `ACTIVE_CALL_LIMIT` calls.
 pub fn ggvax<F: Folder, I: Source, O: Sink, E: Sink>(
     alloc: Global,
     words: &[String],

@@ -1,5 +1,6 @@
 // The selection of a tree, with the rules that it takes.
 ghost use Rattle.std.specs.Prelude.{◌≤◌};
+ghost use Rattle.gg_base.specs.declared.limits.TheConstants.{NEED_LIMIT};
 ghost use Rattle.sel_parse_desk.specs.Mirror.{IsReady};
 ghost use Rattle.vax_target_meaning.specs.Vax.{vax};
 
@@ -184,9 +185,9 @@ fn step(
     }
 }
 
-// A parse that begins; its frame words begin at 1,024 at most.
+// A parse that begins; its frame words begin at `NEED_LIMIT` at most.
 fn begun(setting: &Setting<Vax>) -> Result<Parse, NoMemory>
-    requires { setting.now.first ≤ 1024 }
+    requires { setting.now.first ≤ NEED_LIMIT }
 {
     Ok(Parse {
         at: 0,
@@ -203,7 +204,7 @@ fn code_of(parse: Parse) -> Vec<Instr> {
 
 // The rules that a tree takes and its code, where the words of the frame that may hold values are not behind its end.
 fn selected(setting: &Setting<Vax>, tables: &Tables, tree: &[Leaf]) -> Result<Selection, NoMemory>
-    requires { setting.now.first ≤ 1024 }
+    requires { setting.now.first ≤ NEED_LIMIT }
 {
     let alloc = setting.alloc;
     let mut taken = Vec::new(alloc);

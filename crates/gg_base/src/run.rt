@@ -25,7 +25,7 @@ pub enum End {
     Trapped,
     /// It touched memory outside the data area: source and trees alone.
     Wild,
-    /// It nested over 1,024 active calls: source and trees alone.
+    /// It nested over `ACTIVE_CALL_LIMIT` active calls: source and trees alone.
     Deep,
     /// It used up the number of counted moments that it was given, and would go on.
     Spent,

@@ -1,6 +1,7 @@
 // From a typed program to its code.
 ghost use Rattle.std.specs.Prelude.{◌≡◌, ◌≤◌, true, IfOk, IfErr, OnOk};
 ghost use Rattle.std.specs.List.{All};
+ghost use Rattle.gg_base.specs.declared.limits.TheConstants.{NEED_LIMIT};
 ghost use Rattle.c_program.specs.Programs.{program};
 ghost use Rattle.c_lower_scheme.specs.Programs.{lowered};
 ghost use Rattle.vax_core.specs.Valid.{is_code};
@@ -31,7 +32,7 @@ pub struct Compiled {
 // The code of trees that are ready for it: no tree of theirs blocks, turns or finds its frame full.
 fn code_of(alloc: Global, accepted: &Accepted, trees: &TreeProgram) -> Result<Code, NoMemory>
     requires ready { ∥ HasReadyTrees trees.now ∥₁ }
-    requires locals { All (λ f. f.locals ≤ 1024) trees.now.functions }
+    requires locals { All (λ f. f.locals ≤ NEED_LIMIT) trees.now.functions }
     ensures { IfOk result (λ c. SelectedAll vax accepted.now.content trees.now c) }
 {
     accepted.is_accepted();

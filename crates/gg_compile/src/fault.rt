@@ -6,7 +6,7 @@ use gg_base::NoMemory;
 #[derive(Clone, Copy, Debug, PartialEq, Eq)]
 pub enum CompileFault {
     NoMemory,
-    /// The first function that needs more than 1,024 words of its frame, and how many it needs.
+    /// The first function that needs more than `NEED_LIMIT` words of its frame, and how many it needs.
     FrameFull { function: u32, need: u32 },
 }
 

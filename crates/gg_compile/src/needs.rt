@@ -8,7 +8,7 @@ use c_typed::Program;
 use gg_base::limits::NEED_LIMIT;
 use gg_base::number_of;
 
-/// Refuses a program with a function that needs more than 1,024 words of its frame: the first such function.
+/// Refuses a program with a function that needs more than `NEED_LIMIT` words of its frame: the first such function.
 #[tactic(auto, using(crate::proofs::Needing::one_fits, crate::proofs::Needing::all_fit, crate::proofs::Needing::first_over))]
 pub fn check_needs(source: &Program) -> Result<(), CompileFault>
     ensures fit { OnOk result (AllFit (program source.now.held)) }

@@ -1,6 +1,7 @@
 // The data area of a program.
 ghost use Rattle.std.specs.Prelude.{◌≡◌, ◌≤◌, ◌++◌, IfOk, OnOk, length};
 ghost use Rattle.std.specs.List.{All};
+ghost use Rattle.gg_base.specs.declared.limits.TheConstants.{AREA_LIMIT};
 ghost use Rattle.vax_core.specs.declared.code.AreaItem.TheVariants as areas;
 ghost use Rattle.gg_compile_law.specs.Spelling.{power_of, block_of, blocks_of, area_of};
 
@@ -38,7 +39,7 @@ fn put_block(
     o: &Object,
     items: &mut Vec<AreaItem>,
 ) -> Result<(), NoMemory>
-    requires { length o.now.bytes ≤ 1048576 }
+    requires { length o.now.bytes ≤ AREA_LIMIT }
     ensures { OnOk result (items.new.items ≡ items.old.items ++ block_of objects.now o.now) }
 {
     items.push(AreaItem::Align(power_of(o.align)))?;
@@ -50,7 +51,7 @@ fn put_block(
 /// link that comes in its turn is a `.long` of the linked object's label, each longest run of zeros a `.space`, and
 /// each other byte a `.byte`.
 pub fn area_items(alloc: Global, objects: &[Object]) -> Result<AreaItems, NoMemory>
-    requires { All (λ o. length o.bytes ≤ 1048576) objects.now }
+    requires { All (λ o. length o.bytes ≤ AREA_LIMIT) objects.now }
     ensures { IfOk result (λ a. a ≡ area_of objects.now) }
 {
     let mut items = Vec::new(alloc);

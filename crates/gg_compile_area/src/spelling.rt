@@ -1,5 +1,6 @@
 // The items of one object's bytes.
 ghost use Rattle.std.specs.Prelude.{◌≡◌, ℕ, List, ◌+◌, ◌<◌, ◌≤◌, ◌++◌, ◌∷◌, [], IfOk, OnOk, length};
+ghost use Rattle.gg_base.specs.declared.limits.TheConstants.{AREA_LIMIT};
 ghost use Rattle.vax_core.specs.declared.code.AreaItem.{AreaItem};
 ghost use Rattle.vax_core.specs.declared.code.AreaItem.TheVariants as areas;
 ghost use Rattle.gg_compile_law.specs.Spelling.{after_zeros, by_byte, link_addr, spelled};
@@ -46,7 +47,7 @@ fn link_item(alloc: Global, objects: &[Object], link: Link) -> Result<AreaItem, 
 // A byte that is no link's: how many zeros stand behind it.
 #[tactic(auto, using(crate::proofs::Steps::zero_joins, crate::proofs::Steps::byte_ends))]
 fn spell_byte(items: &mut Vec<AreaItem>, zeros: u32, b: u8) -> Result<u32, NoMemory>
-    requires { zeros < 1048576 }
+    requires { zeros < AREA_LIMIT }
     ensures spells { IfOk result (λ z. (go : ℕ → List AreaItem) → items.new.items ++ go z ≡ items.old.items ++ by_byte zeros go b) }
     ensures few { IfOk result (λ z. z ≤ zeros + 1) }
 {
@@ -69,7 +70,7 @@ impl<'a> Spelling<'a> {
         b: u8,
         items: &mut Vec<AreaItem>,
     ) -> Result<Spelling<'a>, NoMemory>
-        requires { self.zeros < 1048576 }
+        requires { self.zeros < AREA_LIMIT }
         ensures spells { IfOk result (λ r. (bs : List ℕ) →
             items.new.items ++ spelled objects.now r.passed r.zeros r.links.now (at + 1) bs
             ≡ items.old.items ++ spelled objects.now self.entry.passed self.entry.zeros self.entry.links.now at (b ∷ bs)) }
@@ -109,7 +110,7 @@ pub fn spell(
     o: &Object,
     items: &mut Vec<AreaItem>,
 ) -> Result<(), NoMemory>
-    requires { length o.now.bytes ≤ 1048576 }
+    requires { length o.now.bytes ≤ AREA_LIMIT }
     ensures { OnOk result (items.new.items ≡ items.old.items ++ spelled objects.now 0 0 o.now.links 0 o.now.bytes) }
 {
     let mut state = Spelling {

@@ -1,6 +1,7 @@
 // The code of a program's functions.
 ghost use Rattle.std.specs.Prelude.{◌≤◌, IfOk};
 ghost use Rattle.std.specs.List.{All};
+ghost use Rattle.gg_base.specs.declared.limits.TheConstants.{NEED_LIMIT};
 ghost use Rattle.vax_target_meaning.specs.Vax.{vax};
 ghost use Rattle.gg_compile_code.specs.Selecting.{IsSelectedFunction, AreSelectedFunctions};
 ghost use Rattle.gg_compile_code.specs.Going.{FunctionGoes, ProgramGoes};
@@ -21,7 +22,7 @@ fn function(
     program: &TreeProgram,
     f: &TreeFn,
 ) -> Result<Vec<CodeItem>, NoMemory>
-    requires few { f.now.locals ≤ 1024 }
+    requires few { f.now.locals ≤ NEED_LIMIT }
     requires goes { FunctionGoes vax generator.now.tables.content program.now f.now }
     ensures { IfOk result (λ c. IsSelectedFunction vax generator.now.tables.content program.now f.now c.items) }
 {
@@ -35,7 +36,7 @@ pub fn functions(
     generator: &Generator<Vax>,
     program: &TreeProgram,
 ) -> Result<Vec<CodeItem>, NoMemory>
-    requires few { All (λ f. f.locals ≤ 1024) program.now.functions }
+    requires few { All (λ f. f.locals ≤ NEED_LIMIT) program.now.functions }
     requires goes { ProgramGoes vax generator.now.tables.content program.now }
     ensures { IfOk result (λ c. AreSelectedFunctions vax generator.now.tables.content program.now program.now.functions c.items) }
 {

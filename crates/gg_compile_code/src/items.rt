@@ -1,5 +1,6 @@
 // The code of a function's items.
 ghost use Rattle.std.specs.Prelude.{◌≡◌, ◌≤◌, ◌++◌, [], ◌∷◌, IfOk, OnOk};
+ghost use Rattle.gg_base.specs.declared.limits.TheConstants.{NEED_LIMIT};
 ghost use Rattle.tree_core.specs.Names.{label_name};
 ghost use Rattle.vax_core.specs.declared.code.CodeItem.TheVariants as item_kind;
 ghost use Rattle.vax_target_meaning.specs.Vax.{vax};
@@ -73,10 +74,10 @@ pub fn body_of(
     program: &TreeProgram,
     f: &TreeFn,
 ) -> Result<Body, NoMemory>
-    requires few { f.now.locals ≤ 1024 }
+    requires few { f.now.locals ≤ NEED_LIMIT }
     requires goes { FunctionGoes vax generator.now.tables.content program.now f.now }
     ensures body { IfOk result (λ b. IsBody vax generator.now.tables.content program.now f.now b.items.items b.words) }
-    ensures few { IfOk result (λ b. b.words ≤ 1024) }
+    ensures few { IfOk result (λ b. b.words ≤ NEED_LIMIT) }
 {
     let mut slots = Slots::new(f.locals);
     let mut items = Vec::new(alloc);

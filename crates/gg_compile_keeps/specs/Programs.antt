@@ -1,6 +1,7 @@
 -- Tree programs of which code is selected.
 use Rattle.std.specs.Prelude.{◌≡◌, ℕ, ◌≤◌, Some, slice_get}
 use Rattle.std.specs.List.{All}
+use Rattle.gg_base.specs.declared.limits.TheConstants.{NEED_LIMIT}
 use Rattle.tree_core.specs.declared.program.TreeFn.{TreeFn}
 use Rattle.tree_core.specs.declared.program.TreeProgram.{TreeProgram}
 use Rattle.tree_core.specs.Calm.{Calm}
@@ -17,7 +18,7 @@ use Rattle.gg_compile_law.specs.Loaded.{AreApart}
 pub record IsSelectable (q : TreeProgram) : Type 0 where
   pub valid : IsValid q
   pub calm : EachTree Calm q
-  pub locals : (n : ℕ) (g : TreeFn) → slice_get q.functions n ≡ Some g → g.locals ≤ 1024
+  pub locals : (n : ℕ) (g : TreeFn) → slice_get q.functions n ≡ Some g → g.locals ≤ NEED_LIMIT
   pub apart : AreApart q.objects q.functions
   pub numbers : All (HoldsNumbers q.objects) q.objects
   -- its names can be spelled, and its numbers, offsets and labels are longwords

@@ -1,6 +1,7 @@
 -- The data area of a program's objects, block by block: each object's block is its alignment, its label, and its bytes,
 -- however these are spelled.
 use Rattle.std.specs.Prelude.{◌≡◌, ℕ, ◌+◌, ◌^◌, ◌≤◌, List, [], ◌∷◌, ◌++◌, length, slice_get, Some, false}
+use Rattle.gg_base.specs.declared.limits.TheConstants.{AREA_LIMIT}
 use Rattle.vax_core.specs.declared.code.Code.{Code}
 use Rattle.vax_core.specs.declared.code.AreaItem.{AreaItem}
 use Rattle.vax_core.specs.declared.code.AreaItem.TheVariants as areas
@@ -40,7 +41,7 @@ pub record HoldsObjects (program : TreeProgram) (c : Code) : Type 0 where
   pub labelled : (n : ℕ) (o : Object) → slice_get program.objects n ≡ Some o → label_address c.area o.label ≡ o.address
   pub area : area_bytes c.area ≡ opening program.objects
   pub bytes : AllBelow 256 (opening program.objects)
-  pub size : length (opening program.objects) ≤ 1048576
+  pub size : length (opening program.objects) ≤ AREA_LIMIT
 
 -- A data area of the objects' blocks holds them.
 abbrev pub BlocksHoldObjects : Type 0

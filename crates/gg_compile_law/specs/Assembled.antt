@@ -1,5 +1,6 @@
 -- The code of a program, function by function.
 use Rattle.std.specs.Prelude.{◌≡◌, ℕ, ◌≤◌, List, [], ◌∷◌, ◌++◌}
+use Rattle.gg_base.specs.declared.limits.TheConstants.{NEED_LIMIT}
 use Rattle.vax_core.specs.declared.code.Code.{Code}
 use Rattle.vax_core.specs.declared.code.CodeItem.{CodeItem}
 use Rattle.vax_machine.specs.Loading.{Loads}
@@ -40,7 +41,7 @@ module _ (program : TreeProgram) where
     pub mask : ℕ
     pub body : List CodeItem
     pub locals : g.locals ≤ words
-    pub few : words ≤ 1024
+    pub few : words ≤ NEED_LIMIT
     pub is_mask : IsMask mask
     pub is_body : IsTreeCode g words g.items body
     pub part_is : part ≡ frame_items (function_label g.name) mask words body
@@ -65,7 +66,7 @@ AssembledFollow = (program : TreeProgram) (c : Code) → IsAssembled program c �
 -- The frame round a body that is the code of a function's items is the code of the function.
 abbrev pub FramesAreFunctionCodes : Type 0
 FramesAreFunctionCodes =
-    (program : TreeProgram) (g : TreeFn) (words : ℕ) (body code : List CodeItem) → g.locals ≤ words → words ≤ 1024
+    (program : TreeProgram) (g : TreeFn) (words : ℕ) (body code : List CodeItem) → g.locals ≤ words → words ≤ NEED_LIMIT
     → IsTreeCode program g words g.items body
     → IsFrameCode g.name words body code → IsFunctionCode program g code
 

@@ -1,5 +1,6 @@
 -- When instructions do what a tree does.
 use Rattle.std.specs.Prelude.{◌≡◌, ℕ, ◌≤◌, List, [], length, option_to_list}
+use Rattle.gg_base.specs.declared.limits.TheConstants.{NEED_LIMIT}
 use Rattle.vax_core.specs.declared.register.Reg.TheVariants.{R0}
 use Rattle.vax_core.specs.declared.code.Instr.{Instr}
 use Rattle.vax_machine.specs.declared.turn.Stop.TheVariants as stops
@@ -43,7 +44,7 @@ pub record IsReady (locals args most : ℕ) (w : List Leaf) (e : Extent) (t : Tr
   pub room : HasRoom m
   pub same_locals : e.locals ≡ locals
   pub words : most ≤ e.words
-  pub few : e.words ≤ 1024
+  pub few : e.words ≤ NEED_LIMIT
   pub arguments : length t.running.arguments ≡ args
   -- before a call just its arguments are pushed, and a result is saved directly behind its call
   pub pushed : (function count : ℕ) → role_of w ≡ Calls function count → length t.running.pushed ≡ count

@@ -1,5 +1,6 @@
 -- Returns in whole programs, and the stack's room.
 use Rattle.std.specs.Prelude.{◌≡◌, ℕ, ◌<◌, ◌≤◌, List, [], ◌∷◌, length}
+use Rattle.gg_base.specs.declared.limits.TheConstants.{ACTIVE_CALL_LIMIT, NEED_LIMIT}
 use Rattle.vax_core.specs.declared.register.Reg.TheVariants.{R0}
 use Rattle.vax_core.specs.declared.code.CodeItem.{CodeItem}
 use Rattle.vax_machine.specs.declared.turn.Stop.TheVariants.{Ended}
@@ -24,12 +25,12 @@ abbrev pub ReturnsComeBack : Type 0
 ReturnsComeBack =
     (program : TreeProgram) (code : List CodeItem) (m : State) (w : List ℕ) (j : ℕ) (e : Extent) (es : List Extent) (t : Trees) (mr : State)
     → Gets m w j (returned mr) → Agrees program.objects e es t mr → mr.items ≡ code → (v : ℕ) → reg mr R0 ≡ v
-    → Waits program code mr.frames es t.callers → length t.callers < 1024 → ComesBack program code t.callers t v m w
+    → Waits program code mr.frames es t.callers → length t.callers < ACTIVE_CALL_LIMIT → ComesBack program code t.callers t v m w
 
--- The stack has room for a whole call, as long as at most 1,024 calls are active.
+-- The stack has room for a whole call, as long as at most `ACTIVE_CALL_LIMIT` calls are active.
 abbrev pub StackHasRoom : Type 0
 StackHasRoom =
     (program : TreeProgram) (code : List CodeItem) (e : Extent) (es : List Extent) (t : Trees) (m : State)
-    → Agrees program.objects e es t m → e.words ≤ 1024 → length t.running.pushed ≤ 255
-    → Waits program code m.frames es t.callers → length t.callers < 1024
+    → Agrees program.objects e es t m → e.words ≤ NEED_LIMIT → length t.running.pushed ≤ 255
+    → Waits program code m.frames es t.callers → length t.callers < ACTIVE_CALL_LIMIT
     → IsRoomy m

@@ -2,6 +2,7 @@
 use Rattle.std.specs.Prelude.{◌≡◌, ℕ, ◌+◌, ◌^◌, ◌<◌, ◌≤◌, ◌==◌, List, [], ◌∷◌, ◌++◌, length, slice_get}
 use Rattle.std.specs.Prelude.{slice_index, Some, None, Bool, true, false}
 use Rattle.std.specs.List.{list_any}
+use Rattle.gg_base.specs.declared.limits.TheConstants.{ACTIVE_CALL_LIMIT, AREA_LIMIT}
 use Rattle.vax_core.specs.declared.code.Instr.{Instr}
 use Rattle.vax_core.specs.declared.code.CodeItem.{CodeItem}
 use Rattle.vax_core.specs.declared.code.CodeItem.TheVariants as item_kind
@@ -122,7 +123,7 @@ module _ (program : TreeProgram) where
       pub active : IsActive g e t.running m.place is_behind
       pub result : is_behind ≡ true → HasResult t m
       pub waits : Waits m.frames es t.callers
-      pub shallow : length t.callers < 1024
+      pub shallow : length t.callers < ACTIVE_CALL_LIMIT
 
 -- The code is the program's: each function's code stands in it, and the data area is that of the program's objects.
 pub record IsCompiled (program : TreeProgram) (c : Code) : Type 0 where
@@ -133,7 +134,7 @@ pub record IsCompiled (program : TreeProgram) (c : Code) : Type 0 where
   pub labelled : (n : ℕ) (o : Object) → slice_get program.objects n ≡ Some o → label_address c.area o.label ≡ o.address
   pub area : area_bytes c.area ≡ opening program.objects
   pub bytes : AllBelow 256 (opening program.objects)
-  pub size : length (opening program.objects) ≤ 1048576
+  pub size : length (opening program.objects) ≤ AREA_LIMIT
 
 -- on every input of bytes the code's run follows the run of the trees
 abbrev pub FollowsTrees : TreeProgram → Code → Type 0

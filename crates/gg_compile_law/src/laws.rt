@@ -9,7 +9,7 @@ ghost use Rattle.gg_compile_law.specs.Names.{CodeLabelsDiffer, MainStands};
 ghost use Rattle.gg_compile_law.specs.Loaded.{AssembledLoads};
 ghost use Rattle.gg_compile_law.specs.Written.{WrittenCodesLoad, WrittenCodesFollow};
 
-/// The law: the stack has room for 1,024 active calls.
+/// The law: the stack has room for `ACTIVE_CALL_LIMIT` active calls.
 pub fn stack_has_room()
     ensures { StackHasRoom }
 {}

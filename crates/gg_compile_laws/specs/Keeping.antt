@@ -1,6 +1,7 @@
 -- The code that is selected of a C program's trees keeps the program.
 use Rattle.std.specs.Prelude.{◌≡◌, ℕ, ◌≤◌, List, Some, true, slice_get}
 use Rattle.std.specs.List.{AllByRecursion}
+use Rattle.gg_base.specs.declared.limits.TheConstants.{NEED_LIMIT}
 use Rattle.gg_base.specs.Follows.{Follows}
 use Rattle.tree_core.specs.declared.program.TreeFn.{TreeFn}
 use Rattle.tree_core.specs.declared.program.TreeProgram.{TreeProgram}
@@ -32,7 +33,7 @@ pub record IsWithinLimits (q : TreeProgram) : Type 0 where
   pub names : AllByRecursion (λ (f : TreeFn). is_name (function_label f.name) ≡ true) q.functions
   pub longwords : TreesAreSpelled q
   pub small : HaveSmall q.functions
-  pub locals : (n : ℕ) (g : TreeFn) → slice_get q.functions n ≡ Some g → g.locals ≤ 1024
+  pub locals : (n : ℕ) (g : TreeFn) → slice_get q.functions n ≡ Some g → g.locals ≤ NEED_LIMIT
 
 -- The code that a description, whose rules are shown on the VAX, selects of the trees of a program keeps the program.
 abbrev pub SelectedCodesKeepPrograms : Type 0

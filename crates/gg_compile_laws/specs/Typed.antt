@@ -1,5 +1,6 @@
 -- What is claimed of a typed program whose functions fit their frames.
 use Rattle.std.specs.Prelude.{ℕ, ◌<◌, ◌≤◌, length}
+use Rattle.gg_base.specs.declared.limits.TheConstants.{NEED_LIMIT}
 use Rattle.c_program.specs.Programs.{AProgram}
 use Rattle.c_typed_check.specs.Typed.{IsTypedUnit, need_at}
 use Rattle.c_lower_scheme.specs.Programs.{lowered}
@@ -11,9 +12,9 @@ use Rattle.gg_compile_keeps.specs.gg_compile_code.specs.Selecting.{SelectedAll}
 use Rattle.gg_compile_laws.specs.Keeping.{Keeps, IsWithinLimits}
 use Rattle.gg_compile_laws.specs.Ready.{HasReadyTrees}
 
--- no function needs more than 1,024 words of its frame
+-- no function needs more than `NEED_LIMIT` words of its frame
 abbrev pub FitFrames : AProgram → Type 0
-FitFrames p = (n : ℕ) → n < length p.routines → need_at p n ≤ 1024
+FitFrames p = (n : ℕ) → n < length p.routines → need_at p n ≤ NEED_LIMIT
 
 -- The trees of such a program are within the limits of code.
 abbrev pub TypedProgramsAreWithinLimits : Type 0

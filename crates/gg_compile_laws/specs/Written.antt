@@ -36,7 +36,7 @@ SelectedProgramsCanBeWritten =
     (p : AProgram) (d : Content) (c : Code) → IsSound p → IsWithinLimits (lowered p) → IsFit vax d → SelectedAll vax d (lowered p) c
     → is_code c ≡ true
 
--- So it is with every typed program none of whose functions needs more than 1,024 words of its frame.
+-- So it is with every typed program none of whose functions needs more than `NEED_LIMIT` words of its frame.
 abbrev pub TypedCodesCanBeWritten : Type 0
 TypedCodesCanBeWritten =
     (p : AProgram) (d : Content) (c : Code) → IsTypedUnit p → FitFrames p → IsFit vax d → SelectedAll vax d (lowered p) c → is_code c ≡ true

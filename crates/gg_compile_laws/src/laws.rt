@@ -20,7 +20,7 @@ pub fn each_tree_has_code()
     ensures { EachTreeHasCode }
 {}
 
-/// The law: a sound program each of whose functions needs at most 1,024 words of its frame is lowered to trees that have room.
+/// The law: a sound program each of whose functions needs at most `NEED_LIMIT` words of its frame is lowered to trees that have room.
 pub fn lowered_programs_have_rooms()
     ensures { LoweredProgramsHaveRooms }
 {}

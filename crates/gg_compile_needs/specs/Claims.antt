@@ -1,5 +1,6 @@
 -- What is claimed of the counts that typing and lowering make: in a unit of a source each stays far below 32 bits.
 use Rattle.std.specs.Prelude.{◌≡◌, ℕ, ◌+◌, ◌*◌, ◌≤◌, Bool, false, List, [], ◌++◌, length, Some, slice_get}
+use Rattle.gg_base.specs.declared.limits.TheConstants.{SOURCE_LIMIT}
 use Rattle.tree_core.specs.declared.program.TreeFn.{TreeFn}
 use Rattle.c_tokens.specs.declared.token.Token.{Token}
 use Rattle.c_tokens.specs.declared.token.Token.TheVariants as token
@@ -70,14 +71,14 @@ TextsAddLittle = (unit : AUnit) (ends : List ℕ) → HasTokens unit → (before
 abbrev pub IsShort : Token → Type 0
 IsShort (token.Name n) = Unit {0}
 IsShort (token.Number v) = Unit {0}
-IsShort (token.Str bytes) = length bytes ≤ 1048576
+IsShort (token.Str bytes) = length bytes ≤ SOURCE_LIMIT
 IsShort (token.Key k) = Unit {0}
 IsShort (token.Mark m) = Unit {0}
 IsShort token.End = Unit {0}
 
--- A string has at most 1,048,576 bytes in a source that has no more.
+-- A string has at most `SOURCE_LIMIT` bytes in a source that has no more.
 abbrev pub StringsAreShort : Type 0
-StringsAreShort = (bytes : List ℕ) (list : List Spanned) (unit : AUnit) → length bytes ≤ 1048576 → Tokens 0 bytes list
+StringsAreShort = (bytes : List ℕ) (list : List Spanned) (unit : AUnit) → length bytes ≤ SOURCE_LIMIT → Tokens 0 bytes list
     → IsUnit (seen list) unit → EachIs IsShort (unit_tokens unit)
 
 -- Each element of an initialiser writes at most four bytes.
@@ -85,9 +86,9 @@ abbrev pub ElementsAreSmall : Type 0
 ElementsAreSmall = (names : List (List ℕ × Entry)) (signatures : List Signature) (scope : Scope) (t : CType) (es : SomeExps)
     (s r : Filled × Area) → AreElements names signatures scope t es s r → length r.0.bytes ≤ length s.0.bytes + 4 * count es
 
--- A function has at most 1,048,576 parameters, before these are counted against their limit.
+-- A function has at most `SOURCE_LIMIT` parameters, before these are counted against their limit.
 abbrev pub HeadingsAreShort : Type 0
-HeadingsAreShort = (unit : AUnit) → HasTokens unit → (f : AFunction) → Declares unit f → length (params_in f.params) ≤ 1048576
+HeadingsAreShort = (unit : AUnit) → HasTokens unit → (f : AFunction) → Declares unit f → length (params_in f.params) ≤ SOURCE_LIMIT
 
 -- At most 1,048,578 functions are known, the two services among them.
 abbrev pub FunctionsAreFew : Type 0
@@ -95,7 +96,7 @@ FunctionsAreFew = (unit : AUnit) → HasTokens unit → length (known unit.exter
 
 -- what lowering counts: functions, labels, and in each function its locals and temporaries
 pub record HasFewCounts (p : AProgram) : Type 0 where
-  pub functions : length p.routines ≤ 1048576
+  pub functions : length p.routines ≤ SOURCE_LIMIT
   pub labels : label_count p ≤ 3145728
   pub needs : NeedAtMost p 4194304
   pub temporaries : (n : ℕ) (f : TreeFn) → slice_get (lowered p).functions n ≡ Some f → f.locals ≤ 4194304

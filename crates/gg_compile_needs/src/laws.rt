@@ -17,7 +17,7 @@ pub fn texts_add_little()
     ensures { TextsAddLittle }
 {}
 
-/// The law: a string has at most 1,048,576 bytes in a source that has no more.
+/// The law: a string has at most `SOURCE_LIMIT` bytes in a source that has no more.
 pub fn strings_are_short()
     ensures { StringsAreShort }
 {}
@@ -27,7 +27,7 @@ pub fn elements_are_small()
     ensures { ElementsAreSmall }
 {}
 
-/// The law: a function of a unit has at most 1,048,576 parameters, before these are counted against their limit.
+/// The law: a function of a unit has at most `SOURCE_LIMIT` parameters, before these are counted against their limit.
 pub fn headings_are_short()
     ensures { HeadingsAreShort }
 {}
@@ -37,7 +37,7 @@ pub fn functions_are_few()
     ensures { FunctionsAreFew }
 {}
 
-/// The law: the program of a unit of a source has at most 1,048,576 functions and 3,145,728 labels, and each function needs
+/// The law: the program of a unit of a source has at most `SOURCE_LIMIT` functions and 3,145,728 labels, and each function needs
 /// at most 4,194,304 longwords, as many as it has locals and temporaries at most.
 pub fn counts_fit()
     ensures { CountsFit }

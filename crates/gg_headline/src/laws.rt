@@ -16,7 +16,7 @@ pub fn texts_are_taken()
 {}
 
 /// The law: at each end of its run the output and the end are those of the source's meaning on the same input, unless the source makes a
-/// wild access or nests over 1,024 calls there.
+/// wild access or nests over `ACTIVE_CALL_LIMIT` calls there.
 pub fn runs_tell()
     ensures { RunsTell }
 {}

@@ -34,7 +34,7 @@ pub data ComesTo (by : Passing) (result : Status) (names : Files) (at : Outside)
   -- the source is no program's, and the line tells its first fault
   NoProgram : (is : result ≡ statuses.SourceRefused) (line : List ℕ) (wrong : HoldsNone source_form (at.folder.holds names.source) line)
       → ComesTo by result names at
-  -- that function of the source's program is its first that needs more than 1,024 words of its frame
+  -- that function of the source's program is its first that needs more than `NEED_LIMIT` words of its frame
   FrameIsFull : (is : result ≡ statuses.FrameFull) (p : AProgram) (holds : Holds source_form (at.folder.holds names.source) p)
       (function need : ℕ) (over : IsFirstOver p function need) → ComesTo by result names at
 

@@ -32,7 +32,7 @@ pub data RunComesTo (text : List ℕ) (result : Status) (call : Call) : Type 0 w
   InputNotRead : (is : result ≡ statuses.InputFault) (counted : InputFails call.input) → RunComesTo text result call
   -- the run's output or the line of its end was not written whole, as that output has counted
   NotWritten : (is : result ≡ statuses.WriteFault) (counted : Rises call.at.out ⊎ Rises call.at.report) → RunComesTo text result call
-  -- the text has more than 67,108,864 bytes, or the input more than 1,048,576
+  -- the text has more than `TEXT_LIMIT` bytes, or the input more than `SOURCE_LIMIT`
   TextTooLong : (is : result ≡ statuses.TooLong) (longer : text_limit < length text) → RunComesTo text result call
   InputTooLong : (is : result ≡ statuses.TooLong) (longer : HasOver input_limit call.input.old) → RunComesTo text result call
 
@@ -41,8 +41,8 @@ abbrev pub RunsComeTo : Type 0
 RunsComeTo = (d : Content) (p : AProgram) (text : List ℕ) (result : Status) (call : Call) → IsTextOf d p text → HoldsText text call
     → Leaves text_form code_runner result call → RunComesTo text result call
 
--- A call of `run` whose file is this text, of at most 67,108,864 bytes, on this input, of at most 1,048,576 bytes, both told, and by which
--- no fault was counted.
+-- A call of `run` whose file is this text, of at most `TEXT_LIMIT` bytes, on this input, of at most `SOURCE_LIMIT` bytes, both told, and
+-- by which no fault was counted.
 pub record IsRunOf (text bytes : List ℕ) (result : Status) (call : Call) : Type 0 where
   pub leaves : Leaves text_form code_runner result call
   pub exact : IsExact text_form code_runner result call

@@ -9,7 +9,7 @@ ghost use Rattle.gg_headline_laws.specs.Texts.{TextsAreOne, TextsAreOfTrees};
 use cmd_compile::Pass;
 
 /// The law: by a description that is told and accepted `compile` comes to the text of the source's program, to want of memory, to a counted
-/// fault, to a source over its limit or with a fault, or to a function that needs more than 1,024 words of its frame.
+/// fault, to a source over its limit or with a fault, or to a function that needs more than `NEED_LIMIT` words of its frame.
 pub fn compile_comes_to(_before: &[Box<dyn Pass>], _behind: &[Box<dyn Pass>])
     ensures { CompileComesTo (passing (λ p n c e. wrote p n c e) (λ p. made p) _before.now _behind.now) }
 {}
@@ -47,7 +47,7 @@ pub fn endless_texts_write()
 {}
 
 /// The law: at each end of `run` the output and the end are those of the source's meaning on the same input, unless the source makes a wild
-/// access or nests over 1,024 calls there. Nothing is asked of the input, whether it is told or not.
+/// access or nests over `ACTIVE_CALL_LIMIT` calls there. Nothing is asked of the input, whether it is told or not.
 pub fn runs_tell_all()
     ensures { RunsTellAll }
 {}

@@ -1,5 +1,6 @@
 -- The typed program of a generated source.
 use Rattle.std.specs.Prelude.{◌≤◌, ℕ, zero, suc, ◌+◌, ◌*◌, List, [], ◌∷◌, ◌++◌, codes, replicate, Some}
+use Rattle.gg_base.specs.declared.limits.TheConstants.{AREA_START, NEED_LIMIT}
 use Rattle.tree_core.specs.declared.program.Object.{Object}
 use Rattle.c_types.specs.declared.types.CType.{CType}
 use Rattle.c_types.specs.declared.types.CType.TheVariants as types
@@ -33,7 +34,7 @@ s = VariableAt int (Automatic 0)
 
 -- the table of 64 longwords, each 0 at first
 abbrev pub table : Object
-table = record { label = codes "_t"; address = 65536; size = 256; align = 4; bytes = replicate 256 0; links = [] }
+table = record { label = codes "_t"; address = AREA_START; size = 256; align = 4; bytes = replicate 256 0; links = [] }
 
 -- its element of a number that is reduced to one of 64
 abbrev pub element : APlace → APlace
@@ -127,4 +128,4 @@ source_program k = record { objects = table ∷ []; routines = function_routines
 
 -- a function fits its frame
 abbrev pub IsSmall : ARoutine → Type 0
-IsSmall r = need_of r.locals r.block r.body ≤ 1024
+IsSmall r = need_of r.locals r.block r.body ≤ NEED_LIMIT

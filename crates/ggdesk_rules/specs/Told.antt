@@ -25,5 +25,5 @@ pub data Tells (bytes : List ℕ) : Finding → Type 0 where
   is_wrong : {line : ℕ} {kind : DescKind} →
       Refused bytes (desc_fault.Line line kind) → IsFirst bytes (desc_fault.Line line kind) →
       Tells bytes (finding.Wrong line kind)
-  -- they are a description with more than 4,096 item sets
+  -- they are a description with more than `MAX_STATES` item sets
   is_full : (d : Content) → Desc bytes d → HasTooManySets d → Tells bytes finding.Full

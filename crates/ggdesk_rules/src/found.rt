@@ -1,5 +1,6 @@
 // A text's description and its tables, or why it has none.
 ghost use Rattle.std.specs.Prelude.{◌≤◌, length, IfOk};
+ghost use Rattle.gg_base.specs.declared.limits.TheConstants.{DESCRIPTION_LIMIT};
 ghost use Rattle.ggdesk_rules.specs.Told.{Says, Tells};
 
 use gg_base::NoMemory;
@@ -9,7 +10,7 @@ use md_reader::{DescFault, DescKind, Description, read_description};
 use std::alloc::Global;
 
 /// How many rules and item sets a text has as a description; or its first wrong line, from 1, and what is wrong there; or that it has more
-/// than 4,096 item sets.
+/// than `MAX_STATES` item sets.
 #[derive(Clone, Copy, Debug, PartialEq, Eq)]
 pub enum Finding {
     Tables { rules: usize, states: u32 },
@@ -28,7 +29,7 @@ fn refused(fault: DescFault) -> Result<Finding, NoMemory>
 
 /// Reads the description and builds its tables.
 pub fn examine(alloc: Global, bytes: &[u8]) -> Result<Finding, NoMemory>
-    requires { length bytes.now ≤ 262144 }
+    requires { length bytes.now ≤ DESCRIPTION_LIMIT }
     ensures { IfOk result (λ r. Tells bytes.now r) }
 {
     match read_description(alloc, bytes) {

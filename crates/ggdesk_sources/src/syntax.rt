@@ -1,6 +1,7 @@
 // Rows of the subject `syntax`, each a C source in which ` stands for a line feed: where its tokens or phrases first go wrong. Of a row
 // `tokens SOURCE` the tokens are written, each with its first offset and that behind it.
 ghost use Rattle.std.specs.Prelude.{◌≤◌, length};
+ghost use Rattle.gg_base.specs.declared.limits.TheConstants.{SOURCE_LIMIT};
 
 use crate::marks::put_marked;
 use c_syntax::{SyntaxFault, parse};
@@ -29,7 +30,7 @@ fn token_kind(kind: TokenKind) -> &'static str {
 
 // What is wrong first in a source.
 fn first_wrong(alloc: Global, source: &[u8]) -> Result<Option<Wrong>, NoMemory>
-    requires { length source.now ≤ 1048576 }
+    requires { length source.now ≤ SOURCE_LIMIT }
 {
     let list = match tokens(alloc, source) {
         Ok(list) => list,
@@ -88,7 +89,7 @@ fn answer_tokens(
     source: &[u8],
     told: &mut String,
 ) -> Result<(), AllocError>
-    requires { length source.now ≤ 1048576 }
+    requires { length source.now ≤ SOURCE_LIMIT }
 {
     let Ok(list) = tokens(alloc, source) else {
         return writeln!(told, "no tokens {row}");
@@ -106,7 +107,7 @@ fn answer_phrases(
     source: &[u8],
     told: &mut String,
 ) -> Result<(), NoMemory>
-    requires { length source.now ≤ 1048576 }
+    requires { length source.now ≤ SOURCE_LIMIT }
 {
     match first_wrong(alloc, source)? {
         Some(wrong) => put_marked(told, wrong.kind, row, wrong.offset as usize)?,

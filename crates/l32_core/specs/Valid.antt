@@ -1,6 +1,7 @@
 -- The codes that an assembly text can be written of.
 use Rattle.std.specs.Prelude.{ℕ, Bool, true, false, ◌&&◌, ◌||◌, nat_le, nat_lt, List, [], ◌∷◌, Option, Some, None}
 use Rattle.std.specs.List.{list_all}
+use Rattle.gg_base.specs.declared.limits.TheConstants.{NEED_LIMIT}
 use Rattle.vax_core.specs.Valid.{is_name, is_long, is_named_addr, is_area_item}
 use Rattle.l32_core.specs.declared.op.Role.{Role}
 use Rattle.l32_core.specs.declared.op.Role.TheVariants as roles
@@ -45,7 +46,7 @@ is_number limit o = false
 -- which operands may stand where an instruction does this with them
 abbrev pub suits : Role → Operand32 → Bool
 suits roles.Number o = is_number 4294967295 o
-suits roles.Words o = is_number 1024 o
+suits roles.Words o = is_number NEED_LIMIT o
 suits roles.Count o = is_number 255 o
 suits roles.Destination o = is_register o
 suits roles.Register o = is_register o

@@ -51,7 +51,7 @@ pub enum Op32 {
 pub enum Role {
     /// A number, which it takes.
     Number,
-    /// The number of a frame's longwords: `$n` with n from 0 to 1024.
+    /// The number of a frame's longwords: `$n` with n from 0 to `NEED_LIMIT`.
     Words,
     /// The number of arguments of a call: `$n` with n from 0 to 255.
     Count,

@@ -8,7 +8,7 @@ ghost use Rattle.l32_core.specs.Valid.{is_reg, is_base, is_register, is_memory, 
 
 use crate::{Base32, Code32, Instr32, Item32, Operand32, Part, Role};
 use gg_base::Name;
-use gg_base::limits::{AREA_LIMIT, TEXT_NAME_LIMIT};
+use gg_base::limits::{AREA_LIMIT, NEED_LIMIT, TEXT_NAME_LIMIT};
 use vax_core::valid::{is_name_part, is_name_start};
 use vax_core::{Addr, AreaItem};
 
@@ -98,7 +98,7 @@ fn suits(role: Role, o: &Operand32) -> bool
 {
     match role {
         Role::Number => is_number(u32::MAX, o),
-        Role::Words => is_number(1024, o),
+        Role::Words => is_number(NEED_LIMIT, o),
         Role::Count => is_number(255, o),
         Role::Destination | Role::Register => is_register(o),
         Role::Source(_) => is_register(o) || is_memory(o),

@@ -2,6 +2,7 @@
 use Rattle.std.specs.Prelude.{ℕ, ◌-◌, ◌%◌, ◌^◌, ◌==◌, nat_le, List, [], ◌∷◌, ◌++◌, length, take, slice_get, slice_set}
 use Rattle.std.specs.Prelude.{Option, Some, None, Result, Ok, Err, if◌then◌else◌}
 use Rattle.std.specs.Str.{bytes_eq}
+use Rattle.gg_base.specs.declared.limits.TheConstants.{FRAME_LIMIT}
 use Rattle.gg_base.specs.declared.size.Size.TheVariants.{Long}
 use Rattle.gg_base.specs.Arithmetic.{add32, sub32, mul32}
 use Rattle.vax_core.specs.First.{putchar_name}
@@ -32,7 +33,7 @@ noted m count = record { general = m.general; fp = m.fp; sp = add32 m.sp (mul32 
 -- a call with so many arguments of the code at a place
 unfoldable pub called : State → ℕ → ℕ → Result State Stop32
 called m count place =
-    if nat_le 4096 (length m.frames) then Err stack_full
+    if nat_le FRAME_LIMIT (length m.frames) then Err stack_full
     else Ok (record m { frames = m.frames ++ noted m count ∷ []; fp = m.sp; place = place })
 
 -- a1 to a11 and the frame pointer are taken back, a0 stays

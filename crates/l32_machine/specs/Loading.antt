@@ -1,6 +1,7 @@
 -- When a code can be run, and where its run begins.
 use Rattle.std.specs.Prelude.{◌≡◌, ℕ, nat_lt, List, [], ◌∷◌, Option, Some, None, Result, Ok, Err, if◌then◌else◌}
 use Rattle.std.specs.Option.{option_or}
+use Rattle.gg_base.specs.declared.limits.TheConstants.{AREA_LIMIT, STACK_SIZE, STACK_TOP}
 use Rattle.vax_core.specs.First.{main_name}
 use Rattle.vax_machine.specs.Area.{zeros, area_size, area_bytes}
 use Rattle.vax_machine.specs.Labels.{undefined_area_label}
@@ -14,9 +15,9 @@ use Rattle.l32_machine.specs.State.{State}
 use Rattle.l32_machine.specs.Labels.{has_label, label_place, double_label, double_area_label, undefined_label}
 use Rattle.l32_machine.specs.View.{state}
 
--- the data area may have 1,048,576 bytes
+-- the data area may have `AREA_LIMIT` bytes
 abbrev pub too_large : Code32 → Option Load32Fault
-too_large c = if nat_lt 1048576 (area_size c.area) then Some loading_fault.TooLarge else None
+too_large c = if nat_lt AREA_LIMIT (area_size c.area) then Some loading_fault.TooLarge else None
 
 abbrev pub no_main : Code32 → Option Load32Fault
 no_main c = if has_label c.items main_name then too_large c else Some loading_fault.NoMain
@@ -52,7 +53,7 @@ no_registers = 0 ∷ (0 ∷ (0 ∷ (0 ∷ (0 ∷ (0 ∷ (0 ∷ (0 ∷ (0 ∷ (0 
 
 -- the frame of `_main`, whose return ends the run
 abbrev pub first_frame : Frame32
-first_frame = record { general = no_registers; fp = 0; sp = 2147483648; back = None }
+first_frame = record { general = no_registers; fp = 0; sp = STACK_TOP; back = None }
 
 -- the state behind the call of `_main`: registers and the stack's bytes 0, the stack pointer at the stack's top
 abbrev pub start : Code32 → List ℕ → State
@@ -61,10 +62,10 @@ start c input = record {
   items = c.items;
   place = label_place c.items main_name;
   general = no_registers;
-  fp = 2147483648;
-  sp = 2147483648;
+  fp = STACK_TOP;
+  sp = STACK_TOP;
   area = area_bytes c.area;
-  stack = zeros 8388608;
+  stack = zeros STACK_SIZE;
   frames = first_frame ∷ [];
   input = input;
   over = None;

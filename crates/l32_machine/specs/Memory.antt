@@ -1,5 +1,6 @@
 -- Memory: the data area and the stack, addressed by bytes, little-endian, unaligned accesses allowed.
 use Rattle.std.specs.Prelude.{ℕ, ◌+◌, ◌-◌, ◌&&◌, nat_lt, nat_le, length, Result, Ok, Err, if◌then◌else◌}
+use Rattle.gg_base.specs.declared.limits.TheConstants.{AREA_START, STACK_START, STACK_TOP}
 use Rattle.gg_base.specs.declared.size.Size.{Size}
 use Rattle.gg_base.specs.Sizes.{bytes_of}
 use Rattle.gg_base.specs.LittleEndian.{number_in, with_number}
@@ -8,11 +9,12 @@ use Rattle.l32_machine.specs.declared.memory.Region.{Region}
 use Rattle.l32_machine.specs.declared.memory.Region.TheVariants as regions
 use Rattle.l32_machine.specs.State.{State, access, stack_full, ◌>>=◌}
 
--- where the bytes from an address on are kept: the data area begins at 65536, the stack lies from 2139095040 to 2147483648
+-- where the bytes from an address on are kept: the data area begins at `AREA_START`, the stack lies from `STACK_START` to `STACK_TOP`
 unfoldable pub touched : State → ℕ → Size → Result Region Stop32
 touched m address size =
-    if nat_le 65536 address && nat_le (address + bytes_of size) (65536 + length m.area) then Ok (regions.Area (address - 65536))
-    else if nat_le 2139095040 address && nat_le (address + bytes_of size) 2147483648 then Ok (regions.Stack (address - 2139095040))
+    if nat_le AREA_START address && nat_le (address + bytes_of size) (AREA_START + length m.area) then
+    Ok (regions.Area (address - AREA_START))
+    else if nat_le STACK_START address && nat_le (address + bytes_of size) STACK_TOP then Ok (regions.Stack (address - STACK_START))
     else Err access
 
 abbrev pub number_at : State → Size → Region → ℕ
@@ -33,4 +35,4 @@ written m address size v = touched m address size >>= λ (r : Region). Ok (with_
 
 -- the state with the stack pointer set, which may not be set under the stack's bottom
 unfoldable pub sp_set : State → ℕ → Result State Stop32
-sp_set m v = if nat_lt v 2139095040 then Err stack_full else Ok (record m { sp = v })
+sp_set m v = if nat_lt v STACK_START then Err stack_full else Ok (record m { sp = v })

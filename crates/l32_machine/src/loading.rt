@@ -1,5 +1,6 @@
 // Making a machine of a code.
 ghost use Rattle.std.specs.Prelude.{◌≡◌, ◌⊎◌, true, None, [], ◌∷◌, IfOk, IfErr, vec_capacity};
+ghost use Rattle.gg_base.specs.declared.limits.TheConstants.{FRAME_LIMIT};
 
 use crate::area::{Laid, lay_out, zeros};
 use crate::frame::Frame32;
@@ -22,7 +23,7 @@ pub enum Load32Fault {
     UndefinedLabel(Name),
     /// No label of the code is `_main`.
     NoMain,
-    /// The data area is longer than 1,048,576 bytes.
+    /// The data area is longer than `AREA_LIMIT` bytes.
     TooLarge,
 }
 
@@ -98,7 +99,7 @@ pub fn load32<'a>(
 // The live frames as the run begins: that of `_main`, and room for as many as there may be.
 fn first_frames(alloc: Global) -> Result<Vec<Frame32>, AllocError>
     ensures frames { IfOk result (λ v. v.items ≡ first_frame ∷ []) }
-    ensures room { IfOk result (λ v. vec_capacity v ≡ 4096) }
+    ensures room { IfOk result (λ v. vec_capacity v ≡ FRAME_LIMIT) }
 {
     let mut frames = Vec::with_capacity(alloc, FRAME_LIMIT as usize)?;
     frames.push_reserved(Frame32 {

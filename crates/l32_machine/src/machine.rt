@@ -1,5 +1,6 @@
 // The machine's state and its step.
 ghost use Rattle.std.specs.Prelude.{◌≡◌, ◌≤◌, vec_len, vec_capacity};
+ghost use Rattle.gg_base.specs.declared.limits.TheConstants.{AREA_LIMIT, FRAME_LIMIT, STACK_SIZE};
 
 use crate::frame::Frame32;
 use crate::function::{Action, action_of};
@@ -20,13 +21,13 @@ pub struct Machine32<'a> {
     pub(crate) sp: u32,
     pub(crate) area: Vec<u8>,
     pub(crate) stack: Vec<u8>,
-    /// With room for 4,096.
+    /// With room for `FRAME_LIMIT`.
     pub(crate) frames: Vec<Frame32>,
     pub(crate) input: &'a [u8],
     pub(crate) over: Option<Stop32>,
-    ghost whole_stack: { vec_len stack ≡ 8388608 },
-    ghost area_bound: { vec_len area ≤ 1048576 },
-    ghost room: { vec_capacity frames ≡ 4096 },
+    ghost whole_stack: { vec_len stack ≡ STACK_SIZE },
+    ghost area_bound: { vec_len area ≤ AREA_LIMIT },
+    ghost room: { vec_capacity frames ≡ FRAME_LIMIT },
 }
 
 impl<'a> Machine32<'a> {

@@ -1,5 +1,6 @@
 // Rounds add what follows, until nothing does.
 ghost use Rattle.std.specs.Prelude.{◌≡◌, ◌≤◌, IfOk, OnOk, IfErr, IsTrue};
+ghost use Rattle.gg_base.specs.declared.limits.TheConstants.{SUMMARY_LIMIT};
 ghost use Rattle.lr_check_sets.specs.Table.{automaton_of};
 ghost use Rattle.lr_check_found.specs.declared.adding.Stop.TheVariants.{Full};
 ghost use Rattle.lr_check_found.specs.Count.{HasMore};
@@ -58,10 +59,10 @@ fn follows<'x>(tables: &'x Tables, found: &'x Found, item: &Item) -> bool
 // Adds the item, if it follows.
 fn add_if(alloc: Global, tables: &Tables, item: Item, found: &mut Found) -> Result<(), Stop>
     requires found { IsFound (automaton_of tables.now) found.old }
-    requires room { found.old.tuples ≤ 4000000 }
+    requires room { found.old.tuples ≤ SUMMARY_LIMIT }
     ensures found { OnOk result (IsFound (automaton_of tables.now) found.new) }
-    ensures room { OnOk result (found.new.tuples ≤ 4000000) }
-    ensures full { IfErr result (λ e. e ≡ Full → HasMore (automaton_of tables.now) 4000000) }
+    ensures room { OnOk result (found.new.tuples ≤ SUMMARY_LIMIT) }
+    ensures full { IfErr result (λ e. e ≡ Full → HasMore (automaton_of tables.now) SUMMARY_LIMIT) }
 {
     if !follows(tables, found, &item) {
         return Ok(());
@@ -72,8 +73,8 @@ fn add_if(alloc: Global, tables: &Tables, item: Item, found: &mut Found) -> Resu
 // What is found as planned.
 fn by_plan(alloc: Global, tables: &Tables) -> Result<Found, Stop>
     ensures found { IfOk result (λ f. IsFound (automaton_of tables.now) f) }
-    ensures room { IfOk result (λ f. f.tuples ≤ 4000000) }
-    ensures full { IfErr result (λ e. e ≡ Full → HasMore (automaton_of tables.now) 4000000) }
+    ensures room { IfOk result (λ f. f.tuples ≤ SUMMARY_LIMIT) }
+    ensures full { IfErr result (λ e. e ≡ Full → HasMore (automaton_of tables.now) SUMMARY_LIMIT) }
 {
     let mut found = Found::new(alloc)?;
     let items = planned(alloc, tables)?;
@@ -83,15 +84,15 @@ fn by_plan(alloc: Global, tables: &Tables) -> Result<Found, Stop>
     Ok(found)
 }
 
-/// All places and sums of the tables; or that there are more than 4,000,000 sums, or no memory.
+/// All places and sums of the tables; or that there are more than `SUMMARY_LIMIT` sums, or no memory.
 pub fn complete(alloc: Global, tables: &Tables) -> Result<Found, Stop>
     // All of the sets is found, and nothing else.
     ensures complete { IfOk result (λ f. IsComplete (automaton_of tables.now) f) }
-    // The set of sums has no more tuples than are found, and these are no more than 4,000,000.
+    // The set of sums has no more tuples than are found, and these are no more than `SUMMARY_LIMIT`.
     ensures few { IfOk result (λ f. ¬ HasMore (automaton_of tables.now) f.tuples) }
-    ensures within { IfOk result (λ f. f.tuples ≤ 4000000) }
-    // More than 4,000,000 tuples are in the set of sums.
-    ensures full { IfErr result (λ e. e ≡ Full → HasMore (automaton_of tables.now) 4000000) }
+    ensures within { IfOk result (λ f. f.tuples ≤ SUMMARY_LIMIT) }
+    // More than `SUMMARY_LIMIT` tuples are in the set of sums.
+    ensures full { IfErr result (λ e. e ≡ Full → HasMore (automaton_of tables.now) SUMMARY_LIMIT) }
 {
     let mut found = by_plan(alloc, tables)?;
     let mut window = Window {

@@ -1,5 +1,6 @@
 -- What a decision says.
 use Rattle.std.specs.Prelude.{ℕ, ◌<◌, ◌≤◌}
+use Rattle.gg_base.specs.declared.limits.TheConstants.{SUMMARY_LIMIT}
 use Rattle.lr_check_sets.specs.Automaton.{Automaton}
 use Rattle.lr_check_sets.specs.Faults.{NoFault}
 use Rattle.lr_check_found.specs.Count.{HasMore}
@@ -13,9 +14,9 @@ pub record HasSums (A : Automaton) (n : ℕ) : Type 0 where
   pub few : HasMore A n → ⊥
   pub many : (m : ℕ) → m < n → HasMore A m
 
--- there is no fault, and so many sums; all of the sets is found and it has a flaw, and there are no more than 4,000,000 sums; or
+-- there is no fault, and so many sums; all of the sets is found and it has a flaw, and there are no more than `SUMMARY_LIMIT` sums; or
 -- there are more than that
 abbrev pub IsSo : Automaton → Decision → Type 0
-IsSo A (Fine tuples) = NoFault A × HasSums A tuples × (tuples ≤ 4000000)
-IsSo A (Faulty found flaw) = IsComplete A found × IsFlaw A found flaw × (HasMore A 4000000 → ⊥)
-IsSo A Full = HasMore A 4000000
+IsSo A (Fine tuples) = NoFault A × HasSums A tuples × (tuples ≤ SUMMARY_LIMIT)
+IsSo A (Faulty found flaw) = IsComplete A found × IsFlaw A found flaw × (HasMore A SUMMARY_LIMIT → ⊥)
+IsSo A Full = HasMore A SUMMARY_LIMIT

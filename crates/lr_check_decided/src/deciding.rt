@@ -18,7 +18,7 @@ use lr_tables::Tables;
 use std::alloc::Global;
 
 /// There is no fault, and so many sums; or what is found of places and sums, all of them, has the flaw; or
-/// there are more than 4,000,000 sums.
+/// there are more than `SUMMARY_LIMIT` sums.
 #[derive(Drop)]
 pub enum Decision {
     Fine(usize),

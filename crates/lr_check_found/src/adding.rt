@@ -1,6 +1,7 @@
 // What is added to what has been found.
 ghost use Rattle.std.specs.Prelude.{◌≡◌, ◌<◌, ◌≤◌, ◌^◌, ◌∷◌, ◌++◌, [], ℕ, List, Option, Some, None, Contains, slice_get, length};
 ghost use Rattle.std.specs.Prelude.{IfOk, IfErr, IsTrue, OnOk};
+ghost use Rattle.gg_base.specs.declared.limits.TheConstants.{SUMMARY_LIMIT};
 ghost use Rattle.md_reader.specs.declared.types.Sym.{Sym};
 ghost use Rattle.lr_tables.specs.declared.types.Choice.{Choice};
 ghost use Rattle.lr_check_found.specs.declared.settlings.Item.{Item};
@@ -28,7 +29,7 @@ use md_reader::{Rule, Sym};
 use std::alloc::Global;
 use tree_core::Tok;
 
-/// Why nothing more is added: there is no memory, or there are more than 4,000,000 sums.
+/// Why nothing more is added: there is no memory, or there are more than `SUMMARY_LIMIT` sums.
 #[derive(Clone, Copy, Debug)]
 pub enum Stop {
     NoMemory,
@@ -267,11 +268,11 @@ impl Found {
     pub fn add_all(&mut self, alloc: Global, tables: &Tables, items: &[Item]) -> Result<(), Stop>
         requires found { IsFound (automaton_of tables.now) self.old }
         requires items { (i : Item) → Contains items.now i → IsItem (automaton_of tables.now) self.old i }
-        requires room { self.old.tuples ≤ 4000000 }
+        requires room { self.old.tuples ≤ SUMMARY_LIMIT }
         ensures found { OnOk result (IsFound (automaton_of tables.now) self.new) }
-        ensures room { OnOk result (self.new.tuples ≤ 4000000) }
-        // More than 4,000,000 sums are sums of the tables.
-        ensures full { IfErr result (λ e. e ≡ Full → HasMore (automaton_of tables.now) 4000000) }
+        ensures room { OnOk result (self.new.tuples ≤ SUMMARY_LIMIT) }
+        // More than `SUMMARY_LIMIT` sums are sums of the tables.
+        ensures full { IfErr result (λ e. e ≡ Full → HasMore (automaton_of tables.now) SUMMARY_LIMIT) }
     {
         for item in items {
             self.add(alloc, tables, *item)?;

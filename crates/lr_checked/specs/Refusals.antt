@@ -1,5 +1,6 @@
 -- What a refusal says: its sample is a well-typed statement whose parse blocks, or turns for ever, by its own answers.
 use Rattle.std.specs.Prelude.{ℕ, ◌≤◌, List, [], length}
+use Rattle.gg_base.specs.declared.limits.TheConstants.{SUMMARY_LIMIT}
 use Rattle.md_reader.specs.State.{Content}
 use Rattle.lr_tables.specs.Statements.{stmt_of}
 use Rattle.lr_check.specs.declared.sample.Outcome.TheVariants as outcome
@@ -55,12 +56,12 @@ IsStopped d check_fault.CheckFull = Unit {0}
 IsStopped d (check_fault.Blocks nodes) = SomeStops d
 IsStopped d (check_fault.Loops nodes) = SomeStops d
 
--- `CheckFull` says that there are more than 4,000,000 sums; where another refusal comes there are not, unless there was no memory
+-- `CheckFull` says that there are more than `SUMMARY_LIMIT` sums; where another refusal comes there are not, unless there was no memory
 abbrev pub FullIsFirst : Automaton → CheckFault → Type 0
 FullIsFirst A check_fault.NoMemory = Unit {0}
-FullIsFirst A check_fault.CheckFull = HasMore A 4000000
-FullIsFirst A (check_fault.Blocks nodes) = HasMore A 4000000 → ⊥
-FullIsFirst A (check_fault.Loops nodes) = HasMore A 4000000 → ⊥
+FullIsFirst A check_fault.CheckFull = HasMore A SUMMARY_LIMIT
+FullIsFirst A (check_fault.Blocks nodes) = HasMore A SUMMARY_LIMIT → ⊥
+FullIsFirst A (check_fault.Loops nodes) = HasMore A SUMMARY_LIMIT → ⊥
 
 -- the same of the description
 abbrev pub SumsAreFirst : Content → CheckFault → Type 0

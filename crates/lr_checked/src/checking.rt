@@ -1,5 +1,6 @@
 // Whether some tree blocks the parser or makes it turn for ever.
 ghost use Rattle.std.specs.Prelude.{◌≡◌, IfOk, IfErr, MatchResult};
+ghost use Rattle.gg_base.specs.declared.limits.TheConstants.{SUMMARY_LIMIT};
 ghost use Rattle.lr_check_sets.specs.Table.{automaton_of};
 ghost use Rattle.lr_check_found.specs.Count.{HasMore};
 ghost use Rattle.lr_check_found.specs.Sound.{IsFound};
@@ -22,7 +23,7 @@ use std::alloc::Global;
 use std::marker::Model;
 
 /// Why tables are refused: there is no memory; some tree blocks the parser, or makes it turn for ever; or
-/// there are more than 4,000,000 ways in which symbols may replace a subtree.
+/// there are more than `SUMMARY_LIMIT` ways in which symbols may replace a subtree.
 #[derive(Drop)]
 pub enum CheckFault {
     NoMemory,
@@ -64,7 +65,7 @@ impl Checked {
     }
 
     /// How many tuples the set of sums has, each a place and symbols that may replace its subtree: at most
-    /// 4,000,000.
+    /// `SUMMARY_LIMIT`.
     pub fn tuples(&self) -> usize
         ensures { IsCounted self.now result }
     {
@@ -93,7 +94,7 @@ fn unreplayed(flaw: &Flaw, sample: Sample) -> CheckFault
 fn refusal(alloc: Global, tables: &Tables, flaw: &Flaw, sample: Sample) -> CheckFault
     requires { IsSampleOf tables.now.content flaw.now sample }
     ensures real { FaultIsReal tables.now.content result }
-    ensures few { (HasMore (automaton_of tables.now) 4000000 → ⊥) → FullIsFirst (automaton_of tables.now) result }
+    ensures few { (HasMore (automaton_of tables.now) SUMMARY_LIMIT → ⊥) → FullIsFirst (automaton_of tables.now) result }
 {
     tables.is_numbered();
     tables.description().is_valid();
@@ -111,7 +112,7 @@ fn refused(alloc: Global, tables: &Tables, found: &Found, flaw: &Flaw) -> CheckF
     requires found { IsFound (automaton_of tables.now) found.now }
     requires flaw { IsFlaw (automaton_of tables.now) found.now flaw.now }
     ensures real { FaultIsReal tables.now.content result }
-    ensures few { (HasMore (automaton_of tables.now) 4000000 → ⊥) → FullIsFirst (automaton_of tables.now) result }
+    ensures few { (HasMore (automaton_of tables.now) SUMMARY_LIMIT → ⊥) → FullIsFirst (automaton_of tables.now) result }
 {
     match draw(alloc, tables, found, flaw) {
         Ok(nodes) => refusal(alloc, tables, flaw, Sample::new(nodes)),
@@ -143,14 +144,14 @@ pub fn check(alloc: Global, tables: Tables) -> Result<Checked, (Tables, CheckFau
     ensures tables { IfOk result (λ c. c ≡ tables) }
     // The parse of each typed statement ends with accepting, whatever its questions answer.
     ensures accepted { IfOk result (λ c. NeverStops tables.content) }
-    // The set of sums has at most 4,000,000 tuples.
-    ensures few { IfOk result (λ c. ¬ HasMore (automaton_of tables) 4000000) }
+    // The set of sums has at most `SUMMARY_LIMIT` tuples.
+    ensures few { IfOk result (λ c. ¬ HasMore (automaton_of tables) SUMMARY_LIMIT) }
     ensures back { IfErr result (λ e. e.0 ≡ tables) }
     // The sample of a refusal is a typed statement whose parse blocks, or loops, with its own answers.
     ensures real { IfErr result (λ e. FaultIsReal tables.content e.1) }
     // Want of memory and too many tuples apart, tables are accepted exactly where no typed statement stops the parse.
     ensures exact { MatchResult result (λ c. SomeStops tables.content → ⊥) (λ e. IsStopped tables.content e.1) }
-    // `CheckFull` comes exactly where there are more than 4,000,000 tuples, before any other fault but memory.
+    // `CheckFull` comes exactly where there are more than `SUMMARY_LIMIT` tuples, before any other fault but memory.
     ensures full { IfErr result (λ e. FullIsFirst (automaton_of tables) e.1) }
 {
     match verdict(alloc, &tables) {

@@ -3,6 +3,7 @@ use Rattle.std.specs.Prelude.{◌≡◌, ℕ, ◌+◌, ◌-◌, ◌<◌, ◌≤�
 use Rattle.std.specs.Prelude.{fold, unwrap_or, if◌then◌else◌}
 use Rattle.std.specs.Cmp.Lexicographic.{pointwise}
 use Rattle.std.specs.List.{All, position_from}
+use Rattle.lr_tables.specs.declared.numbering.TheConstants.{MAX_STATES}
 use Rattle.lr_tables.specs.declared.types.Choice.{Choice}
 use Rattle.lr_tables.specs.declared.types.Choice.TheVariants as choice
 use Rattle.lr_tables.specs.View.{RowView}
@@ -49,10 +50,10 @@ target_of_entry e = if e == 0 then None else Some (e - 1)
 unfoldable pub goto_entries : RowView → List ℕ
 goto_entries r = map goto_entry r.targets
 
--- no state, or one of 4,096
+-- no state, or one of `MAX_STATES`
 abbrev pub IsBelow : Option ℕ → Type 0
 IsBelow None = Unit {0}
-IsBelow (Some q) = q < 4096
+IsBelow (Some q) = q < MAX_STATES
 
 -- a row for the 40 tokens and so many symbols
 pub record IsEven (width : ℕ) (r : RowView) : Type 0 where

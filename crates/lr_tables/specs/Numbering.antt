@@ -3,6 +3,7 @@ use Rattle.std.specs.Prelude.{ℕ, zero, suc, ◌+◌, ◌<◌, List, [], ◌∷
 use Rattle.std.specs.declared.alloc.Global.{Global}
 use Rattle.std.specs.Option.{option_eq}
 use Rattle.std.specs.Cmp.Lexicographic.{pointwise}
+use Rattle.lr_tables.specs.declared.numbering.TheConstants.{MAX_STATES}
 use Rattle.indexmap.specs.IndexSet.{insert_key}
 use Rattle.md_reader.specs.declared.types.Rule.{Rule}
 use Rattle.lr_tables.specs.declared.item.Item.{Item}
@@ -38,7 +39,7 @@ unfoldable pub found : List Rule → ℕ → ℕ → ℕ → List (List Item)
 found rules stmt classes zero = (start ∷ []) ∷ []
 found rules stmt classes (suc n) = followed rules stmt classes (found rules stmt classes n) (slice_get (found rules stmt classes n) n)
 
--- more than 4,096 item sets are found
+-- more than `MAX_STATES` item sets are found
 pub record IsOver (rules : List Rule) (stmt classes : ℕ) : Type 0 where
   pub at : ℕ
-  pub over : 4096 < length (found rules stmt classes at)
+  pub over : MAX_STATES < length (found rules stmt classes at)

@@ -1,5 +1,6 @@
 -- Whether there are too many item sets: a count of stacks, no two of which have the same items.
 use Rattle.std.specs.Prelude.{◌≡◌, ◌↔◌, ℕ, ◌<◌, List, Some, length, slice_get}
+use Rattle.lr_tables.specs.declared.numbering.TheConstants.{MAX_STATES}
 use Rattle.md_reader.specs.declared.types.Rule.{Rule}
 use Rattle.md_reader.specs.declared.types.Sym.{Sym}
 use Rattle.lr_tables.specs.declared.item.Item.{Item}
@@ -14,8 +15,8 @@ pub record AreApart (rules : List Rule) (stmt : ℕ) (stacks : List (List Sym)) 
   pub live : (k : ℕ) (a : List Sym) → slice_get stacks k ≡ Some a → (i : Item) × Items rules stmt a i
   pub apart : (j k : ℕ) (a b : List Sym) → j < k → slice_get stacks j ≡ Some a → slice_get stacks k ≡ Some b → SameItems rules stmt a b → ⊥
 
--- there are more than 4,096 item sets
+-- there are more than `MAX_STATES` item sets
 pub record HasTooMany (rules : List Rule) (stmt : ℕ) : Type 0 where
   pub stacks : List (List Sym)
-  pub many : 4096 < length stacks
+  pub many : MAX_STATES < length stacks
   pub differ : AreApart rules stmt stacks

@@ -21,7 +21,7 @@ abbrev pub LeadsOn : TableView → ℕ → ℕ → Option ℕ → Type 0
 LeadsOn t state class target =
     (a : List Sym) → Leads t a state → Goes t.content.rules (stmt_of t.content.classes) t a class target
 
--- the description has more than 4,096 item sets
+-- the description has more than `MAX_STATES` item sets
 abbrev pub HasTooManySets : Content → Type 0
 HasTooManySets d = HasTooMany d.rules (stmt_of d.classes)
 

@@ -24,10 +24,10 @@ fn statements(classes: &[Class]) -> u16
 }
 
 /// The tables of the description, or the description again and why none are built: `TablesFull`
-/// comes exactly where more than 4,096 item sets are reached.
+/// comes exactly where more than `MAX_STATES` item sets are reached.
 pub fn build(alloc: Global, description: Description) -> Result<Tables, (Description, BuildFault)>
     ensures tables { IfOk result (λ t. t.content ≡ description) }
-    // No more than 4,096 item sets are reached.
+    // No more than `MAX_STATES` item sets are reached.
     ensures few { IfOk result (λ t. ¬ HasTooManySets description) }
     ensures full { IfErr result (λ e. e.1 ≡ BuildFault.TablesFull → HasTooManySets description) }
     ensures back { IfErr result (λ e. e.0 ≡ description) }

@@ -18,7 +18,7 @@ use std::alloc::Global;
 
 // The number of the item set with this kernel.
 fn target_of(sets: &IndexSet<Vec<Item>>, kernel: &[Item]) -> Option<State>
-    requires { length sets.now.keys ≤ 4096 }
+    requires { length sets.now.keys ≤ MAX_STATES }
     ensures { result ≡ target_of (kernels sets.now.keys) kernel.now }
 {
     if kernel.is_empty() {
@@ -41,7 +41,7 @@ fn targets(
 ) -> Result<Vec<Option<State>>, NoMemory>
     requires short { IsShort rules.now }
     requires few { classes ≤ 64 }
-    requires states { length sets.now.keys ≤ 4096 }
+    requires states { length sets.now.keys ≤ MAX_STATES }
     ensures { IfOk result (λ targets. targets.items ≡ targets_of rules.now stmt items.now (kernels sets.now.keys) (40 + classes)) }
 {
     let mut targets = Vec::new(alloc);
@@ -132,7 +132,7 @@ fn row_of(
     requires many { length rules.now ≤ 1000 }
     requires short { IsShort rules.now }
     requires few { classes ≤ 64 }
-    requires states { length sets.now.keys ≤ 4096 }
+    requires states { length sets.now.keys ≤ MAX_STATES }
     requires chained { edges.now ≡ chains rules.now }
     requires follows { follows.now ≡ all_follows rules.now stmt classes 40 }
     ensures { IfOk result (λ row. row ≡ row_of rules.now stmt classes (kernels sets.now.keys) kernel.now) }
@@ -181,7 +181,7 @@ fn rows_of(
     requires many { length rules.now ≤ 1000 }
     requires short { IsShort rules.now }
     requires few { classes ≤ 64 }
-    requires states { length sets.now.keys ≤ 4096 }
+    requires states { length sets.now.keys ≤ MAX_STATES }
     requires chained { edges.now ≡ chains rules.now }
     ensures { IfOk result (λ rows. rows.items ≡ map (row_of rules.now stmt classes (kernels sets.now.keys)) (kernels sets.now.keys)) }
 {
@@ -206,6 +206,7 @@ fn rows_of(
 ghost use Rattle.lr_tables.specs.Numbering.{IsOver};
 ghost use Rattle.lr_tables.specs.Built.{IsRows};
 ghost use Rattle.std.specs.Prelude.{Err};
+ghost use Rattle.lr_tables.specs.declared.numbering.TheConstants.{MAX_STATES};
 
 /// The rows of all item sets, numbered as first found.
 pub fn all_rows(

@@ -114,7 +114,7 @@ impl Tables {
         self.over(state, Sym::Class(class))
     }
 
-    /// How many states there are, at most 4,096.
+    /// How many states there are, at most `MAX_STATES`.
     pub fn states(&self) -> u32
         ensures { result ≡ length self.now.rows }
     {

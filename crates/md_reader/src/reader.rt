@@ -22,6 +22,7 @@ fn wrong_at(line: u32, kind: DescKind) -> Result<Description, DescFault>
 }
 
 ghost use Rattle.std.specs.Prelude.{Err, []};
+ghost use Rattle.gg_base.specs.declared.limits.TheConstants.{DESCRIPTION_LIMIT};
 ghost use Rattle.md_reader.specs.declared.faults.DescFault.TheVariants as desc_fault;
 
 /// The text ends before the line with this number, and no `each` line is bad.
@@ -99,7 +100,7 @@ fn read_lines(alloc: Global, text: &Expanded, end: u32) -> Result<Description, D
 
 /// The number of the line behind the last.
 fn line_behind(bytes: &[u8]) -> u32
-    requires { length bytes.now ≤ 262144 }
+    requires { length bytes.now ≤ DESCRIPTION_LIMIT }
     ensures { result ≡ line_behind bytes.now }
 {
     let mut number: u32 = 1;
@@ -112,7 +113,7 @@ fn line_behind(bytes: &[u8]) -> u32
 }
 
 fn read_all(alloc: Global, bytes: &[u8]) -> Result<Description, DescFault>
-    requires { length bytes.now ≤ 262144 }
+    requires { length bytes.now ≤ DESCRIPTION_LIMIT }
     ensures { Answers result (read bytes.now) }
 {
     let Ok(text) = expand(alloc, bytes) else {
@@ -124,7 +125,7 @@ fn read_all(alloc: Global, bytes: &[u8]) -> Result<Description, DescFault>
 /// The description that the bytes are, or the first wrong line and what is wrong there.
 #[tactic(auto, using(crate::proofs::ToldLaws::found, crate::proofs::AgainLaws::only, crate::proofs::AgainLaws::refusal, crate::proofs::FirstLaws::is_first))]
 pub fn read_description(alloc: Global, bytes: &[u8]) -> Result<Description, DescFault>
-    requires { length bytes.now ≤ 262144 }
+    requires { length bytes.now ≤ DESCRIPTION_LIMIT }
     // The first wrong line, and there the first kind that applies.
     ensures answers { Answers result (read bytes.now) }
     // What is read is a description, and that is its content.

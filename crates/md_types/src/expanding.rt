@@ -1,6 +1,7 @@
 // A description's lines, with its rules written out.
 ghost use Rattle.std.specs.Prelude.{◌≡◌, ◌≤◌, ◌++◌, ◌∷◌, [], true, length, OnOk, IfOk, IfSome};
 ghost use Rattle.std.specs.Option.{option_map};
+ghost use Rattle.gg_base.specs.declared.limits.TheConstants.{DESCRIPTION_LIMIT};
 ghost use Rattle.md_reader_text.specs.Lines.{lines};
 ghost use Rattle.md_reader_text.specs.Words.{words};
 ghost use Rattle.md_types.specs.Forms.{is_each};
@@ -18,7 +19,7 @@ use std::alloc::Global;
 
 /// The lines of the text with their numbers, from 1.
 fn numbered(alloc: Global, text: &[u8]) -> Result<Vec<ExpandedLine>, NoMemory>
-    requires { length text.now ≤ 262144 }
+    requires { length text.now ≤ DESCRIPTION_LIMIT }
     ensures { IfOk result (λ read. read.items ≡ numbered 1 (lines text.now)) }
 {
     let mut read = Vec::new(alloc);
@@ -155,7 +156,7 @@ fn is_second(lines: &[ExpandedLine]) -> bool
 }
 
 fn written_out(alloc: Global, text: &[u8]) -> Result<Expanded, NoMemory>
-    requires { length text.now ≤ 262144 }
+    requires { length text.now ≤ DESCRIPTION_LIMIT }
     ensures { IfOk result (λ e. e ≡ expand text.now) }
 {
     let lines = numbered(alloc, text)?;
@@ -172,7 +173,7 @@ fn written_out(alloc: Global, text: &[u8]) -> Result<Expanded, NoMemory>
 /// `each` line. A text that isn't of version 2 is its own lines.
 #[tactic(auto, using(crate::proofs::BadLaws::plain, crate::proofs::BadLaws::alike, crate::proofs::BadLaws::tells))]
 pub fn expand(alloc: Global, text: &[u8]) -> Result<Expanded, NoMemory>
-    requires { length text.now ≤ 262144 }
+    requires { length text.now ≤ DESCRIPTION_LIMIT }
     ensures is { IfOk result (λ e. e ≡ expand text.now) }
     ensures plain { IfOk result (IsPlain text.now) }
     ensures alike { IfOk result (StaysAlike text.now) }

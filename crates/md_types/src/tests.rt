@@ -1,11 +1,12 @@
 use crate::expand;
+use gg_base::limits::DESCRIPTION_LIMIT;
 use std::alloc::Global;
 use std::test::Fail;
 
 // The lines, each with the number of the line that it comes from, and the number of the first bad `each` line.
 fn shown(alloc: Global, text: &[u8]) -> Result<String, Fail> {
     let mut out = String::new(alloc);
-    if text.len() > 262_144 {
+    if text.len() as u64 > DESCRIPTION_LIMIT {
         return Ok(out);
     }
     let expanded = expand(alloc, text).ok().ok_or("no memory")?;

@@ -2,6 +2,7 @@
 ghost use Rattle.std.specs.Prelude.{◌≡◌, ◌+◌, ◌-◌, ◌<◌, ◌≤◌, ◌^◌, OnOk, IfOk, IfErr, IfSome, OnErr, Some, Err, length, take};
 ghost use Rattle.std.specs.Prelude.{replicate, true, false};
 ghost use Rattle.std.specs.List.{slice_get, slice_set, slice_index_or};
+ghost use Rattle.gg_base.specs.declared.limits.TheConstants.{NEED_LIMIT};
 ghost use Rattle.lr_tables.specs.Leads.{target_at};
 ghost use Rattle.md_reader.specs.declared.types.Sym.TheVariants as grammar_symbol;
 ghost use Rattle.sel_parse_desk.specs.Reductions.{reduced};
@@ -364,9 +365,9 @@ fn parsed<T: Templates>(
     tables: &Tables,
     tree: &[Leaf],
 ) -> Result<Desk<T::Operand, T::Instr>, ParseFault>
-    requires first { setting.now.first ≤ 1024 }
+    requires first { setting.now.first ≤ NEED_LIMIT }
     requires same { setting.now.description.now ≡ tables.now.content }
-    ensures most { IfOk result (λ k. k.most ≤ 1024) }
+    ensures most { IfOk result (λ k. k.most ≤ NEED_LIMIT) }
     ensures code { IfOk result (λ k. Ends T.meaning setting.now.program.now tables.now.content setting.now.first tree.now (stack_of k)) }
     ensures full { result ≡ Err ParseFault.FrameFull → FrameFull T.meaning setting.now.program.now tables.now.content
         setting.now.first tree.now }

@@ -1,6 +1,7 @@
 -- Entries as the code holds them: kinds beside attributes.
 use Rattle.std.specs.Prelude.{ℕ, nat_lt, List, [], ◌∷◌, Option, Some, None, Bool, true, slice_get}
 use Rattle.std.specs.List.{list_all}
+use Rattle.gg_base.specs.declared.limits.TheConstants.{NEED_LIMIT}
 use Rattle.md_reader.specs.declared.types.Kind.{Kind}
 use Rattle.sel_target.specs.declared.attr.Attr.{Attr}
 use Rattle.sel_target.specs.declared.attr.Attr.TheVariants as attr
@@ -13,7 +14,7 @@ joined (k ∷ ks) (h ∷ hs) = record { kind = k; attr = h } ∷ joined ks hs
 
 -- a frame word that stands for a register is one that an operand can name
 abbrev pub is_low : {O : Type 0} → Attr O → Bool
-is_low (attr.InSlot w) = nat_lt w 1024
+is_low (attr.InSlot w) = nat_lt w NEED_LIMIT
 is_low a = true
 
 abbrev pub are_low : {O : Type 0} → List (Attr O) → Bool

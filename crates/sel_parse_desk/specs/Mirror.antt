@@ -1,5 +1,6 @@
 -- What the code works on, as the definition of a selection sees it.
 use Rattle.std.specs.Prelude.{◌≡◌, ℕ, ◌≤◌, List, map, reverse, Result, MatchResult}
+use Rattle.gg_base.specs.declared.limits.TheConstants.{NEED_LIMIT}
 use Rattle.tree_core.specs.declared.program.TreeProgram.{TreeProgram}
 use Rattle.md_reader_pieces.specs.declared.piece.Line.{Line}
 use Rattle.md_reader.specs.State.{Content}
@@ -33,7 +34,7 @@ stack_of k = record { entries = reverse k.stack.entries; code = k.code.items; mo
 
 -- the counts are right, and the words that were used are those of a frame
 abbrev pub IsReady : {O I S F : Type 0} → Meaning O I S F → Held O I → Type 0
-IsReady of k = IsTallied of k.stack × (k.most ≤ 1024)
+IsReady of k = IsTallied of k.stack × (k.most ≤ NEED_LIMIT)
 
 -- the refusal is the definition's
 abbrev pub Fails : {X : Type 0} → DeskFault → Outcome X → Type 0

@@ -1,6 +1,7 @@
 -- Counts of the entries that hold a register or a frame word.
 use Rattle.std.specs.Prelude.{◌≡◌, ℕ, ◌+◌, ◌^◌, ◌<◌, ◌≤◌, List, length, Bool, false, take, count_by, slice_index, if◌then◌else◌}
 use Rattle.std.specs.List.{list_any}
+use Rattle.gg_base.specs.declared.limits.TheConstants.{NEED_LIMIT}
 use Rattle.sel_target.specs.declared.attr.Attr.{Attr}
 use Rattle.sel_target.specs.Meaning.{Meaning}
 use Rattle.sel_parse_desk.specs.Entries.{attrs, in_register, in_word}
@@ -41,7 +42,7 @@ module _ {O I S F : Type 0} (of : Meaning O I S F) where
 -- so many of the attributes hold each register, and each frame word; before a place none holds a register
 pub record AreTallied {O I S F : Type 0} (of : Meaning O I S F) (hs : List (Attr O)) (registers words : List ℕ) (settled : ℕ) : Type 0 where
   pub each_register : (r : ℕ) → r < 12 → slice_index registers r ≡ count_by (in_register of r) hs
-  pub each_word : (w : ℕ) → w < 1024 → slice_index words w ≡ count_by (in_word of w) hs
+  pub each_word : (w : ℕ) → w < NEED_LIMIT → slice_index words w ≡ count_by (in_word of w) hs
   pub within : settled ≤ length hs
   pub no_register : list_any (holds_some of) (take settled hs) ≡ false
 

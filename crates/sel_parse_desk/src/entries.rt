@@ -1,6 +1,7 @@
 // Entries of a parse stack.
 ghost use Rattle.std.specs.Prelude.{◌≡◌, ◌∷◌, ◌++◌, [], ◌<◌, ◌≤◌, true, length, take, drop, OnOk, IfOk, IfSome, slice_get, slice_set};
 ghost use Rattle.std.specs.Option.{option_flatten};
+ghost use Rattle.gg_base.specs.declared.limits.TheConstants.{NEED_LIMIT};
 ghost use Rattle.sel_parse_desk.specs.Entries.{attrs, kind_in, slot_of, slot_in};
 ghost use Rattle.sel_parse_desk.specs.Joined.{attr_in, is_low, are_low};
 
@@ -11,7 +12,7 @@ use std::alloc::Global;
 use std::marker::Model;
 
 /// Attributes of symbols, each with the kind of its symbol's class. A token has no class. Frame words that stand for registers are
-/// below 1,024.
+/// below `NEED_LIMIT`.
 #[derive(Drop)]
 pub struct Entries<O> {
     kinds: Vec<Option<Kind>>,
@@ -34,7 +35,7 @@ impl<O> Model for Entries<O> {
 fn slot_of<O>(attr: &Attr<O>) -> Option<u32>
     requires { is_low attr.now ≡ true }
     ensures slot { result ≡ slot_of attr.now }
-    ensures low { IfSome result (λ w. w < 1024) }
+    ensures low { IfSome result (λ w. w < NEED_LIMIT) }
 {
     match attr {
         Attr::InSlot(word) => Some(*word),
@@ -115,7 +116,7 @@ impl<O: Drop> Entries<O> {
     /// The frame word at a place, if a register's symbol stands in one there.
     pub fn slot(&self, at: usize) -> Option<u32>
         ensures slot { result ≡ slot_in (slice_get self.now at) }
-        ensures low { IfSome result (λ w. w < 1024) }
+        ensures low { IfSome result (λ w. w < NEED_LIMIT) }
     {
         if self.len() <= at {
             return None;

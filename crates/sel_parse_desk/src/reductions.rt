@@ -1,6 +1,7 @@
 // A reduction, in its order.
 ghost use Rattle.std.specs.Prelude.{◌≡◌, ◌++◌, [], ◌+◌, ◌-◌, ◌<◌, ◌≤◌, ◌^◌, true, false, Some, OnOk, IfOk};
 ghost use Rattle.std.specs.Prelude.{slice_get, slice_set};
+ghost use Rattle.gg_base.specs.declared.limits.TheConstants.{NEED_LIMIT};
 ghost use Rattle.md_reader.specs.declared.types.Give.TheVariants as give;
 ghost use Rattle.sel_target.specs.declared.attr.Attr.TheVariants as attr;
 ghost use Rattle.sel_target.specs.Instances.{hole};
@@ -28,7 +29,7 @@ use tree_core::{Leaf, TreeProgram};
 
 /// Before the first token.
 pub fn begin<T: Templates>(setting: &Setting<T>) -> Result<Desk<T::Operand, T::Instr>, NoMemory>
-    requires { setting.now.first ≤ 1024 }
+    requires { setting.now.first ≤ NEED_LIMIT }
     ensures start { IfOk result (λ k. stack_of k ≡ record { entries = []; code = []; most = setting.now.first }) }
     ensures ready { IfOk result (λ k. IsReady T.meaning k) }
 {
@@ -67,7 +68,7 @@ fn reload_line<T: Templates>(
     register: u8,
     code: &mut Vec<T::Instr>,
 ) -> Result<(), NoMemory>
-    requires { word < 1024 }
+    requires { word < NEED_LIMIT }
     ensures { OnOk result (code.new.items ≡ code.old.items ++ reloading T.meaning setting.now.program.now
         (reload_line setting.now.description.now) word register) }
 {

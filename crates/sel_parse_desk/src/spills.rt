@@ -2,6 +2,7 @@
 ghost use Rattle.std.specs.Prelude.{◌≡◌, ◌==◌, ◌∷◌, ◌++◌, [], ◌<◌, ◌≤◌, true, Some, length, OnOk, IfOk, IfSome};
 ghost use Rattle.std.specs.Prelude.{option_to_list, slice_get};
 ghost use Rattle.std.specs.List.{list_any};
+ghost use Rattle.gg_base.specs.declared.limits.TheConstants.{NEED_LIMIT};
 ghost use Rattle.sel_target.specs.SavingLaws.{saving};
 ghost use Rattle.sel_target.specs.Symbols.{saving_place, saving_line};
 ghost use Rattle.sel_parse_desk.specs.Entries.{kind_in, word_of};
@@ -64,7 +65,7 @@ fn is_free_word<T: Templates>(
     desk: &Desk<T::Operand, T::Instr>,
     word: u32,
 ) -> bool
-    requires word { word < 1024 }
+    requires word { word < NEED_LIMIT }
     requires ready { IsReady T.meaning desk.now }
     ensures { result ≡ is_free_word T.meaning (desk_of desk.now) word }
 {
@@ -77,7 +78,7 @@ fn is_free_word<T: Templates>(
 fn free_slot<T: Templates>(setting: &Setting<T>, desk: &Desk<T::Operand, T::Instr>) -> Option<u32>
     requires ready { IsReady T.meaning desk.now }
     ensures word { result ≡ free_slot T.meaning setting.now.first (desk_of desk.now) }
-    ensures small { IfSome result (λ w. w < 1024) }
+    ensures small { IfSome result (λ w. w < NEED_LIMIT) }
 {
     (setting.first..NEED_LIMIT).find(|word| is_free_word(setting, desk, *word))
 }
@@ -106,7 +107,7 @@ fn saving_line<'a, T: Templates>(setting: &Setting<'a, T>, kind: Option<Kind>) -
 
 // What an attribute becomes in a slot.
 fn in_slot<T: Templates>(target: &T, attr: &Attr<T::Operand>, word: u32) -> Attr<T::Operand>
-    requires word { word < 1024 }
+    requires word { word < NEED_LIMIT }
     requires low { is_low attr.now ≡ true }
     ensures moved { result ≡ in_slot T.meaning attr.now word }
     ensures low { is_low result ≡ true }
@@ -131,7 +132,7 @@ fn save_line<T: Templates>(
     word: u32,
     code: &mut Vec<T::Instr>,
 ) -> Result<(), NoMemory>
-    requires { word < 1024 }
+    requires { word < NEED_LIMIT }
     ensures { OnOk result (code.new.items ≡ code.old.items ++ saved_line T.meaning setting.now.program.now line.now alone.now word ∷ []) }
 {
     let slot = Attr::Place(setting.target.slot(word));
@@ -161,7 +162,7 @@ fn save<T: Templates>(
     late: &mut Vec<u32>,
     code: &mut Vec<T::Instr>,
 ) -> Result<Attr<T::Operand>, NoMemory>
-    requires word { word < 1024 }
+    requires word { word < NEED_LIMIT }
     requires within { at < length entries.now }
     ensures code { OnOk result (code.new.items ≡ code.old.items ++ saving T.meaning setting.now.program.now
         (saving_line setting.now.description.now (kind_in (slice_get entries.now at))) (attr_in (slice_get entries.now at)) word) }

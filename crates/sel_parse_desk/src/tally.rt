@@ -1,5 +1,6 @@
 // How many entries of a stack hold each register and each frame word.
 ghost use Rattle.std.specs.Prelude.{◌≡◌, ◌==◌, ◌<◌, length, replicate, slice_index, not, IfOk};
+ghost use Rattle.gg_base.specs.declared.limits.TheConstants.{NEED_LIMIT};
 
 use crate::holding::{REGISTERS, in_register, word_of};
 use gg_base::NoMemory;
@@ -13,7 +14,7 @@ pub struct Tally {
     pub registers: Vec<usize>,
     pub words: Vec<usize>,
     ghost twelve: { length registers.items ≡ 12 },
-    ghost all_words: { length words.items ≡ 1024 },
+    ghost all_words: { length words.items ≡ NEED_LIMIT },
 }
 
 impl Tally {
@@ -23,7 +24,7 @@ impl Tally {
     /// Nothing is held.
     pub fn new(alloc: Global) -> Result<Self, NoMemory>
         ensures registers { IfOk result (λ t. t.registers.items ≡ replicate 12 0) }
-        ensures words { IfOk result (λ t. t.words.items ≡ replicate 1024 0) }
+        ensures words { IfOk result (λ t. t.words.items ≡ replicate NEED_LIMIT 0) }
     {
         Ok(Tally {
             registers: vec![in alloc; 0; REGISTERS as usize]?,
@@ -34,9 +35,9 @@ impl Tally {
     /// One attribute more is counted.
     pub fn raise<T: Templates>(&mut self, target: &T, attr: &Attr<T::Operand>)
         requires register_room { HaveRoom 12 self.old.registers.items (registers_of T.meaning attr.now) }
-        requires word_room { HaveRoom 1024 self.old.words.items (words_of T.meaning attr.now) }
+        requires word_room { HaveRoom NEED_LIMIT self.old.words.items (words_of T.meaning attr.now) }
         ensures registers { HaveRisen 12 self.old.registers.items self.new.registers.items (registers_of T.meaning attr.now) }
-        ensures words { HaveRisen 1024 self.old.words.items self.new.words.items (words_of T.meaning attr.now) }
+        ensures words { HaveRisen NEED_LIMIT self.old.words.items self.new.words.items (words_of T.meaning attr.now) }
     {
         for register in 0..REGISTERS {
             if in_register(target, register, attr) {
@@ -54,9 +55,9 @@ impl Tally {
     /// An attribute is counted no more.
     pub fn lower<T: Templates>(&mut self, target: &T, attr: &Attr<T::Operand>)
         requires in_registers { AreAtLeast 12 self.old.registers.items (registers_of T.meaning attr.now) }
-        requires in_words { AreAtLeast 1024 self.old.words.items (words_of T.meaning attr.now) }
+        requires in_words { AreAtLeast NEED_LIMIT self.old.words.items (words_of T.meaning attr.now) }
         ensures registers { HaveFallen 12 self.old.registers.items self.new.registers.items (registers_of T.meaning attr.now) }
-        ensures words { HaveFallen 1024 self.old.words.items self.new.words.items (words_of T.meaning attr.now) }
+        ensures words { HaveFallen NEED_LIMIT self.old.words.items self.new.words.items (words_of T.meaning attr.now) }
     {
         for register in 0..REGISTERS {
             if in_register(target, register, attr) {
@@ -74,9 +75,9 @@ impl Tally {
     /// Attributes are counted no more.
     pub fn lower_all<T: Templates>(&mut self, target: &T, attrs: &[Attr<T::Operand>])
         requires in_registers { AreAtLeast 12 self.old.registers.items (registers_among T.meaning attrs.now) }
-        requires in_words { AreAtLeast 1024 self.old.words.items (words_among T.meaning attrs.now) }
+        requires in_words { AreAtLeast NEED_LIMIT self.old.words.items (words_among T.meaning attrs.now) }
         ensures registers { HaveFallen 12 self.old.registers.items self.new.registers.items (registers_among T.meaning attrs.now) }
-        ensures words { HaveFallen 1024 self.old.words.items self.new.words.items (words_among T.meaning attrs.now) }
+        ensures words { HaveFallen NEED_LIMIT self.old.words.items self.new.words.items (words_among T.meaning attrs.now) }
     {
         for attr in attrs {
             self.lower(target, attr);
@@ -93,7 +94,7 @@ impl Tally {
 
     /// Whether a counted attribute holds a frame word.
     pub fn holds_word(&self, word: u32) -> bool
-        requires { word < 1024 }
+        requires { word < NEED_LIMIT }
         ensures { result ≡ not (slice_index self.now.words.items word == 0) }
     {
         self.words[word as usize] != 0

@@ -1,6 +1,7 @@
 -- Selected code has the tree's effect.
 use Rattle.std.specs.Prelude.{◌≡◌, ℕ, ◌≤◌, ◌<◌, nat_lt, List, Some, None, if◌then◌else◌}
 use Rattle.std.specs.List.{AllByRecursion}
+use Rattle.gg_base.specs.declared.limits.TheConstants.{NEED_LIMIT}
 use Rattle.gg_base.specs.declared.size.Size.TheVariants.{Long}
 use Rattle.tree_core.specs.declared.token.Sort.TheVariants as sort
 use Rattle.tree_core.specs.declared.tree.Leaf.{Leaf}
@@ -44,7 +45,7 @@ module _ {O I S F : Type 0} (of : Meaning O I S F) where
   pub record Begins (q : TreeProgram) (first : ℕ) (f : Extent) (fs : List Extent) (t : State) (m : S) : Type 0 where
     pub program : trees.IsValid q
     pub spelled : of.can_write q
-    pub few : f.words ≤ 1024
+    pub few : f.words ≤ NEED_LIMIT
     pub own : f.locals ≤ first
     pub within : f.locals ≤ f.words
     pub written : (k n : ℕ) → t.running.locals k ≡ Some n → k < f.locals

@@ -1,6 +1,7 @@
 -- How selections end, by tables that were checked for blocking and looping.
 use Rattle.std.specs.Prelude.{◌⊎◌, ℕ, ◌+◌, ◌≤◌, List, None}
 use Rattle.std.specs.List.{AllByRecursion}
+use Rattle.gg_base.specs.declared.limits.TheConstants.{NEED_LIMIT}
 use Rattle.tree_core.specs.declared.token.Sort.TheVariants as sort
 use Rattle.tree_core.specs.declared.tree.Leaf.{Leaf}
 use Rattle.tree_core.specs.declared.program.TreeProgram.{TreeProgram}
@@ -39,4 +40,4 @@ module _ {O I S F : Type 0} (of : Meaning O I S F) where
       (q : TreeProgram) (t : TableView) (first : ℕ) (w : List Leaf)
       → of.can_write q → IsTaken of t.content → IsNumbered t → NeverStops t.content
       → IsTyped (root w) sort.Stmt → AllByRecursion (λ (l : Leaf). IsOwn q first l.tok l.att) w
-      → first + (forks w + 1) ≤ 1024 → HasCode q t.content first w ⊎ IsStuck q t.content first w
+      → first + (forks w + 1) ≤ NEED_LIMIT → HasCode q t.content first w ⊎ IsStuck q t.content first w

@@ -1,6 +1,7 @@
 -- What is true of the code that `select` computes for a typed statement tree, over a target that keeps its laws.
 use Rattle.std.specs.Prelude.{◌≡◌, ℕ, ◌+◌, ◌≤◌, List}
 use Rattle.std.specs.List.{AllByRecursion}
+use Rattle.gg_base.specs.declared.limits.TheConstants.{NEED_LIMIT}
 use Rattle.tree_core.specs.declared.token.Sort.TheVariants as sort
 use Rattle.tree_core.specs.declared.tree.Leaf.{Leaf}
 use Rattle.tree_core.specs.declared.program.TreeProgram.{TreeProgram}
@@ -59,7 +60,7 @@ module _ {O I S F : Type 0} (of : Meaning O I S F) where
   abbrev pub HasRoom : Type 0
   HasRoom =
       (q : TreeProgram) (d : Content) (first : ℕ) (w : List Leaf)
-      → IsReady q d first w → first + (forks w + 1) ≤ 1024 → FrameFull of q d first w → ⊥
+      → IsReady q d first w → first + (forks w + 1) ≤ NEED_LIMIT → FrameFull of q d first w → ⊥
 
   -- by a description that was checked, the parse neither blocks nor turns, and each register that is due can be had
   abbrev pub NeverBlocks : Type 0
@@ -75,4 +76,5 @@ module _ {O I S F : Type 0} (of : Meaning O I S F) where
   abbrev pub TreesHaveCode : Type 0
   TreesHaveCode =
       (q : TreeProgram) (t : TableView) (first : ℕ) (w : List Leaf)
-      → IsReady q t.content first w → IsNumbered t → NeverStops t.content → first + (forks w + 1) ≤ 1024 → HasCode q t.content first w
+      → IsReady q t.content first w → IsNumbered t → NeverStops t.content → first + (forks w + 1) ≤ NEED_LIMIT
+      → HasCode q t.content first w

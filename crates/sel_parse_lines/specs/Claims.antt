@@ -1,6 +1,7 @@
 -- What the instructions of a selection are: lines of the description with their holes filled.
 use Rattle.std.specs.Prelude.{◌≡◌, ℕ, ◌≤◌, List, length, true, Bool, Ok}
 use Rattle.std.specs.List.{AllByRecursion}
+use Rattle.gg_base.specs.declared.limits.TheConstants.{NEED_LIMIT}
 use Rattle.tree_core.specs.declared.tree.Leaf.{Leaf}
 use Rattle.tree_core.specs.declared.program.TreeProgram.{TreeProgram}
 use Rattle.md_reader_pieces.specs.declared.piece.Line.{Line}
@@ -56,8 +57,8 @@ module _ {O I S F : Type 0} (of : Meaning O I S F) where
       → AllByRecursion (λ (r : Rule). (e : EffectShape) × (of.effect d.classes r ≡ Ok e)) d.rules
       → Selected of q d first w code most → 1 ≤ length code
 
-  -- It uses words below 1,024 alone, where its first slot is one of these or the next.
+  -- It uses words below `NEED_LIMIT` alone, where its first slot is one of these or the next.
   abbrev pub SelectionsUseFewWords : Type 0
   SelectionsUseFewWords =
-      (q : TreeProgram) (d : Content) (first : ℕ) (w : List Leaf) (code : List I) (most : ℕ) → first ≤ 1024
-      → Selected of q d first w code most → most ≤ 1024
+      (q : TreeProgram) (d : Content) (first : ℕ) (w : List Leaf) (code : List I) (most : ℕ) → first ≤ NEED_LIMIT
+      → Selected of q d first w code most → most ≤ NEED_LIMIT

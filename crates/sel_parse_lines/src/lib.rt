@@ -7,7 +7,7 @@ ghost use Rattle.sel_parse_lines.specs.Claims.{SelectionsAreFilled, SelectionsUs
 use sel_target::{Target, Templates};
 
 /// Each instruction of a selection is a line of the description with its holes filled, by what passes every test that a
-/// selection's steps keep; of the frame's words it uses none from 1,024 on.
+/// selection's steps keep; of the frame's words it uses none from `NEED_LIMIT` on.
 pub fn selections_are_filled<T: Templates>(_target: &T)
     ensures filled { SelectionsAreFilled T.meaning }
     ensures few { SelectionsUseFewWords T.meaning }

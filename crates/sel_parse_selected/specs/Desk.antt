@@ -3,6 +3,7 @@ use Rattle.std.specs.Prelude.{ℕ, ◌+◌, ◌-◌, ◌==◌, ◌&&◌, ◌||�
 use Rattle.std.specs.Prelude.{Bool, not}
 use Rattle.std.specs.List.{list_any}
 use Rattle.std.specs.Int.{bit_at}
+use Rattle.gg_base.specs.declared.limits.TheConstants.{NEED_LIMIT}
 use Rattle.md_reader.specs.State.{Content}
 use Rattle.sel_target.specs.Meaning.{Meaning, Spot, RegAt, WordAt}
 use Rattle.sel_target.specs.Instances.{attr_touches}
@@ -57,4 +58,4 @@ module _ {O I S F : Type 0} (of : Meaning O I S F) where
 
   -- slots are the frame words from the first to 1,023
   abbrev pub free_slot : ℕ → Desk O I → Option ℕ
-  free_slot first desk = lowest (is_free_word desk) first (1024 - first)
+  free_slot first desk = lowest (is_free_word desk) first (NEED_LIMIT - first)

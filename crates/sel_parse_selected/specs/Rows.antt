@@ -1,5 +1,6 @@
 -- What is selected in the worked rows.
 use Rattle.std.specs.Prelude.{◌≡◌, pos, negsuc, [], ◌∷◌, Some, None, true, false}
+use Rattle.gg_base.specs.declared.limits.TheConstants.{NEED_LIMIT}
 use Rattle.gg_base.specs.declared.size.Size.TheVariants.{Byte, Long}
 use Rattle.md_reader.specs.declared.types.Kind.TheVariants as kind
 use Rattle.md_reader.specs.declared.types.Restriction.TheVariants.{Same, Range, Signed}
@@ -21,7 +22,7 @@ pub record Rows : Type 0 where
   pub tree : made toy program (description 3) 5 moves (start toy program (description 3) 5)
       ≡ Some (Some (record { entries = entry (Some kind.Nothing) attr.Nothing ∷ []; code = code; most = 6 }))
   -- without a slot it is refused
-  pub refused : made toy program (description 3) 1024 moves (start toy program (description 3) 1024) ≡ None
+  pub refused : made toy program (description 3) NEED_LIMIT moves (start toy program (description 3) NEED_LIMIT) ≡ None
   -- the address of a place goes to a word, and the place is then at the word's address; the most words were more
   pub place : reduced toy program (description 3) 5 constant waiting
       ≡ Done (record {
@@ -33,7 +34,7 @@ pub record Rows : Type 0 where
             (destination.Register 0) ∷ [];
         most = 8;
       })
-  pub full : reduced toy program (description 3) 1024 constant waiting ≡ Full
+  pub full : reduced toy program (description 3) NEED_LIMIT constant waiting ≡ Full
   -- of no register none can be free
   pub stuck : reduced toy program (description 0) 5 constant (record { entries = []; code = []; most = 5 }) ≡ Stuck
   -- questions

@@ -1,6 +1,7 @@
 -- How many frame words a selection uses.
 use Rattle.std.specs.Prelude.{◌≡◌, ℕ, ◌+◌, ◌≤◌, ◌<◌, List, Ok}
 use Rattle.std.specs.List.{AllByRecursion}
+use Rattle.gg_base.specs.declared.limits.TheConstants.{NEED_LIMIT}
 use Rattle.tree_core.specs.declared.token.Tok.{Tok}
 use Rattle.tree_core.specs.declared.token.Tok.TheVariants as tok
 use Rattle.tree_core.specs.declared.token.Sort.TheVariants as sort
@@ -45,4 +46,4 @@ module _ {O I S F : Type 0} (of : Meaning O I S F) where
   HasRoom =
       (q : TreeProgram) (d : Content) (first : ℕ) (w : List Leaf)
       → of.can_write q → IsTaken d → IsTyped (root w) sort.Stmt → AllByRecursion (λ (l : Leaf). IsOwn q first l.tok l.att) w
-      → first + (forks w + 1) ≤ 1024 → FrameFull of q d first w → ⊥
+      → first + (forks w + 1) ≤ NEED_LIMIT → FrameFull of q d first w → ⊥

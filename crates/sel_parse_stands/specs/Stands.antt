@@ -1,5 +1,6 @@
 -- When the entries of a stack stand, in a state of the machine, for what the stack's symbols stand for.
 use Rattle.std.specs.Prelude.{◌≡◌, ℕ, ◌≤◌, ◌<◌, ◌^◌, List, [], ◌∷◌, length, Option, Some, None, IsSome, true, slice_get}
+use Rattle.gg_base.specs.declared.limits.TheConstants.{NEED_LIMIT}
 use Rattle.gg_base.specs.declared.size.Size.{Size}
 use Rattle.gg_base.specs.declared.size.Size.TheVariants.{Long}
 use Rattle.tree_core.specs.declared.token.Tok.{Tok}
@@ -48,7 +49,7 @@ module _ {O I S F : Type 0} (of : Meaning O I S F) (q : TreeProgram) (d : Conten
   -- the entry of a class of a kind stands for a sense
   pub data ClassIs (m : S) : (k : Option Kind) (a : Attr O) (v : Sense) → Type 0 where
     register : (r n : ℕ) → r < 12 → of.reads (of.register r) Long m ≡ Some n → ClassIs m (Some kind.Reg) (attr.Reg r) (OfNumber n)
-    in_slot : (w n : ℕ) → first ≤ w → w < 1024 → of.reads (of.slot w) Long m ≡ Some n
+    in_slot : (w n : ℕ) → first ≤ w → w < NEED_LIMIT → of.reads (of.slot w) Long m ≡ Some n
         → ClassIs m (Some kind.Reg) (attr.InSlot w) (OfNumber n)
     value : (z : Size) (o : O) (n : ℕ) →
         of.fits (kind.Value z) o ≡ true → of.reads o z m ≡ Some n → ClassIs m (Some (kind.Value z)) (attr.Value o) (OfNumber n)
@@ -77,7 +78,7 @@ module _ {O I S F : Type 0} (of : Meaning O I S F) (q : TreeProgram) (d : Conten
 
   -- What holds of the frame throughout: its words are ones that operands name, and slots lie behind the locals.
   pub record IsFrame : Type 0 where
-    pub few : f.words ≤ 1024
+    pub few : f.words ≤ NEED_LIMIT
     pub own : f.locals ≤ first
     pub within : f.locals ≤ f.words
     pub bounded : (k n : ℕ) → s.locals k ≡ Some n → k < f.locals

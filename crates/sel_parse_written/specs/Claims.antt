@@ -1,6 +1,7 @@
 -- What each line of a description passes, as it is written, each instruction of a selection passes.
 use Rattle.std.specs.Prelude.{◌≡◌, ℕ, ◌≤◌, ◌<◌, List, [], ◌∷◌, Bool, true, Ok}
 use Rattle.std.specs.List.{AllByRecursion}
+use Rattle.gg_base.specs.declared.limits.TheConstants.{NEED_LIMIT}
 use Rattle.gg_base.specs.declared.size.Size.{Size}
 use Rattle.tree_core.specs.declared.tree.Leaf.{Leaf}
 use Rattle.tree_core.specs.declared.program.TreeProgram.{TreeProgram}
@@ -26,13 +27,13 @@ module _ {O I S F : Type 0} (of : Meaning O I S F) (q : TreeProgram) (d : Conten
     pub rules : (rule : Rule) (e : EffectShape) (hs : List (Attr O)) (result : Attr O) → IsRule d.classes rule
         → of.effect d.classes rule ≡ Ok e → Fit of d.classes rule.right hs → AreSpelled q hs → IsResult of rule.give hs result
         → AllByRecursion (λ (i : I). good i ≡ true) (lines_of of q rule hs result)
-    pub values : (size : Size) (l : Line) (a : Attr O) (w : ℕ) → Saves of (kind.Value size) l → IsValue of size a → w < 1024
+    pub values : (size : Size) (l : Line) (a : Attr O) (w : ℕ) → Saves of (kind.Value size) l → IsValue of size a → w < NEED_LIMIT
         → good (of.instr q l (a ∷ []) (attr.Place (of.slot w))) ≡ true
     pub places : (size : Size) (l : Line) (o : O) (w : ℕ) → Saves of (kind.Place size) l → of.fits (kind.Place size) o ≡ true
-        → w < 1024 → good (of.instr q l (attr.Place o ∷ []) (attr.Place (of.slot w))) ≡ true
-    pub addresses : (l : Line) (o : O) (w : ℕ) → Saves of kind.Ea l → of.fits kind.Ea o ≡ true → w < 1024
+        → w < NEED_LIMIT → good (of.instr q l (attr.Place o ∷ []) (attr.Place (of.slot w))) ≡ true
+    pub addresses : (l : Line) (o : O) (w : ℕ) → Saves of kind.Ea l → of.fits kind.Ea o ≡ true → w < NEED_LIMIT
         → good (of.instr q l (attr.Ea o ∷ []) (attr.Place (of.slot w))) ≡ true
-    pub reloads : (l : Line) (w r : ℕ) → Reloads of l → r < 12 → w < 1024
+    pub reloads : (l : Line) (w r : ℕ) → Reloads of l → r < 12 → w < NEED_LIMIT
         → good (of.instr q l (attr.Value (of.slot w) ∷ []) (attr.Reg r)) ≡ true
 
 module _ {O I S F : Type 0} (of : Meaning O I S F) where
@@ -51,5 +52,5 @@ module _ {O I S F : Type 0} (of : Meaning O I S F) where
   -- The code uses words that operands name, where its first slot is one of these or the next.
   abbrev pub SelectionsUseLowWords : Type 0
   SelectionsUseLowWords =
-      (q : TreeProgram) (d : Content) (first : ℕ) (w : List Leaf) (code : List I) (most : ℕ) → IsReady of q d first w → first ≤ 1024
-      → Selected of q d first w code most → most ≤ 1024
+      (q : TreeProgram) (d : Content) (first : ℕ) (w : List Leaf) (code : List I) (most : ℕ) → IsReady of q d first w → first ≤ NEED_LIMIT
+      → Selected of q d first w code most → most ≤ NEED_LIMIT

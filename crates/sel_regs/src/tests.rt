@@ -1,5 +1,6 @@
 // What a pool of three registers, a frame and four rules answer, worked out by hand.
 use crate::{Pool, Slots, need};
+use gg_base::limits::NEED_LIMIT;
 use md_reader::{DescFault, read_description};
 use std::test::Fail;
 
@@ -20,7 +21,7 @@ fn words_of_a_frame(rt: HostRuntime) -> Result<(), Fail> {
     let mut slots = Slots::new(1022);
     assert!(rt; slots.most() == 1022);
     assert!(rt; (slots.take(), slots.take(), slots.take()) == (Some(1022), Some(1023), None));
-    assert!(rt; slots.most() == 1024);
+    assert!(rt; slots.most() == NEED_LIMIT);
     Ok(())
 }
 

@@ -2,6 +2,7 @@
 use Rattle.std.specs.Prelude.{◌≡◌, ℕ, zero, suc, ◌*◌, ◌^◌, ◌<◌, List, [], ◌∷◌, map, Option, Some, None, IsSome, Ok}
 use Rattle.std.specs.Prelude.{true, false, Bool, slice_get}
 use Rattle.std.specs.List.{AllByRecursion}
+use Rattle.gg_base.specs.declared.limits.TheConstants.{NEED_LIMIT}
 use Rattle.gg_base.specs.Sizes.{bytes_of}
 use Rattle.tree_core.specs.declared.token.Tok.{Tok}
 use Rattle.tree_core.specs.declared.token.Tok.TheVariants as tok
@@ -37,7 +38,7 @@ hole hs (suc i) = slice_get hs i
 
 -- a local's and an argument's number is that of a word
 abbrev pub InFrame : Att → Type 0
-InFrame (att.Slot k) = k < 1024
+InFrame (att.Slot k) = k < NEED_LIMIT
 InFrame a = Unit {0}
 
 -- A place may be without a value: it is perhaps only written. A local that was not written has the value that its word happens to hold.

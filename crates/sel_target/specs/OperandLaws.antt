@@ -1,6 +1,7 @@
 -- What operands spell, read and name: laws of a target.
 use Rattle.std.specs.Prelude.{◌≡◌, ◌↔◌, ℕ, ◌+◌, ◌*◌, ◌^◌, ◌<◌, List, [], ◌∷◌, length, Some, None, IsSome, Ok, true, slice_get}
 use Rattle.std.specs.List.{AllByRecursion, list_any}
+use Rattle.gg_base.specs.declared.limits.TheConstants.{NEED_LIMIT}
 use Rattle.gg_base.specs.declared.size.Size.{Size}
 use Rattle.gg_base.specs.declared.size.Size.TheVariants.{Long}
 use Rattle.gg_base.specs.Sizes.{bytes_of}
@@ -30,12 +31,12 @@ module _ {O I S F : Type 0} (of : Meaning O I S F) where
     pub same_is : (a b : O) → (of.same a b ≡ true) ↔ (a ≡ b)
     pub register_bits : (r : ℕ) → r < 12 → of.registers (of.register r) ≡ 2 ^ r
     pub register_word : (r : ℕ) → r < 12 → of.word (of.register r) ≡ None
-    pub slot_bits : (w : ℕ) → w < 1024 → of.registers (of.slot w) ≡ 0
-    pub slot_word : (w : ℕ) → w < 1024 → of.word (of.slot w) ≡ Some w
-    pub deferred_bits : (w : ℕ) → w < 1024 → of.registers (of.slot_deferred w) ≡ 0
-    pub deferred_word : (w : ℕ) → w < 1024 → of.word (of.slot_deferred w) ≡ Some w
+    pub slot_bits : (w : ℕ) → w < NEED_LIMIT → of.registers (of.slot w) ≡ 0
+    pub slot_word : (w : ℕ) → w < NEED_LIMIT → of.word (of.slot w) ≡ Some w
+    pub deferred_bits : (w : ℕ) → w < NEED_LIMIT → of.registers (of.slot_deferred w) ≡ 0
+    pub deferred_word : (w : ℕ) → w < NEED_LIMIT → of.word (of.slot_deferred w) ≡ Some w
     pub local_bits : (k : ℕ) → of.registers (of.local k) ≡ 0
-    pub local_word : (k : ℕ) → k < 1024 → of.word (of.local k) ≡ Some k
+    pub local_word : (k : ℕ) → k < NEED_LIMIT → of.word (of.local k) ≡ Some k
     pub argument_bits : (k : ℕ) → of.registers (of.argument k) ≡ 0
     pub argument_word : (k : ℕ) → of.word (of.argument k) ≡ None
     -- a shape touches nothing that none of its holes touches
@@ -47,9 +48,9 @@ module _ {O I S F : Type 0} (of : Meaning O I S F) where
     pub alone : (q : TreeProgram) (l : Line) (i : ℕ) (hs : List (Attr O)) (h : Attr O) (o : O) →
         l.pieces ≡ piece.Hole i ∷ [] → hole hs i ≡ Some h → own_operand of h ≡ Some o → of.operand q l hs ≡ o
     -- a slot may stand for a value, and a deferred slot for a place or an address
-    pub slot_fits : (size : Size) (w : ℕ) → w < 1024 → of.fits (kind.Value size) (of.slot w) ≡ true
-    pub deferred_fits : (size : Size) (w : ℕ) → w < 1024 → of.fits (kind.Place size) (of.slot_deferred w) ≡ true
-    pub deferred_fits_address : (w : ℕ) → w < 1024 → of.fits kind.Ea (of.slot_deferred w) ≡ true
+    pub slot_fits : (size : Size) (w : ℕ) → w < NEED_LIMIT → of.fits (kind.Value size) (of.slot w) ≡ true
+    pub deferred_fits : (size : Size) (w : ℕ) → w < NEED_LIMIT → of.fits (kind.Place size) (of.slot_deferred w) ≡ true
+    pub deferred_fits_address : (w : ℕ) → w < NEED_LIMIT → of.fits kind.Ea (of.slot_deferred w) ≡ true
     -- A shape may stand for what its rule gives, with its tokens' numbers longwords and their objects the program's.
     pub shape_fits : (q : TreeProgram) (classes : List Class) (rule : Rule) (e : EffectShape) (k : Kind) (l : Line) (hs : List (Attr O)) →
         of.can_write q → IsRule classes rule → of.effect classes rule ≡ Ok e → rule.give ≡ give.Shape l
@@ -76,11 +77,11 @@ module _ {O I S F : Type 0} (of : Meaning O I S F) where
         fetched size t.area a ≡ Some x
     -- a local that is written has its value; each word of the frame can be read and found
     pub local_read : (q : TreeProgram) (f : Extent) (fs : List Extent) (t : State) (k x : ℕ) (m : S) →
-        of.agrees q f fs t m → k < 1024 → t.running.locals k ≡ Some x → of.reads (of.local k) Long m ≡ Some x
+        of.agrees q f fs t m → k < NEED_LIMIT → t.running.locals k ≡ Some x → of.reads (of.local k) Long m ≡ Some x
     pub local_there : (q : TreeProgram) (f : Extent) (fs : List Extent) (t : State) (k : ℕ) (m : S) →
-        of.agrees q f fs t m → k < f.words → k < 1024 → IsSome (of.reads (of.local k) Long m)
+        of.agrees q f fs t m → k < f.words → k < NEED_LIMIT → IsSome (of.reads (of.local k) Long m)
     pub local_named : (q : TreeProgram) (f : Extent) (fs : List Extent) (t : State) (k : ℕ) (m : S) →
-        of.agrees q f fs t m → k < f.words → k < 1024 → IsSome (of.names (of.local k) Long m)
+        of.agrees q f fs t m → k < f.words → k < NEED_LIMIT → IsSome (of.names (of.local k) Long m)
     -- each argument has its value, and can be found
     pub argument_read : (q : TreeProgram) (f : Extent) (fs : List Extent) (t : State) (k x : ℕ) (m : S) →
         of.agrees q f fs t m → slice_get t.running.arguments k ≡ Some x → of.reads (of.argument (k + 1)) Long m ≡ Some x

@@ -1,5 +1,6 @@
 -- What the lines do that save and reload: laws of a target.
 use Rattle.std.specs.Prelude.{◌≡◌, ℕ, ◌*◌, ◌^◌, ◌<◌, List, [], ◌∷◌, Some, Ok, true}
+use Rattle.gg_base.specs.declared.limits.TheConstants.{NEED_LIMIT}
 use Rattle.gg_base.specs.declared.size.Size.{Size}
 use Rattle.gg_base.specs.declared.size.Size.TheVariants.{Long}
 use Rattle.gg_base.specs.Sizes.{bytes_of, low}
@@ -57,7 +58,7 @@ module _ {O I S F : Type 0} (of : Meaning O I S F) where
   -- a word that is free, of the frame and of the words that an operand can name
   pub record IsSlot (f : Extent) (w : ℕ) : Type 0 where
     pub free : IsFree f (WordAt w)
-    pub low : w < 1024
+    pub low : w < NEED_LIMIT
 
   -- the line that saves in a word
   abbrev pub saving : TreeProgram → Line → Attr O → ℕ → List I
@@ -83,19 +84,19 @@ module _ {O I S F : Type 0} (of : Meaning O I S F) where
         of.fits kind.Ea o ≡ true → IsSet q f fs v n s.term m → IsSlot f w → of.names o Long m ≡ Some n → n < 2 ^ 32 →
         SetsName of (saving q l (attr.Ea o) w) (WordAt w) (of.slot_deferred w) (value v s.term) m
     pub reloaded : (q : TreeProgram) (f : Extent) (fs : List Extent) (l : Line) (s : Reloads l) (w r n : ℕ) (v : View) (m : S) →
-        r < 12 → w < 1024 → IsSet q f fs v n s.term m → of.reads (of.slot w) Long m ≡ Some n → n < 2 ^ 32 →
+        r < 12 → w < NEED_LIMIT → IsSet q f fs v n s.term m → of.reads (of.slot w) Long m ≡ Some n → n < 2 ^ 32 →
         Sets of (reloading q l w r) (RegAt r) q Long (attr.Reg r) (value v s.term) m
     -- the constants of a line's effect are longwords
     pub saved_narrow : (k : Kind) (l : Line) (e : EffectShape) → of.spill_effect k l ≡ Ok e → IsNarrowEffect e
     -- these lines are valid instructions
     pub value_written : (q : TreeProgram) (size : Size) (l : Line) (a : Attr O) (w : ℕ) →
-        of.can_write q → Saves (kind.Value size) l → IsValue size a → w < 1024
+        of.can_write q → Saves (kind.Value size) l → IsValue size a → w < NEED_LIMIT
         → of.is_instr (of.instr q l (a ∷ []) (attr.Place (of.slot w))) ≡ true
     pub place_written : (q : TreeProgram) (size : Size) (l : Line) (o : O) (w : ℕ) →
-        of.can_write q → Saves (kind.Place size) l → of.fits (kind.Place size) o ≡ true → w < 1024 →
+        of.can_write q → Saves (kind.Place size) l → of.fits (kind.Place size) o ≡ true → w < NEED_LIMIT →
         of.is_instr (of.instr q l (attr.Place o ∷ []) (attr.Place (of.slot w))) ≡ true
     pub address_written : (q : TreeProgram) (l : Line) (o : O) (w : ℕ) →
-        of.can_write q → Saves kind.Ea l → of.fits kind.Ea o ≡ true → w < 1024 →
+        of.can_write q → Saves kind.Ea l → of.fits kind.Ea o ≡ true → w < NEED_LIMIT →
         of.is_instr (of.instr q l (attr.Ea o ∷ []) (attr.Place (of.slot w))) ≡ true
     pub reload_written : (q : TreeProgram) (l : Line) (w r : ℕ) →
-        of.can_write q → Reloads l → r < 12 → w < 1024 → of.is_instr (of.instr q l (attr.Value (of.slot w) ∷ []) (attr.Reg r)) ≡ true
+        of.can_write q → Reloads l → r < 12 → w < NEED_LIMIT → of.is_instr (of.instr q l (attr.Value (of.slot w) ∷ []) (attr.Reg r)) ≡ true

@@ -2,6 +2,7 @@
 -- symbols' values, and with the memory and the last result of a tree state.
 use Rattle.std.specs.Prelude.{◌≡◌, ℕ, ◌+◌, ◌-◌, ◌<◌, Bool, true, Option, Some, None, IsSome, unwrap_or, slice_get}
 use Rattle.std.specs.Prelude.{slice_index, length}
+use Rattle.gg_base.specs.declared.limits.TheConstants.{AREA_START, NEED_LIMIT}
 use Rattle.gg_base.specs.declared.size.Size.{Size}
 use Rattle.gg_base.specs.declared.size.Size.TheVariants.{Long}
 use Rattle.gg_base.specs.Arithmetic.{add32}
@@ -26,12 +27,12 @@ pub record View : Type 0 where
   pub symbol : ℕ → Option ℕ
   pub state : State
 
--- the same for terms: the data area lies from address 65536 on
+-- the same for terms: the data area lies from address `AREA_START` on
 abbrev pub term_state : View → term.State
 term_state v = record {
   symbol = λ i. unwrap_or (v.symbol i) 0;
   last_result = v.state.running.result;
-  byte = λ a. slice_index v.state.area (a - 65536);
+  byte = λ a. slice_index v.state.area (a - AREA_START);
 }
 
 abbrev pub value : View → Shape → ℕ
@@ -103,7 +104,7 @@ module _ {O I S F : Type 0} (of : Meaning O I S F) where
 
   -- An operand stands for a place of a size: a local's and an argument's are longwords and have their own operands.
   pub data PlaceIs (f : Extent) (t : State) (m : S) (size : Size) (o : O) : (g : Place) → Type 0 where
-    local : (k : ℕ) → size ≡ Long → o ≡ of.local k → k < f.locals → k < 1024 → PlaceIs f t m size o (meaning.Local k)
+    local : (k : ℕ) → size ≡ Long → o ≡ of.local k → k < f.locals → k < NEED_LIMIT → PlaceIs f t m size o (meaning.Local k)
     argument : (k : ℕ) → size ≡ Long → o ≡ of.argument (k + 1) → k < length t.running.arguments
         → PlaceIs f t m size o (meaning.Argument (k + 1))
     memory : (a : ℕ) → of.names o size m ≡ Some a → PlaceIs f t m size o (meaning.Memory size a)

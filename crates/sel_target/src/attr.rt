@@ -7,7 +7,7 @@ use tree_core::Leaf;
 pub enum Attr<O> {
     /// The value of a register, by its number, from 0 to 11.
     Reg(u8),
-    /// The value of a register that was saved in the frame word with this number, below 1,024. Its symbol is still a register's.
+    /// The value of a register that was saved in the frame word with this number, below `NEED_LIMIT`. Its symbol is still a register's.
     InSlot(u32),
     /// The value that an operand reads.
     Value(O),

@@ -1,6 +1,7 @@
 // A machine, as the selection of instructions sees it: its calls, and the laws that they keep.
 
 ghost use Rattle.std.specs.Prelude.{◌≡◌, ◌<◌, IfOk, IfErr, Ok, true};
+ghost use Rattle.gg_base.specs.declared.limits.TheConstants.{NEED_LIMIT};
 ghost use Rattle.md_reader.specs.Valid.{IsRule, IsSpill};
 ghost use Rattle.sel_terms.specs.Effects.{effect_of};
 ghost use Rattle.sel_target.specs.Meaning.{Meaning};
@@ -68,12 +69,12 @@ pub trait Templates: Sized + Drop {
 
     /// The frame word with this number.
     fn slot(&self, word: u32) -> Self::Operand
-        requires { word < 1024 }
+        requires { word < NEED_LIMIT }
         ensures { result ≡ meaning.slot word };
 
     /// The place whose address the frame word with this number holds.
     fn slot_deferred(&self, word: u32) -> Self::Operand
-        requires { word < 1024 }
+        requires { word < NEED_LIMIT }
         ensures { result ≡ meaning.slot_deferred word };
 
     /// The registers on which an operand depends: bit N for register N, from 0 to 11.

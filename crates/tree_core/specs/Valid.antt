@@ -3,6 +3,7 @@ use Rattle.std.specs.Prelude.{◌⊎◌, ◌≡◌, ℕ, ◌+◌, ◌-◌, ◌*�
 use Rattle.std.specs.Prelude.{◌∷◌, Option, Some, None, Bool, true, false, cond, length, codes, slice_get, IsTrue}
 use Rattle.std.specs.List.{All, AllPass, AllPairs, flat_map}
 use Rattle.std.specs.Str.{bytes_eq}
+use Rattle.gg_base.specs.declared.limits.TheConstants.{AREA_LIMIT, AREA_START}
 use Rattle.tree_core.specs.declared.token.AttKind.{AttKind}
 use Rattle.tree_core.specs.declared.token.AttKind.TheVariants as att_kind
 use Rattle.tree_core.specs.declared.token.Sort.TheVariants as sort
@@ -84,7 +85,7 @@ is_whole o = length o.bytes == o.size
 
 -- it lies at the next address of its alignment, and ends within the longest data area
 abbrev pub is_placed : ℕ → Object → Bool
-is_placed at o = (o.address == rounded o.align at) && nat_le (o.address + o.size) (65536 + 1048576)
+is_placed at o = (o.address == rounded o.align at) && nat_le (o.address + o.size) (AREA_START + AREA_LIMIT)
 
 abbrev pub object_lies : ℕ → Object → Bool
 object_lies at o = is_aligned o && (is_whole o && is_placed at o)
@@ -144,5 +145,5 @@ pub record IsValid (p : TreeProgram) : Type 0 where
   -- as many pushes as its count stand directly before each call, and no push elsewhere; each save stands directly behind a call
   pub calls : All PushesStand p.functions
   -- the objects lie in the data area as they are laid out, and their links in them
-  pub objects : IsTrue (objects_lie 65536 p.objects)
+  pub objects : IsTrue (objects_lie AREA_START p.objects)
   pub links : All (LinksLie (length p.objects)) p.objects

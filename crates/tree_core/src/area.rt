@@ -1,4 +1,4 @@
-// The data area: bytes from the address 65,536 on, little-endian, unaligned accesses allowed.
+// The data area: bytes from the address `AREA_START` on, little-endian, unaligned accesses allowed.
 
 ghost use Rattle.std.specs.Prelude.{◌≡◌, ◌++◌, IfOk, OnOk, unwrap_or, replicate};
 ghost use Rattle.tree_core.specs.Area.{is_inside, fetched, stored, bytes_from, opening};

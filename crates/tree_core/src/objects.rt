@@ -3,6 +3,7 @@
 ghost use Rattle.std.specs.Prelude.{◌≡◌, ◌↔◌, ◌<◌, ◌≤◌, ◌^◌, ◌+◌, IsTrue, IfSome, None, false, not, is_some, length};
 ghost use Rattle.std.specs.Bool.{OnTrue};
 ghost use Rattle.std.specs.List.{All, AllPass};
+ghost use Rattle.gg_base.specs.declared.limits.TheConstants.{AREA_START};
 ghost use Rattle.tree_core.specs.Valid.{object_lies, objects_lie, link_lies, four, bytes_linked, BytesApart, LinksApart, LinksLie};
 ghost use Rattle.tree_core.specs.Window.{has, added, met_once, MetOnce, least};
 
@@ -12,7 +13,7 @@ use gg_base::limits::{AREA_LIMIT, AREA_START};
 
 /// Whether the objects lie one behind another, each at the next address of its alignment.
 pub(crate) fn objects_lie(objects: &[Object]) -> bool
-    ensures { result ≡ objects_lie 65536 objects.now }
+    ensures { result ≡ objects_lie AREA_START objects.now }
 {
     let mut at = u64::from(AREA_START);
     for object in objects {

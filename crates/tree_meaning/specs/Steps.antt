@@ -1,6 +1,7 @@
 -- One tree is one step of a run: plain data, by the program and the state in which the tree is done.
 use Rattle.std.specs.Prelude.{ℕ, ◌+◌, ◌-◌, ◌%◌, ◌^◌, ◌==◌, nat_lt, List, [], ◌∷◌, Option, Some, None, cond, length}
 use Rattle.std.specs.Prelude.{take, drop, slice_get, slice_set}
+use Rattle.gg_base.specs.declared.limits.TheConstants.{ACTIVE_CALL_LIMIT}
 use Rattle.gg_base.specs.Relations.{holds}
 use Rattle.tree_core.specs.declared.program.TreeFn.{TreeFn}
 use Rattle.tree_core.specs.declared.program.TreeProgram.{TreeProgram}
@@ -66,9 +67,9 @@ put s (Local k) n = Goes (with_local_set s k n)
 put s (Argument k) n = Goes (with_argument_set s k n)
 put s (Memory size address) n = put_in s (stored size s.area address n)
 
--- a function of the program begins, unless 1,024 calls are active
+-- a function of the program begins, unless `ACTIVE_CALL_LIMIT` calls are active
 abbrev pub entered : State → TreeFn → List ℕ → Step
-entered s g arguments = cond (nat_lt (1 + length s.callers) 1024) (Enters g arguments s) (Ends finish.Deep)
+entered s g arguments = cond (nat_lt (1 + length s.callers) ACTIVE_CALL_LIMIT) (Enters g arguments s) (Ends finish.Deep)
 
 -- putchar writes the low byte of its argument and answers it
 abbrev pub wrote : State → Option ℕ → Step

@@ -177,7 +177,7 @@ impl<'a> Machine<'a> {
         }
     }
 
-    // A function of the program begins, unless 1,024 calls are active.
+    // A function of the program begins, unless `ACTIVE_CALL_LIMIT` calls are active.
     fn enter(
         &mut self,
         alloc: Global,

@@ -1,6 +1,7 @@
 -- The codes that an assembly text can be written of.
 use Rattle.std.specs.Prelude.{ℕ, ◌^◌, Bool, true, false, not, ◌==◌, ◌&&◌, ◌||◌, nat_lt, nat_le, List, [], ◌∷◌, length, Option, Some, None}
 use Rattle.std.specs.List.{list_all}
+use Rattle.gg_base.specs.declared.limits.TheConstants.{AREA_LIMIT}
 use Rattle.gg_base.specs.Names.{is_name_part}
 use Rattle.vax_core.specs.declared.register.Reg.{Reg}
 use Rattle.vax_core.specs.declared.operand.Addr.{Addr}
@@ -121,7 +122,7 @@ is_area_item (areas.Align k) = nat_le k 2
 is_area_item (areas.Byte n) = nat_lt n (2 ^ 8)
 is_area_item (areas.Word n) = nat_lt n (2 ^ 16)
 is_area_item (areas.Long a) = is_addr a
-is_area_item (areas.Space n) = nat_le 1 n && nat_le n 1048576
+is_area_item (areas.Space n) = nat_le 1 n && nat_le n AREA_LIMIT
 
 abbrev pub is_code_item : CodeItem → Bool
 is_code_item (item_kind.Label name) = is_name name

@@ -1,5 +1,6 @@
 // Where a frame's words and arguments stand.
 ghost use Rattle.std.specs.Prelude.{◌≡◌, ◌≤◌, ◌<◌};
+ghost use Rattle.gg_base.specs.declared.limits.TheConstants.{NEED_LIMIT};
 ghost use Rattle.vax_core.specs.Homes.{word_addr, home, at_home, argument_home};
 
 use crate::{Addr, Base, Operand, Reg};
@@ -7,7 +8,7 @@ use gg_base::w32;
 
 // How far word k of a frame lies from its fp.
 fn word_addr(k: u32) -> Addr
-    requires { k < 1024 }
+    requires { k < NEED_LIMIT }
     ensures { result ≡ word_addr k }
 {
     Addr {
@@ -19,7 +20,7 @@ fn word_addr(k: u32) -> Addr
 impl Operand {
     /// The home of local k, which is word k of its frame: `-4(k+1)(fp)`.
     pub fn home(k: u32) -> Self
-        requires { k < 1024 }
+        requires { k < NEED_LIMIT }
         ensures { result ≡ home k }
     {
         Operand {
@@ -30,7 +31,7 @@ impl Operand {
 
     /// Memory at the address that stands in word k of the frame: `*-4(k+1)(fp)`.
     pub fn at_home(k: u32) -> Self
-        requires { k < 1024 }
+        requires { k < NEED_LIMIT }
         ensures { result ≡ at_home k }
     {
         Operand {

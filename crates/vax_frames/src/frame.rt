@@ -1,5 +1,6 @@
 // The code of a function.
 ghost use Rattle.std.specs.Prelude.{◌≡◌, ◌*◌, ◌≤◌, ◌<◌, ◌++◌, [], ◌∷◌, None, IfOk};
+ghost use Rattle.gg_base.specs.declared.limits.TheConstants.{NEED_LIMIT};
 ghost use Rattle.tree_core.specs.Names.{function_label};
 ghost use Rattle.vax_core.specs.Homes as homes;
 ghost use Rattle.vax_core.specs.declared.op.Op.TheVariants.{Subl2, Clrl, Ret};
@@ -17,7 +18,7 @@ use vax_core::{Addr, Base, CodeItem, Instr, Op, Operand, Operands, Reg};
 
 /// The home of a local: `-4(k+1)(fp)` for local k.
 pub fn home(local: u32) -> Operand
-    requires { local < 1024 }
+    requires { local < NEED_LIMIT }
     ensures { result ≡ homes.home local }
 {
     Operand::home(local)
@@ -83,7 +84,7 @@ fn ret(alloc: Global) -> CodeItem
 // What stands before the body.
 #[tactic(auto, using(crate::proofs::HeadLaws::no_room, crate::proofs::HeadLaws::some_room))]
 fn frame_head(alloc: Global, name: &Name, mask: u16, words: u32) -> Result<Vec<CodeItem>, NoMemory>
-    requires { words ≤ 1024 }
+    requires { words ≤ NEED_LIMIT }
     ensures { IfOk result (λ head. head.items ≡ frame_head (function_label name.now) mask words) }
 {
     let mut head = Vec::new(alloc);
@@ -106,7 +107,7 @@ pub fn frame_code(
     body: Vec<CodeItem>,
     words: u32,
 ) -> Result<Vec<CodeItem>, NoMemory>
-    requires { words ≤ 1024 }
+    requires { words ≤ NEED_LIMIT }
     ensures { IfOk result (λ code. IsFrameCode f.now.name words body.items code.items) }
 {
     let mask = entry_mask(&body);

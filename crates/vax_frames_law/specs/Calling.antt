@@ -1,5 +1,6 @@
 -- Frames of the compiled program's calls.
 use Rattle.std.specs.Prelude.{◌≡◌, ℕ, ◌+◌, ◌%◌, ◌^◌, ◌<◌, ◌≤◌, List, ◌∷◌, take, drop, slice_get, slice_index, Option, Some}
+use Rattle.gg_base.specs.declared.limits.TheConstants.{NEED_LIMIT}
 use Rattle.vax_machine_live.specs.declared.frame.Frame.{Frame}
 use Rattle.vax_core.specs.declared.code.CodeItem.{CodeItem}
 use Rattle.vax_core.specs.declared.code.CodeItem.TheVariants as item_kind
@@ -32,7 +33,7 @@ pub record HasFrame (code : List CodeItem) (label : List ℕ) (locals : ℕ) : T
   pub mask : ℕ
   pub entry : ℕ
   pub enough : locals ≤ words
-  pub few : words ≤ 1024
+  pub few : words ≤ NEED_LIMIT
   pub is_mask : IsMask mask
   pub entry_is : next_item code (label_place code label) ≡ entry
   pub mask_there : slice_get code entry ≡ Some (item_kind.Mask mask)

@@ -1,5 +1,6 @@
 -- Calls and returns of a compiled program's functions.
 use Rattle.std.specs.Prelude.{◌≡◌, ℕ, ◌+◌, ◌^◌, ◌<◌, ◌≤◌, List, [], ◌∷◌, ◌++◌, length, slice_index, Option, Some, None, Ok, Err}
+use Rattle.gg_base.specs.declared.limits.TheConstants.{STACK_START}
 use Rattle.vax_core.specs.declared.register.Reg.TheVariants.{R0, Sp}
 use Rattle.vax_core.specs.declared.code.CodeItem.{CodeItem}
 use Rattle.vax_machine_live.specs.declared.frame.Frame.{Frame}
@@ -18,10 +19,10 @@ use Rattle.vax_machine_lists.specs.Runs.{Leads}
 use Rattle.vax_frames_law.specs.Calling.{with_call, HasFrame, IsMadeIn}
 use Rattle.vax_frames.specs.Frames.{room_code}
 
--- room for a whole call: about two million bytes, which are left as long as at most 1,024 calls are active
+-- room for a whole call: about two million bytes, which are left as long as at most `ACTIVE_CALL_LIMIT` calls are active
 pub record IsRoomy (m : State) : Type 0 where
   pub room : HasRoom m
-  pub wide : 2139095040 + 2000000 ≤ reg m Sp
+  pub wide : STACK_START + 2000000 ≤ reg m Sp
 
 -- The function's frame is made in a state, and behind the frame's instructions its body begins.
 pub record Begins (objects : List Object) (code : List CodeItem) (g : TreeFn)

@@ -60,7 +60,7 @@ pub fn frame_codes_keep_within()
     ensures { FrameCodesKeepWithin }
 {}
 
-/// The law: the code of a function can be written where its body can, its label is a name and it has at most 1,024 words.
+/// The law: the code of a function can be written where its body can, its label is a name and it has at most `NEED_LIMIT` words.
 pub fn frame_codes_are_valid()
     ensures { FrameCodesAreValid }
 {}

@@ -1,6 +1,7 @@
 -- Whether a code can be run, as tests that compute: each name is defined for its use.
 use Rattle.std.specs.Prelude.{ℕ, Bool, true, ◌&&◌, nat_le, List, Option, Some, None, is_none, if◌then◌else◌}
 use Rattle.std.specs.List.{list_all}
+use Rattle.gg_base.specs.declared.limits.TheConstants.{AREA_LIMIT}
 use Rattle.vax_core.specs.declared.operand.Operand.{Operand}
 use Rattle.vax_core.specs.declared.code.Instr.{Instr}
 use Rattle.vax_core.specs.declared.code.AreaItem.{AreaItem}
@@ -38,4 +39,4 @@ names_stand layout items = list_all (area_stands layout) layout && list_all (ite
 
 -- the tests of a code in which no label stands twice
 abbrev pub may_run : List AreaItem → List CodeItem → Bool
-may_run layout items = names_stand layout items && (has_label items main_name && nat_le (area_size layout) 1048576)
+may_run layout items = names_stand layout items && (has_label items main_name && nat_le (area_size layout) AREA_LIMIT)

@@ -1,6 +1,7 @@
 // Whether a data area is small enough.
 ghost use Rattle.std.specs.Prelude.{◌≡◌, ◌≤◌, true, nat_le};
 ghost use Rattle.std.specs.List.{list_all};
+ghost use Rattle.gg_base.specs.declared.limits.TheConstants.{AREA_LIMIT};
 ghost use Rattle.vax_core.specs.Valid.{is_area_item};
 ghost use Rattle.vax_machine.specs.Area.{padding, size_at, area_size};
 
@@ -24,7 +25,7 @@ fn padding(power: u8, at: u32) -> u32
 fn size_at(item: &AreaItem, at: u32) -> u32
     requires { is_area_item item.now ≡ true }
     ensures size { result ≡ size_at item.now at }
-    ensures bound { result ≤ 1048576 }
+    ensures bound { result ≤ AREA_LIMIT }
 {
     match item {
         AreaItem::Label(_) | AreaItem::Globl(_) => 0,
@@ -36,10 +37,10 @@ fn size_at(item: &AreaItem, at: u32) -> u32
     }
 }
 
-/// Whether a data area has at most 1,048,576 bytes.
+/// Whether a data area has at most `AREA_LIMIT` bytes.
 pub fn fits(items: &[AreaItem]) -> bool
     requires { list_all is_area_item items.now ≡ true }
-    ensures { result ≡ nat_le (area_size items.now) 1048576 }
+    ensures { result ≡ nat_le (area_size items.now) AREA_LIMIT }
 {
     let mut end = AREA_START;
     for item in items {

@@ -1,8 +1,9 @@
--- The data area: how its items are laid out from 65,536 on, what its labels stand for, and its bytes.
+-- The data area: how its items are laid out from `AREA_START` on, what its labels stand for, and its bytes.
 use Rattle.std.specs.Prelude.{ℕ, ◌+◌, ◌-◌, ◌%◌, ◌^◌, Bool, false, List, [], ◌∷◌, ◌++◌, replicate, Option, Some, None, if◌then◌else◌}
 use Rattle.std.specs.List.{list_any}
 use Rattle.std.specs.Int.{w16, w32, to_le_bytes}
 use Rattle.std.specs.Str.{bytes_eq}
+use Rattle.gg_base.specs.declared.limits.TheConstants.{AREA_START}
 use Rattle.gg_base.specs.Arithmetic.{add32}
 use Rattle.vax_core.specs.declared.operand.Addr.{Addr}
 use Rattle.vax_core.specs.declared.code.AreaItem.{AreaItem}
@@ -33,7 +34,7 @@ end_from (item ∷ rest) at = end_from rest (at + size_at item at)
 
 -- the size of the data area
 abbrev pub area_size : List AreaItem → ℕ
-area_size layout = end_from layout 65536 - 65536
+area_size layout = end_from layout AREA_START - AREA_START
 
 abbrev pub is_area_label : AreaItem → List ℕ → Bool
 is_area_label (areas.Label n) name = bytes_eq n name
@@ -54,7 +55,7 @@ address_from (item ∷ rest) at name = if is_area_label item name then at else a
 
 -- the address that a label of the data area stands for
 abbrev pub label_address : List AreaItem → List ℕ → ℕ
-label_address layout name = address_from layout 65536 name
+label_address layout name = address_from layout AREA_START name
 
 abbrev pub resolved_of : List AreaItem → Option (List ℕ) → ℕ → ℕ
 resolved_of layout None offset = offset
@@ -80,4 +81,4 @@ bytes_from layout (item ∷ rest) at = item_bytes layout item at ++ bytes_from l
 
 -- the bytes of the data area as a run begins
 abbrev pub area_bytes : List AreaItem → List ℕ
-area_bytes layout = bytes_from layout layout 65536
+area_bytes layout = bytes_from layout layout AREA_START

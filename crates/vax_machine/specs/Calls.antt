@@ -3,6 +3,7 @@ use Rattle.std.specs.Prelude.{ℕ, zero, suc, ◌+◌, ◌-◌, ◌/◌, ◌%◌
 use Rattle.std.specs.Prelude.{slice_index, slice_set, slice_get, Option, Some, None, Result, Ok, Err, if◌then◌else◌}
 use Rattle.std.specs.Str.{bytes_eq}
 use Rattle.std.specs.Int.RustNames.{count_ones}
+use Rattle.gg_base.specs.declared.limits.TheConstants.{FRAME_LIMIT}
 use Rattle.gg_base.specs.declared.size.Size.TheVariants.{Byte, Long}
 use Rattle.gg_base.specs.Arithmetic.{add32, sub32, mul32}
 use Rattle.vax_core.specs.declared.register.Reg.TheVariants.{R0, Fp, Sp}
@@ -48,7 +49,7 @@ entry_mask (Some (item_kind.Instr i)) = None
 -- one more frame is live, and execution goes on behind the mask
 abbrev pub entered : State → ℕ → ℕ → ℕ → ℕ → Option ℕ → Result State Stop
 entered m ap top mask behind back =
-    if nat_le 4096 (length m.frames) then Err stack_full
+    if nat_le FRAME_LIMIT (length m.frames) then Err stack_full
     else Ok (record m {
       frames = m.frames ++ record { fp = reg m Sp; top = top; ap = ap; mask = mask; saved = m.registers; back = back } ∷ [];
       registers = slice_set (slice_set m.registers 13 (reg m Sp)) 12 ap;

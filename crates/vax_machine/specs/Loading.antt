@@ -1,6 +1,7 @@
 -- When a code can be run, and where its run begins.
 use Rattle.std.specs.Prelude.{◌≡◌, ℕ, nat_lt, List, [], ◌∷◌, Option, Some, None, Result, Ok, Err, if◌then◌else◌}
 use Rattle.std.specs.Option.{option_or}
+use Rattle.gg_base.specs.declared.limits.TheConstants.{AREA_LIMIT, STACK_SIZE, STACK_TOP}
 use Rattle.vax_core.specs.declared.code.Code.{Code}
 use Rattle.vax_core.specs.First.{main_name}
 use Rattle.vax_machine.specs.declared.turn.Stop.{Stop}
@@ -15,9 +16,9 @@ use Rattle.vax_machine.specs.Labels.{undefined_label, undefined_area_label}
 use Rattle.vax_machine.specs.Calls.{called}
 use Rattle.vax_machine.specs.View.{state}
 
--- the data area may have 1,048,576 bytes
+-- the data area may have `AREA_LIMIT` bytes
 abbrev pub too_large : Code → Option LoadFault
-too_large c = if nat_lt 1048576 (area_size c.area) then Some loading_fault.TooLarge else None
+too_large c = if nat_lt AREA_LIMIT (area_size c.area) then Some loading_fault.TooLarge else None
 
 abbrev pub no_main : Code → Option LoadFault
 no_main c = if has_label c.items main_name then too_large c else Some loading_fault.NoMain
@@ -53,10 +54,10 @@ blank c input = record {
   layout = c.area;
   items = c.items;
   place = 0;
-  registers = 0 ∷ (0 ∷ (0 ∷ (0 ∷ (0 ∷ (0 ∷ (0 ∷ (0 ∷ (0 ∷ (0 ∷ (0 ∷ (0 ∷ (0 ∷ (0 ∷ (2147483648 ∷ []))))))))))))));
+  registers = 0 ∷ (0 ∷ (0 ∷ (0 ∷ (0 ∷ (0 ∷ (0 ∷ (0 ∷ (0 ∷ (0 ∷ (0 ∷ (0 ∷ (0 ∷ (0 ∷ (STACK_TOP ∷ []))))))))))))));
   conditions = cleared;
   area = area_bytes c.area;
-  stack = zeros 8388608;
+  stack = zeros STACK_SIZE;
   frames = [];
   input = input;
   over = None;

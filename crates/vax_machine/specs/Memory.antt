@@ -1,6 +1,7 @@
 -- Memory: the data area and the stack, addressed by bytes, little-endian, unaligned accesses allowed. The control words
 -- of live frames take room in the stack and may not be touched.
 use Rattle.std.specs.Prelude.{ℕ, ◌+◌, ◌-◌, ◌%◌, ◌^◌, ◌&&◌, ◌==◌, nat_lt, nat_le, length, Result, Ok, Err, if◌then◌else◌}
+use Rattle.gg_base.specs.declared.limits.TheConstants.{AREA_START, STACK_START, STACK_TOP}
 use Rattle.gg_base.specs.declared.size.Size.{Size}
 use Rattle.gg_base.specs.declared.size.Size.TheVariants.{Byte, Word, Long}
 use Rattle.gg_base.specs.Sizes.{bytes_of}
@@ -13,12 +14,13 @@ use Rattle.vax_machine.specs.declared.memory.Region.{Region}
 use Rattle.vax_machine.specs.declared.memory.Region.TheVariants as regions
 use Rattle.vax_machine.specs.State.{State, with_reg, access, frame, stack_full, ◌>>=◌}
 
--- where the bytes from an address on are kept: the data area begins at 65536, the stack lies from 2139095040 to 2147483648
+-- where the bytes from an address on are kept: the data area begins at `AREA_START`, the stack lies from `STACK_START` to `STACK_TOP`
 unfoldable pub touched : State → ℕ → Size → Result Region Stop
 touched m address size =
-    if nat_le 65536 address && nat_le (address + bytes_of size) (65536 + length m.area) then Ok (regions.Area (address - 65536))
-    else if nat_le 2139095040 address && nat_le (address + bytes_of size) 2147483648 then
-    (if in_control m.frames address (bytes_of size) then Err frame else Ok (regions.Stack (address - 2139095040)))
+    if nat_le AREA_START address && nat_le (address + bytes_of size) (AREA_START + length m.area) then
+    Ok (regions.Area (address - AREA_START))
+    else if nat_le STACK_START address && nat_le (address + bytes_of size) STACK_TOP then
+    (if in_control m.frames address (bytes_of size) then Err frame else Ok (regions.Stack (address - STACK_START)))
     else Err access
 
 abbrev pub number_at : State → Size → Region → ℕ
@@ -39,7 +41,7 @@ written m address size v = touched m address size >>= λ (r : Region). Ok (with_
 
 -- the state with a register set; the stack pointer may not be set under the stack's bottom
 unfoldable pub register_set : State → Reg → ℕ → Result State Stop
-register_set m r v = if reg_number r == 14 && nat_lt v 2139095040 then Err stack_full else Ok (with_reg m r v)
+register_set m r v = if reg_number r == 14 && nat_lt v STACK_START then Err stack_full else Ok (with_reg m r v)
 
 -- a number over the low part of another
 abbrev pub merged : Size → ℕ → ℕ → ℕ

@@ -1,6 +1,7 @@
 // The data area: where its items lie, and its bytes.
 ghost use Rattle.std.specs.Prelude.{◌≡◌, ◌+◌, ◌-◌, ◌≤◌, ◌<◌, ◌++◌, true, length, vec_len, IfOk, IfSome, IfNone, OnOk, IsNone};
 ghost use Rattle.std.specs.List.{list_all};
+ghost use Rattle.gg_base.specs.declared.limits.TheConstants.{AREA_LIMIT};
 ghost use Rattle.vax_core.specs.Valid.{is_area_item};
 ghost use Rattle.vax_machine.specs.Area.{zeros, padding, size_at, area_size, label_address, resolved, resolved_of, item_bytes, area_bytes};
 ghost use Rattle.vax_machine.specs.LaidOut.{IsLaidOut};
@@ -54,7 +55,7 @@ fn padding(k: u8, at: u32) -> u32
 fn size_at(item: &AreaItem, at: u32) -> u32
     requires { is_area_item item.now ≡ true }
     ensures size { result ≡ size_at item.now at }
-    ensures bound { result ≤ 1048576 }
+    ensures bound { result ≤ AREA_LIMIT }
 {
     match item {
         AreaItem::Label(_) | AreaItem::Globl(_) => 0,
@@ -70,7 +71,7 @@ fn size_at(item: &AreaItem, at: u32) -> u32
 pub(crate) fn lay_out(alloc: Global, items: &[AreaItem]) -> Result<Option<Layout>, AllocError>
     requires { list_all is_area_item items.now ≡ true }
     ensures laid { IfOk result (λ o. IfSome o (IsLaidOut items.now)) }
-    ensures large { IfOk result (λ o. IsNone o → 1048576 < area_size items.now) }
+    ensures large { IfOk result (λ o. IsNone o → AREA_LIMIT < area_size items.now) }
 {
     let mut addresses = Vec::new(alloc);
     let mut at = AREA_START;
@@ -126,7 +127,7 @@ impl<'b, 'a> Laid<'b, 'a> {
     pub(crate) fn area_bytes(&self, alloc: Global) -> Result<Vec<u8>, AllocError>
         requires { list_all is_area_item self.now.names.now.layout.now ≡ true }
         ensures bytes { IfOk result (λ v. v.items ≡ area_bytes self.now.names.now.layout.now) }
-        ensures bound { IfOk result (λ v. vec_len v ≤ 1048576) }
+        ensures bound { IfOk result (λ v. vec_len v ≤ AREA_LIMIT) }
     {
         let mut bytes = Vec::new(alloc);
         let mut at = AREA_START;

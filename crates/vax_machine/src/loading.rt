@@ -22,7 +22,7 @@ pub enum LoadFault {
     UndefinedLabel(Name),
     /// No label of the code is `_main`.
     NoMain,
-    /// The data area is longer than 1,048,576 bytes.
+    /// The data area is longer than `AREA_LIMIT` bytes.
     TooLarge,
 }
 

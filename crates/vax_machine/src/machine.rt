@@ -1,5 +1,6 @@
 // The machine's state and its step.
 ghost use Rattle.std.specs.Prelude.{◌≡◌, ◌≤◌, vec_len};
+ghost use Rattle.gg_base.specs.declared.limits.TheConstants.{AREA_LIMIT, STACK_SIZE};
 
 use crate::function::{Action, Computed, Conditions, Function, Test, action_of};
 use crate::operands::{Arguments, Destination};
@@ -22,8 +23,8 @@ pub struct Machine<'a> {
     pub(crate) frames: Frames,
     pub(crate) input: &'a [u8],
     pub(crate) over: Option<Stop>,
-    ghost whole_stack: { vec_len stack ≡ 8388608 },
-    ghost area_bound: { vec_len area ≤ 1048576 },
+    ghost whole_stack: { vec_len stack ≡ STACK_SIZE },
+    ghost area_bound: { vec_len area ≤ AREA_LIMIT },
 }
 
 impl<'a> Machine<'a> {

@@ -1,6 +1,7 @@
 -- What holds of a machine's state as long as its run goes on.
 use Rattle.std.specs.Prelude.{◌≡◌, ℕ, ◌^◌, ◌<◌, ◌≤◌, true, List, [], ◌∷◌, length, None}
 use Rattle.std.specs.List.{list_all}
+use Rattle.gg_base.specs.declared.limits.TheConstants.{AREA_LIMIT, STACK_SIZE}
 use Rattle.vax_core.specs.declared.code.Code.{Code}
 use Rattle.vax_core.specs.Valid.{is_code_item, is_code}
 use Rattle.vax_machine_live.specs.declared.frame.Frame.{Frame}
@@ -19,9 +20,9 @@ pub record IsSound (m : State) : Type 0 where
   pub going : m.over ≡ None
   pub registers : length m.registers ≡ 15
   pub longwords : AllBelow (2 ^ 32) m.registers
-  pub stack : length m.stack ≡ 8388608
+  pub stack : length m.stack ≡ STACK_SIZE
   pub stack_bytes : AllBelow 256 m.stack
-  pub area : length m.area ≤ 1048576
+  pub area : length m.area ≤ AREA_LIMIT
   pub area_bytes : AllBelow 256 m.area
   pub input_bytes : AllBelow 256 m.input
 

@@ -1,7 +1,8 @@
--- Which frame each longword of the stack belongs to. The stack begins at 2139095040 and ends at 2147483648. Its longwords are numbered from
--- the end down: the one at place n begins at 2147483648 - 4 * (n + 1).
+-- Which frame each longword of the stack belongs to. The stack begins at `STACK_START` and ends at `STACK_TOP`. Its longwords are numbered
+-- from the end down: the one at place n begins at `STACK_TOP` - 4 * (n + 1).
 use Rattle.std.specs.Prelude.{◌≡◌, ◌+◌, ◌*◌, ◌%◌, ◌≤◌, ◌<◌, ℕ, false, List, Some, slice_get, slice_index, length, vec_capacity}
 use Rattle.std.specs.Global.{Vec}
+use Rattle.gg_base.specs.declared.limits.TheConstants.{FRAME_LIMIT, STACK_START, STACK_TOP}
 use Rattle.vax_machine_live.specs.declared.frame.Frame.{Frame}
 use Rattle.vax_machine_live.specs.Control.{in_control}
 
@@ -9,24 +10,24 @@ use Rattle.vax_machine_live.specs.Control.{in_control}
 pub record IsOwned (owners : List ℕ) (number : ℕ) (f : Frame) : Type 0 where
   pub long : f.fp + 4 ≤ f.top
   pub aligned : f.fp % 4 ≡ 0
-  pub kept : 2147483648 ≤ f.fp + 4 * length owners
+  pub kept : STACK_TOP ≤ f.fp + 4 * length owners
   pub owned :
-      (place : ℕ) → f.fp + 4 * (place + 1) ≤ 2147483648 → 2147483648 < f.top + 4 * (place + 1) → slice_index owners place ≡ number
+      (place : ℕ) → f.fp + 4 * (place + 1) ≤ STACK_TOP → STACK_TOP < f.top + 4 * (place + 1) → slice_index owners place ≡ number
 
 pub record AreOwned (frames : List Frame) (owners : List ℕ) : Type 0 where
   pub each : (number : ℕ) (f : Frame) → slice_get frames number ≡ Some f → IsOwned owners number f
 
--- what a machine keeps of its live frames: room for 4,096 of them and for the owner of each longword of the stack, and the owners
+-- what a machine keeps of its live frames: room for `FRAME_LIMIT` of them and for the owner of each longword of the stack, and the owners
 pub record AreKept (frames : Vec Frame) (owners : Vec ℕ) : Type 0 where
-  pub room : vec_capacity frames ≡ 4096
+  pub room : vec_capacity frames ≡ FRAME_LIMIT
   pub whole : vec_capacity owners ≡ 2097152
   pub owned : AreOwned frames.items owners.items
 
 -- control words from an address up to another lie in the stack, at multiples of 4, and none of them is a live frame's
 pub record HasRoom (frames : List Frame) (fp top : ℕ) : Type 0 where
-  pub low : 2139095040 ≤ fp
+  pub low : STACK_START ≤ fp
   pub long : fp + 4 ≤ top
-  pub high : top ≤ 2147483648
+  pub high : top ≤ STACK_TOP
   pub begins : fp % 4 ≡ 0
   pub ends : top % 4 ≡ 0
   pub free : (address : ℕ) → fp ≤ address → address < top → in_control frames address 1 ≡ false

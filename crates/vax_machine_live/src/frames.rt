@@ -1,6 +1,7 @@
 // All live frames, and which longwords of the stack hold their control words.
 ghost use Rattle.std.specs.Prelude.{◌≡◌, ℕ, ◌+◌, ◌-◌, ◌≤◌, ◌<◌, ◌++◌, [], ◌∷◌, length, take, slice_get, slice_index};
 ghost use Rattle.std.specs.Prelude.{vec_capacity, IfOk};
+ghost use Rattle.gg_base.specs.declared.limits.TheConstants.{FRAME_LIMIT, STACK_START, STACK_TOP};
 ghost use Rattle.vax_machine_live.specs.Control.{in_control};
 ghost use Rattle.vax_machine_live.specs.Owners.{AreOwned, HasRoom, Gives};
 
@@ -9,7 +10,7 @@ use gg_base::limits::{FRAME_LIMIT, STACK_SIZE, STACK_TOP};
 use std::alloc::{AllocError, Global};
 use std::marker::Model;
 
-/// The frames that are live, the innermost last, at most 4,096.
+/// The frames that are live, the innermost last, at most `FRAME_LIMIT`.
 #[derive(Drop)]
 pub struct Frames {
     held: Vec<Frame>,
@@ -55,7 +56,7 @@ fn give(owners: &mut [u16], first: usize, last: usize, number: u16)
 // Whether the byte of the stack at an address is a control word of one of these frames.
 fn is_control(frames: &[Frame], owners: &[u16], address: u32) -> bool
     requires owned { AreOwned frames.now owners.now }
-    requires high { address < 2147483648 }
+    requires high { address < STACK_TOP }
     ensures { result ≡ in_control frames.now address 1 }
 {
     let place = (STACK_TOP - 1 - address) as usize / 4;
@@ -102,7 +103,7 @@ impl Frames {
 
     /// Puts a frame inside the others. Its control words are in the stack, at multiples of 4, and none of theirs.
     pub fn push(&mut self, f: Frame)
-        requires few { length self.old < 4096 }
+        requires few { length self.old < FRAME_LIMIT }
         requires room { HasRoom self.old f.fp f.top }
         ensures { self.new ≡ self.old ++ f ∷ [] }
     {
@@ -116,10 +117,10 @@ impl Frames {
 
     /// Whether some of the `count` bytes of the stack from an address on, at most 4, are control words of a live frame.
     pub fn hold(&self, address: u32, count: u32) -> bool
-        requires low { 2139095040 ≤ address }
+        requires low { STACK_START ≤ address }
         requires some { 1 ≤ count }
         requires few { count ≤ 4 }
-        requires high { address + count ≤ 2147483648 }
+        requires high { address + count ≤ STACK_TOP }
         ensures { result ≡ in_control self.now address count }
     {
         let frames = self.held.as_slice();

@@ -1,6 +1,7 @@
 -- A line at the front is its one spelling, and each spelling is found.
 use Rattle.std.proofs.Common.{◌≡◌, ℕ, ◌^◌, ◌<◌, ◌≤◌, true, leb, List, ◌∷◌, ◌++◌, Option, Some, None, refl, sym, ap, subst, ◌∙◌, arith, append_assoc}
 use Rattle.std.specs.Prelude.{codes}
+use Rattle.gg_base.specs.declared.limits.TheConstants.{AREA_LIMIT}
 use Rattle.std.specs.Option.{option_map}
 use Rattle.std.specs.Fmt.{decimal}
 use Rattle.std.proofs.lemmas.Bool.{leb-true, ltb-true, le-leb, lt-ltb, and_parts}
@@ -88,12 +89,12 @@ number_takes word bytes rest limit y e f =
     let n = up_to_takes limit rest h.at h.is in
     (subst (λ (v : ℕ). v ≤ limit) h.same n.0, subst (λ (v : ℕ). bytes ≡ (word ++ decimal v ++ codes "\n") ++ y.1) h.same (counted_text word bytes rest h.at.0 h.at.1 y.1 e n.1 h.line))
 
-space_takes : (bytes rest : List ℕ) (y : ℕ × List ℕ) → strip (codes "\t.space\t") bytes ≡ Some rest → ended (from_one 1048576 rest) ≡ Some y → AreaAt bytes (areas.Space y.0, y.1)
+space_takes : (bytes rest : List ℕ) (y : ℕ × List ℕ) → strip (codes "\t.space\t") bytes ≡ Some rest → ended (from_one AREA_LIMIT rest) ≡ Some y → AreaAt bytes (areas.Space y.0, y.1)
 space_takes bytes rest y e f =
-    let h = ended_takes (from_one 1048576 rest) y f in
-    let n = from_one_takes 1048576 rest h.at h.is in
+    let h = ended_takes (from_one AREA_LIMIT rest) y f in
+    let n = from_one_takes AREA_LIMIT rest h.at h.is in
     subst (λ (v : ℕ). AreaAt bytes (areas.Space v, y.1)) h.same (record {
-      valid = rw (le-leb 1 h.at.0 n.0, le-leb h.at.0 1048576 n.1.0) refl;
+      valid = rw (le-leb 1 h.at.0 n.0, le-leb h.at.0 AREA_LIMIT n.1.0) refl;
       spelled = counted_text (codes "\t.space\t") bytes rest h.at.0 h.at.1 y.1 e n.1.1 h.line;
     })
 
@@ -119,8 +120,8 @@ unfolding counted_front
 counted_takes bytes x e =
     map_or_some (strip (codes "\t.byte\t") bytes) (λ (rest : List ℕ). option_map (area_item areas.Byte) (ended (up_to 255 rest))) _ x e
     (λ rest er more. map_some (area_item areas.Byte) (ended (up_to 255 rest)) x more (λ y ey is. subst (AreaAt bytes) is (byte_takes bytes rest y er ey)))
-    (λ e1. map_or_some (strip (codes "\t.space\t") bytes) (λ (rest : List ℕ). option_map (area_item areas.Space) (ended (from_one 1048576 rest))) _ x e1
-    (λ rest er more. map_some (area_item areas.Space) (ended (from_one 1048576 rest)) x more (λ y ey is. subst (AreaAt bytes) is (space_takes bytes rest y er ey)))
+    (λ e1. map_or_some (strip (codes "\t.space\t") bytes) (λ (rest : List ℕ). option_map (area_item areas.Space) (ended (from_one AREA_LIMIT rest))) _ x e1
+    (λ rest er more. map_some (area_item areas.Space) (ended (from_one AREA_LIMIT rest)) x more (λ y ey is. subst (AreaAt bytes) is (space_takes bytes rest y er ey)))
     (λ e2. map_or_some (strip (codes "\t.align\t") bytes) (λ (rest : List ℕ). option_map (area_item areas.Align) (ended (up_to 2 rest))) _ x e2
     (λ rest er more. map_some (area_item areas.Align) (ended (up_to 2 rest)) x more (λ y ey is. subst (AreaAt bytes) is (align_takes bytes rest y er ey)))
     (λ e3. option_and_then_some (λ (rest : List ℕ). option_map (area_item areas.Word) (ended (up_to 65535 rest))) (strip (codes "\t.word\t") bytes) x e3
@@ -172,9 +173,9 @@ align_again : (n : ℕ) (rest : List ℕ) → n ≤ 2 → counted_front ((codes 
 unfolding counted_front
 align_again n rest le = rw (append_assoc (decimal n) (codes "\n") rest, up_to_again 2 n (10 ∷ rest) (omega arith) le refl) refl
 
-space_again : (n : ℕ) (rest : List ℕ) → 1 ≤ n → n ≤ 1048576 → counted_front ((codes "\t.space\t" ++ decimal n ++ codes "\n") ++ rest) ≡ Some (areas.Space n, rest)
+space_again : (n : ℕ) (rest : List ℕ) → 1 ≤ n → n ≤ AREA_LIMIT → counted_front ((codes "\t.space\t" ++ decimal n ++ codes "\n") ++ rest) ≡ Some (areas.Space n, rest)
 unfolding counted_front
-space_again n rest one le = rw (append_assoc (decimal n) (codes "\n") rest, from_one_again 1048576 n (10 ∷ rest) (omega arith) one le refl) refl
+space_again n rest one le = rw (append_assoc (decimal n) (codes "\n") rest, from_one_again AREA_LIMIT n (10 ∷ rest) (omega arith) one le refl) refl
 
 -- a line that begins with a directive with a number is none of the others
 by_count : (bytes : List ℕ) (x : AreaItem × List ℕ) → named_front (codes ":\n") bytes ≡ None → strip (codes "\t.long\t") bytes ≡ None → strip (codes "\t.globl\t") bytes ≡ None
@@ -202,8 +203,8 @@ area_again (areas.Byte n) rest h = by_count _ (areas.Byte n, rest) (no_label _) 
 area_again (areas.Word n) rest h = by_count _ (areas.Word n, rest) (no_label _) refl refl (word_again n rest (ltb-true n (2 ^ 16) h))
 area_again (areas.Long a) rest h = long_again a rest (record { valid = h; spelled = refl })
 area_again (areas.Space n) rest h =
-    let p = and_parts (leb 1 n) (leb n 1048576) h in
-    by_count _ (areas.Space n, rest) (no_label _) refl refl (space_again n rest (leb-true 1 n p.0) (leb-true n 1048576 p.1))
+    let p = and_parts (leb 1 n) (leb n AREA_LIMIT) h in
+    by_count _ (areas.Space n, rest) (no_label _) refl refl (space_again n rest (leb-true 1 n p.0) (leb-true n AREA_LIMIT p.1))
 
 -- the code
 

@@ -2,6 +2,7 @@
 use Rattle.std.specs.Prelude.{ℕ, Bool, true, false, not, ◌==◌, ◌||◌, List, [], ◌∷◌, ◌++◌, take, drop, Option}
 use Rattle.std.specs.Prelude.{Some, None, if◌then◌else◌, codes}
 use Rattle.std.specs.Option.{option_and_then, option_map, option_map_or}
+use Rattle.gg_base.specs.declared.limits.TheConstants.{AREA_LIMIT}
 use Rattle.gg_base.specs.Fronts.{run_len}
 use Rattle.vax_core.specs.declared.operand.Operand.{Operand}
 use Rattle.vax_core.specs.declared.op.Op.{Op}
@@ -95,7 +96,7 @@ code_item item x = (item x.0, x.1)
 unfoldable pub counted_front : List ℕ → Option (AreaItem × List ℕ)
 counted_front bytes =
     option_map_or (λ (rest : List ℕ). option_map (area_item areas.Byte) (ended (up_to 255 rest))) (strip (codes "\t.byte\t") bytes)
-    (option_map_or (λ (rest : List ℕ). option_map (area_item areas.Space) (ended (from_one 1048576 rest)))
+    (option_map_or (λ (rest : List ℕ). option_map (area_item areas.Space) (ended (from_one AREA_LIMIT rest)))
     (strip (codes "\t.space\t") bytes)
     (option_map_or (λ (rest : List ℕ). option_map (area_item areas.Align) (ended (up_to 2 rest))) (strip (codes "\t.align\t") bytes)
     (option_and_then (λ (rest : List ℕ). option_map (area_item areas.Word) (ended (up_to 65535 rest))) (strip (codes "\t.word\t") bytes))))

@@ -1,5 +1,6 @@
 -- When a state of the machine stands for a state of a tree program.
 use Rattle.std.specs.Prelude.{◌≡◌, ℕ, ◌+◌, ◌<◌, ◌≤◌, List, [], ◌∷◌, ◌++◌, length, slice_get, Some}
+use Rattle.gg_base.specs.declared.limits.TheConstants.{FRAME_LIMIT, STACK_START}
 use Rattle.vax_core.specs.declared.register.Reg.TheVariants.{R0, Ap, Fp, Sp}
 use Rattle.vax_machine_live.specs.declared.frame.Frame.{Frame}
 use Rattle.vax_machine.specs.State.{State, reg}
@@ -30,7 +31,7 @@ pub record Agrees (objects : List Object) (e : Extent) (es : List Extent) (t : T
   pub running : Holds m.stack innermost e t.running (reg m Sp) high
   pub callers : Hold m.stack outer es t.callers high
   -- sp lies in the stack
-  pub bottom : 2139095040 ≤ reg m Sp
+  pub bottom : STACK_START ≤ reg m Sp
 
 -- directly behind a call r0 is its result
 abbrev pub HasResult : Trees → State → Type 0
@@ -38,5 +39,5 @@ HasResult t m = reg m R0 ≡ t.running.result
 
 -- room for what one tree pushes and calls: 32 longwords and a frame
 pub record HasRoom (m : State) : Type 0 where
-  pub space : 2139095040 + 128 ≤ reg m Sp
-  pub frame : length m.frames < 4096
+  pub space : STACK_START + 128 ≤ reg m Sp
+  pub frame : length m.frames < FRAME_LIMIT

@@ -1,5 +1,6 @@
 -- What it says of a machine's state that it stands for a state of a tree program, sentence by sentence.
 use Rattle.std.specs.Prelude.{◌≡◌, ℕ, ◌+◌, ◌*◌, ◌^◌, ◌<◌, ◌≤◌, List, [], ◌∷◌, ◌++◌, length, map, slice_get, slice_set, Some, Result, Ok}
+use Rattle.gg_base.specs.declared.limits.TheConstants.{STACK_START, STACK_TOP}
 use Rattle.gg_base.specs.declared.size.Size.{Size}
 use Rattle.gg_base.specs.declared.size.Size.TheVariants.{Long}
 use Rattle.vax_core.specs.declared.register.Reg.{Reg}
@@ -31,9 +32,9 @@ Always P = (objects : List Object) (e : Extent) (es : List Extent) (t : Trees) (
 
 -- fp lies in the stack, and from sp up to it the pushed arguments and the frame's words stand
 pub record StandsAtFp (e : Extent) (t : Trees) (m : State) : Type 0 where
-  pub bottom : 2139095040 ≤ reg m Sp
+  pub bottom : STACK_START ≤ reg m Sp
   pub words : reg m Sp + 4 * (e.words + length t.running.pushed) ≡ reg m Fp
-  pub top : reg m Fp < 2147483648
+  pub top : reg m Fp < STACK_TOP
   pub pushed : (i v : ℕ) → slice_get t.running.pushed i ≡ Some v → long_at m.stack (reg m Sp + 4 * i) ≡ v
   -- the number of arguments stands at ap
   pub count : long_at m.stack (reg m Ap) ≡ length t.running.arguments
@@ -52,7 +53,7 @@ pub record Live : Type 0 where
 -- Live calls, the innermost first, hold pieces of the stack one above the other, from an address up to the stack's end;
 -- so no two share a byte.
 abbrev pub AreStacked : List ℕ → ℕ → List Live → Type 0
-AreStacked stack low [] = low ≡ 2147483648
+AreStacked stack low [] = low ≡ STACK_TOP
 AreStacked stack low (c ∷ cs) = (c.low ≡ low) × Holds stack c.frame c.extent c.call c.low c.high × AreStacked stack c.high cs
 
 -- the frames of live calls, the innermost last

@@ -1,8 +1,9 @@
--- The stack of a machine that runs a compiled program. It lies from 2139095040 to 2147483648 and grows down. Each live call has one
+-- The stack of a machine that runs a compiled program. It lies from `STACK_START` to `STACK_TOP` and grows down. Each live call has one
 -- piece of it, and the pieces of inner calls lie below those of outer ones. From its end down a call's piece holds its arguments, the
 -- last one highest; their number, at the frame's `ap`; the frame's control words, from `fp` up to `top`; the frame's words, word 0
 -- highest, directly below `fp`; and the arguments that the call has pushed, the last one lowest.
 use Rattle.std.specs.Prelude.{◌≡◌, ℕ, ◌+◌, ◌-◌, ◌*◌, ◌%◌, ◌<◌, ◌≤◌, List, [], ◌∷◌, ◌++◌, length, slice_get, Some}
+use Rattle.gg_base.specs.declared.limits.TheConstants.{STACK_START, STACK_TOP}
 use Rattle.gg_base.specs.declared.size.Size.TheVariants.{Long}
 use Rattle.gg_base.specs.LittleEndian.{number_in}
 use Rattle.vax_machine_live.specs.declared.frame.Frame.{Frame}
@@ -10,7 +11,7 @@ use Rattle.tree_meaning.specs.State.{Activation, Extent}
 
 -- the longword at an address of the stack
 abbrev pub long_at : List ℕ → ℕ → ℕ
-long_at stack address = number_in Long stack (address - 2139095040)
+long_at stack address = number_in Long stack (address - STACK_START)
 
 -- the address of word k of a frame, local k's home
 abbrev pub word_of : ℕ → ℕ → ℕ
@@ -42,7 +43,7 @@ pub record Holds (stack : List ℕ) (f : Frame) (e : Extent) (a : Activation) (l
 
 -- Live calls, the innermost first, hold the stack from an address up to its end; their frames stand the innermost last.
 pub data Hold (stack : List ℕ) : List Frame → List Extent → List Activation → ℕ → Type 0 where
-  nobody : Hold stack [] [] [] 2147483648
+  nobody : Hold stack [] [] [] STACK_TOP
   caller : (outer all : List Frame) (f : Frame) (e : Extent) (es : List Extent) (a : Activation) (rest : List Activation) (low high : ℕ)
       → all ≡ outer ++ f ∷ [] → Holds stack f e a low high → Hold stack outer es rest high → Hold stack all (e ∷ es) (a ∷ rest) low
 

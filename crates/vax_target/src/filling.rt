@@ -5,6 +5,7 @@ ghost use Rattle.vax_templates.specs.Filled.{number_addr};
 ghost use Rattle.vax_templates.specs.Filled.{word_operand, slot_operand, argument_deferred, slot_deferred, leaf_operand, operand_in};
 ghost use Rattle.vax_templates.specs.Filled.{leaf_deferred, deferred_in, filled_base, with_index, filled, filled_operand};
 
+use gg_base::limits::NEED_LIMIT;
 use gg_base::{Name, NoMemory, w32};
 use md_reader::Piece;
 use sel_target::Attr;
@@ -60,7 +61,11 @@ pub fn addr_number(n: u32) -> Addr
 fn word_operand(k: u32) -> Operand
     ensures { result ≡ word_operand k }
 {
-    if k < 1024 { Operand::home(k) } else { spare() }
+    if k < NEED_LIMIT {
+        Operand::home(k)
+    } else {
+        spare()
+    }
 }
 
 fn slot_operand(token: Tok, k: u32) -> Operand
@@ -79,7 +84,7 @@ fn slot_deferred(token: Tok, k: u32) -> Operand
     match token {
         Tok::Arg if k <= 255 => alone(Base::DispDef(addr_number(4 * k), Reg::Ap)),
         Tok::Arg => spare(),
-        _ if k < 1024 => Operand::at_home(k),
+        _ if k < NEED_LIMIT => Operand::at_home(k),
         _ => spare(),
     }
 }

@@ -1,5 +1,6 @@
 -- Where the lines of a template are run: what fills the holes, and what each hole means in a state of the machine.
 use Rattle.std.specs.Prelude.{◌≡◌, ℕ, ◌%◌, ◌^◌, ◌<◌, Bool, true, false, List, Option, Some, None, IsSome}
+use Rattle.gg_base.specs.declared.limits.TheConstants.{NEED_LIMIT}
 use Rattle.gg_base.specs.declared.size.Size.{Size}
 use Rattle.gg_base.specs.declared.size.Size.TheVariants.{Long}
 use Rattle.tree_core.specs.declared.program.TreeProgram.{TreeProgram}
@@ -78,7 +79,7 @@ pub record IsObject (c : Scene) (m : State) (i : ℕ) (h : Attr Operand) : Type 
 -- a local's home
 pub record IsSavedLocal (c : Scene) (h : Attr Operand) : Type 0 where
   pub local : ℕ
-  pub low : local < 1024
+  pub low : local < NEED_LIMIT
   pub is : operand_in c.program h ≡ home local
 
 -- what fills a hole is what the hole stands for

@@ -1,5 +1,6 @@
 -- The laws of this crate: what is stored in a free word of the frame, the lines that save there, and those that reload.
 use Rattle.std.specs.Prelude.{◌≡◌, ℕ, ◌-◌, ◌*◌, ◌^◌, ◌<◌, List, [], ◌∷◌, Some, Ok, true}
+use Rattle.gg_base.specs.declared.limits.TheConstants.{NEED_LIMIT, STACK_START}
 use Rattle.gg_base.specs.declared.size.Size.{Size}
 use Rattle.gg_base.specs.declared.size.Size.TheVariants.{Long}
 use Rattle.gg_base.specs.Sizes.{bytes_of, low}
@@ -24,15 +25,15 @@ use Rattle.vax_target_spelling.specs.vax_target_meaning.specs.Vax.{vax}
 
 -- a number of a size stored in word w of the innermost frame, with new condition codes
 abbrev pub with_word : State → ℕ → Size → ℕ → Conditions → State
-with_word m w size x k = with_conditions (record m { stack = with_number size m.stack (word_of (reg m Fp) w - 2139095040) x }) k
+with_word m w size x k = with_conditions (record m { stack = with_number size m.stack (word_of (reg m Fp) w - STACK_START) x }) k
 
 -- it can be stored, it is read there, and all else is kept
 pub record IsStored (m : State) (w : ℕ) (size : Size) (x : ℕ) (k : Conditions) : Type 0 where
   pub stores : written m (word_of (reg m Fp) w) size x ≡ Ok (record m {
     stack =
-        with_number size m.stack (word_of (reg m Fp) w - 2139095040) x;
+        with_number size m.stack (word_of (reg m Fp) w - STACK_START) x;
   })
-  pub reads : w < 1024 → vax.reads (vax.slot w) size (with_word m w size x k) ≡ Some (low size x)
+  pub reads : w < NEED_LIMIT → vax.reads (vax.slot w) size (with_word m w size x k) ≡ Some (low size x)
   pub keeps : Keeps vax (WordAt w ∷ []) m (with_word m w size x k)
 
 -- A longword or a part of it goes into a free word of the frame.
@@ -62,7 +63,7 @@ pub record LinesSave : Type 0 where
 abbrev pub LinesReload : Type 0
 LinesReload =
     (q : TreeProgram) (f : Extent) (fs : List Extent) (l : Line) (s : Reloads vax l) (w r n : ℕ) (v : View) (m : State)
-    → r < 12 → w < 1024 → IsSet vax q f fs v n s.term m → vax.reads (vax.slot w) Long m ≡ Some n → n < 2 ^ 32
+    → r < 12 → w < NEED_LIMIT → IsSet vax q f fs v n s.term m → vax.reads (vax.slot w) Long m ≡ Some n → n < 2 ^ 32
     → Sets vax (reloading vax q l w r) (RegAt r) q Long (attr.Reg r) (value v s.term) m
 
 -- the laws of a target on what is saved and reloaded

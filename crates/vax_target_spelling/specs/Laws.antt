@@ -1,6 +1,7 @@
 -- The laws of this crate: what operands spell.
 use Rattle.std.specs.Prelude.{◌≡◌, ◌↔◌, ℕ, ◌^◌, ◌<◌, List, [], ◌∷◌, Some, None, Ok, true}
 use Rattle.std.specs.List.{list_any}
+use Rattle.gg_base.specs.declared.limits.TheConstants.{NEED_LIMIT}
 use Rattle.tree_core.specs.declared.program.TreeProgram.{TreeProgram}
 use Rattle.md_reader_pieces.specs.declared.piece.Line.{Line}
 use Rattle.md_reader_pieces.specs.declared.piece.Piece.TheVariants as piece
@@ -26,12 +27,12 @@ pub record RegistersSpell : Type 0 where
 
 -- a slot, what its address names, and a local spell their word alone, and an argument no word
 pub record WordsSpell : Type 0 where
-  pub slot_bits : (w : ℕ) → w < 1024 → vax.registers (vax.slot w) ≡ 0
-  pub slot_word : (w : ℕ) → w < 1024 → vax.word (vax.slot w) ≡ Some w
-  pub deferred_bits : (w : ℕ) → w < 1024 → vax.registers (vax.slot_deferred w) ≡ 0
-  pub deferred_word : (w : ℕ) → w < 1024 → vax.word (vax.slot_deferred w) ≡ Some w
+  pub slot_bits : (w : ℕ) → w < NEED_LIMIT → vax.registers (vax.slot w) ≡ 0
+  pub slot_word : (w : ℕ) → w < NEED_LIMIT → vax.word (vax.slot w) ≡ Some w
+  pub deferred_bits : (w : ℕ) → w < NEED_LIMIT → vax.registers (vax.slot_deferred w) ≡ 0
+  pub deferred_word : (w : ℕ) → w < NEED_LIMIT → vax.word (vax.slot_deferred w) ≡ Some w
   pub local_bits : (k : ℕ) → vax.registers (vax.local k) ≡ 0
-  pub local_word : (k : ℕ) → k < 1024 → vax.word (vax.local k) ≡ Some k
+  pub local_word : (k : ℕ) → k < NEED_LIMIT → vax.word (vax.local k) ≡ Some k
   pub argument_bits : (k : ℕ) → vax.registers (vax.argument k) ≡ 0
   pub argument_word : (k : ℕ) → vax.word (vax.argument k) ≡ None
 

@@ -1,6 +1,7 @@
 -- The laws of this crate: what is spelled for a program whose names can be spelled is valid.
 use Rattle.std.specs.Prelude.{◌≡◌, ℕ, ◌<◌, List, [], ◌∷◌, Some, Ok, true}
 use Rattle.std.specs.List.{AllByRecursion}
+use Rattle.gg_base.specs.declared.limits.TheConstants.{NEED_LIMIT}
 use Rattle.gg_base.specs.declared.size.Size.{Size}
 use Rattle.tree_core.specs.declared.program.TreeProgram.{TreeProgram}
 use Rattle.md_reader_pieces.specs.declared.piece.Line.{Line}
@@ -43,18 +44,20 @@ ShapesFit =
 
 -- a slot may stand for a value, and what its address names for a place or an address
 pub record SlotsFit : Type 0 where
-  pub value : (size : Size) (w : ℕ) → w < 1024 → fits (kind.Value size) (home w) ≡ true
-  pub place : (size : Size) (w : ℕ) → w < 1024 → fits (kind.Place size) (at_home w) ≡ true
-  pub address : (w : ℕ) → w < 1024 → fits kind.Ea (at_home w) ≡ true
+  pub value : (size : Size) (w : ℕ) → w < NEED_LIMIT → fits (kind.Value size) (home w) ≡ true
+  pub place : (size : Size) (w : ℕ) → w < NEED_LIMIT → fits (kind.Place size) (at_home w) ≡ true
+  pub address : (w : ℕ) → w < NEED_LIMIT → fits kind.Ea (at_home w) ≡ true
 
 -- the line that saves a value, a place or an address in a slot, and that brings a register back, is a valid instruction
 pub record SpillsAreWritten : Type 0 where
   pub value : (q : TreeProgram) (size : Size) (l : Line) (a : Attr Operand) (w : ℕ)
-      → CanWrite q → Saves vax (kind.Value size) l → IsValue vax size a → w < 1024 → IsValid (vax.instr q l (a ∷ []) (attr.Place (home w)))
+      → CanWrite q → Saves vax (kind.Value size) l → IsValue vax size a → w < NEED_LIMIT
+      → IsValid (vax.instr q l (a ∷ []) (attr.Place (home w)))
   pub place : (q : TreeProgram) (size : Size) (l : Line) (o : Operand) (w : ℕ)
-      → CanWrite q → Saves vax (kind.Place size) l → fits (kind.Place size) o ≡ true → w < 1024
+      → CanWrite q → Saves vax (kind.Place size) l → fits (kind.Place size) o ≡ true → w < NEED_LIMIT
       → IsValid (vax.instr q l (attr.Place o ∷ []) (attr.Place (home w)))
   pub address : (q : TreeProgram) (l : Line) (o : Operand) (w : ℕ)
-      → CanWrite q → Saves vax kind.Ea l → fits kind.Ea o ≡ true → w < 1024 → IsValid (vax.instr q l (attr.Ea o ∷ []) (attr.Place (home w)))
+      → CanWrite q → Saves vax kind.Ea l → fits kind.Ea o ≡ true → w < NEED_LIMIT
+      → IsValid (vax.instr q l (attr.Ea o ∷ []) (attr.Place (home w)))
   pub reload : (q : TreeProgram) (l : Line) (w r : ℕ)
-      → CanWrite q → Reloads vax l → r < 12 → w < 1024 → IsValid (vax.instr q l (attr.Value (home w) ∷ []) (attr.Reg r))
+      → CanWrite q → Reloads vax l → r < 12 → w < NEED_LIMIT → IsValid (vax.instr q l (attr.Value (home w) ∷ []) (attr.Reg r))

@@ -1,5 +1,6 @@
 -- Templates with their holes filled: an operand, and an instruction.
 use Rattle.std.specs.Prelude.{ℕ, ◌-◌, ◌*◌, ◌==◌, nat_lt, nat_le, List, slice_get, unwrap_or, Option, Some, None, if◌then◌else◌}
+use Rattle.gg_base.specs.declared.limits.TheConstants.{NEED_LIMIT}
 use Rattle.gg_base.specs.Arithmetic.{neg32}
 use Rattle.tree_core.specs.declared.token.Tok.{Tok}
 use Rattle.tree_core.specs.declared.token.Tok.TheVariants as tok
@@ -74,9 +75,9 @@ abbrev pub number_addr : TreeProgram → List (Attr Operand) → Attr Operand �
 number_addr p holes zero (number.Itself n) = addr_number n
 number_addr p holes zero (number.Symbol i) = addr_in p (attr_at holes zero i)
 
--- a frame's word has a place up to 1024 words, an argument up to 255
+-- a frame's word has a place up to `NEED_LIMIT` words, an argument up to 255
 abbrev pub word_operand : ℕ → Operand
-word_operand k = if nat_lt k 1024 then home k else spare
+word_operand k = if nat_lt k NEED_LIMIT then home k else spare
 
 abbrev pub slot_operand : Tok → ℕ → Operand
 slot_operand tok.Arg k = if nat_le k 255 then argument_home k else spare
@@ -87,7 +88,7 @@ argument_deferred k = alone (bases.DispDef (addr_number (4 * k)) Ap)
 
 abbrev pub slot_deferred : Tok → ℕ → Operand
 slot_deferred tok.Arg k = if nat_le k 255 then argument_deferred k else spare
-slot_deferred t k = if nat_lt k 1024 then at_home k else spare
+slot_deferred t k = if nat_lt k NEED_LIMIT then at_home k else spare
 
 abbrev pub leaf_operand : TreeProgram → Tok → Att → Operand
 leaf_operand p t (att.Slot k) = slot_operand t k
