@@ -33,7 +33,8 @@ fn are_name_parts(bytes: &[u8]) -> bool
     bytes.iter().all(|c| is_name_part(*c))
 }
 
-fn is_name(name: &Name) -> bool
+/// Whether a name can stand in an assembly text: its first byte begins one, the others may stand behind it, and it is no longer than a line takes.
+pub fn is_name(name: &Name) -> bool
     ensures { result ≡ is_name name.now }
 {
     let [first, rest @ ..] = name.as_slice() else {
@@ -42,7 +43,8 @@ fn is_name(name: &Name) -> bool
     is_name_start(*first) && rest.len() < TEXT_NAME_LIMIT && are_name_parts(rest)
 }
 
-fn is_named_addr(a: &Addr) -> bool
+/// Whether an address is a name with an offset that can be written behind it.
+pub fn is_named_addr(a: &Addr) -> bool
     ensures { result ≡ is_named_addr a.now.name a.now.offset }
 {
     match &a.name {
@@ -51,7 +53,8 @@ fn is_named_addr(a: &Addr) -> bool
     }
 }
 
-fn is_addr(a: &Addr) -> bool
+/// Whether an address is a number alone, or a name with an offset that can be written behind it.
+pub fn is_addr(a: &Addr) -> bool
     ensures { result ≡ is_addr a.now }
 {
     // A number alone is any of 32 bits.
@@ -161,7 +164,8 @@ impl Instr {
     }
 }
 
-fn is_area_item(item: &AreaItem) -> bool
+/// Whether a line of the data area can be written and read.
+pub fn is_area_item(item: &AreaItem) -> bool
     ensures { result ≡ is_area_item item.now }
 {
     match item {

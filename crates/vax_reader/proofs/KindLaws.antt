@@ -30,7 +30,7 @@ feed_at : (c : ℕ) (cs : List ℕ) (b : Bool) → eqb c 10 ≡ b → (has_line_
 feed_at c cs true e more h = (0, omega arith, eqb-true c 10 e)
 feed_at c cs false e more h = let k = more h in (suc k.0, omega (arith, k.1), k.2)
 
-has_feed : (rest : List ℕ) → has_line_feed rest ≡ true → Contains rest 10
+pub has_feed : (rest : List ℕ) → has_line_feed rest ≡ true → Contains rest 10
 has_feed [] h = absurd (cc)
 has_feed (c ∷ cs) h = feed_at c cs (eqb c 10) refl (has_feed cs) h
 
@@ -40,7 +40,7 @@ no_feed_at c cs true e more h k lt is = absurd (cc)
 no_feed_at c cs false e more h zero lt is = eqb-false c 10 e is
 no_feed_at c cs false e more h (suc k) lt is = more h (k, omega arith, is)
 
-no_feed : (rest : List ℕ) → has_line_feed rest ≡ false → Contains rest 10 → ⊥
+pub no_feed : (rest : List ℕ) → has_line_feed rest ≡ false → Contains rest 10 → ⊥
 no_feed [] h w = omega (arith, w.1)
 no_feed (c ∷ cs) h w = no_feed_at c cs (eqb c 10) refl (no_feed cs) h w.0 w.1 w.2
 
@@ -50,10 +50,10 @@ label_found : (rest : List ℕ) (o : Option (List ℕ × List ℕ)) → named_fr
 label_found rest None e h = absurd (cc)
 label_found rest (Some x) e h = let n = named_takes (codes ":\n") rest x e in record { name = x.0; more = x.1; valid = n.0; text = n.1 }
 
-label_begins : (rest : List ℕ) → is_label_line rest ≡ true → BeginsLabel rest
+pub label_begins : (rest : List ℕ) → is_label_line rest ≡ true → BeginsLabel rest
 label_begins rest h = label_found rest (named_front (codes ":\n") rest) refl h
 
-label_is_found : (rest : List ℕ) → BeginsLabel rest → is_label_line rest ≡ true
+pub label_is_found : (rest : List ℕ) → BeginsLabel rest → is_label_line rest ≡ true
 label_is_found rest b = ap is_label_line b.text ∙ rw (label_again b.name b.more b.valid) refl
 
 -- words
@@ -130,11 +130,11 @@ ends_at c cs false e more = elim (or_cases (eqb c 9) (eqb c 10) (is_not (eqb c 9
     is_not true h = refl
     is_not false h = absurd (cc)
 
-ends_behind : (rest : List ℕ) → EndsWord (behind_word rest)
+pub ends_behind : (rest : List ℕ) → EndsWord (behind_word rest)
 ends_behind [] = tt
 ends_behind (c ∷ cs) = ends_at c cs (in_word c) refl (ends_behind cs)
 
-no_word_at_end : (more : List ℕ) → EndsWord more → run_len in_word more ≡ 0
+pub no_word_at_end : (more : List ℕ) → EndsWord more → run_len in_word more ≡ 0
 no_word_at_end [] h = refl
 no_word_at_end (c ∷ cs) (inl e) = subst (λ (x : ℕ). run_len in_word (x ∷ cs) ≡ 0) (sym e) refl
 no_word_at_end (c ∷ cs) (inr e) = subst (λ (x : ℕ). run_len in_word (x ∷ cs) ≡ 0) (sym e) refl

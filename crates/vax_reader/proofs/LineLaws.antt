@@ -54,13 +54,13 @@ label_line : (name rest : List ℕ) → (name ++ codes ":" ++ codes "\n") ++ res
 label_line name rest = append_assoc (name ++ codes ":") (codes "\n") rest ∙ append_assoc name (codes ":") (10 ∷ rest)
 
 -- what stands before the end of a line
-record EndedAt {A : Type 0} (found : Option (A × List ℕ)) (x : A × List ℕ) : Type 0 where
+pub record EndedAt {A : Type 0} (found : Option (A × List ℕ)) (x : A × List ℕ) : Type 0 where
   at : A × List ℕ
   is : found ≡ Some at
   same : at.0 ≡ x.0
   line : at.1 ≡ codes "\n" ++ x.1
 
-ended_takes : {A : Type 0} (found : Option (A × List ℕ)) (x : A × List ℕ) → ended found ≡ Some x → EndedAt found x
+pub ended_takes : {A : Type 0} (found : Option (A × List ℕ)) (x : A × List ℕ) → ended found ≡ Some x → EndedAt found x
 ended_takes found x e =
     option_and_then_some (closed (codes "\n")) found x e (λ y ey more.
     let c = closed_takes (codes "\n") y x more in

@@ -26,7 +26,7 @@ use Rattle.vax_reader.proofs.LineLaws.{area_takes, area_again, item_takes, item_
 
 -- one more item
 
-all_push : {A : Type 0} (test : A → Bool) (xs : List A) (x : A) → list_all test xs ≡ true → test x ≡ true → list_all test (xs ++ x ∷ []) ≡ true
+pub all_push : {A : Type 0} (test : A → Bool) (xs : List A) (x : A) → list_all test xs ≡ true → test x ≡ true → list_all test (xs ++ x ∷ []) ≡ true
 all_push test xs x h k = list_all-append test xs (x ∷ []) ∙ and_from (list_all test xs) (test x && true) h (and_from (test x) true k refl)
 
 area_push : (area : List AreaItem) (item : AreaItem) (rest : List ℕ) → flat_map area_line area ++ (area_line item ++ rest) ≡ flat_map area_line (area ++ item ∷ []) ++ rest
@@ -36,7 +36,7 @@ area_push (x ∷ area) item rest =
     ∙ ap (λ (t : List ℕ). area_line x ++ t) (area_push area item rest)
     ∙ sym (append_assoc (area_line x) (flat_map area_line (area ++ item ∷ [])) rest)
 
-items_push : (items : List CodeItem) (item : CodeItem) (rest : List ℕ) → flat_map item_line items ++ (item_line item ++ rest) ≡ flat_map item_line (items ++ item ∷ []) ++ rest
+pub items_push : (items : List CodeItem) (item : CodeItem) (rest : List ℕ) → flat_map item_line items ++ (item_line item ++ rest) ≡ flat_map item_line (items ++ item ∷ []) ++ rest
 items_push [] item rest = ap (λ (t : List ℕ). t ++ rest) (sym (append-nil (item_line item)))
 items_push (x ∷ items) item rest =
     append_assoc (item_line x) (flat_map item_line items) (item_line item ++ rest)
@@ -136,13 +136,13 @@ wrong_code bytes area items line rest kind some f h is = record {
 -- texts that begin with lines of the grammar begin with the same lines
 
 -- no item's line stands there
-abbrev NoArea : List ℕ → Type 0
+abbrev pub NoArea : List ℕ → Type 0
 NoArea rest = (item : AreaItem) (after : List ℕ) → is_area_item item ≡ true → rest ≡ area_line item ++ after → ⊥
 
-abbrev NoCode : List ℕ → Type 0
+abbrev pub NoCode : List ℕ → Type 0
 NoCode rest = (item : CodeItem) (after : List ℕ) → is_code_item item ≡ true → rest ≡ item_line item ++ after → ⊥
 
-same_area : (xs ys : List AreaItem) (rest other : List ℕ) → list_all is_area_item xs ≡ true → list_all is_area_item ys ≡ true → NoArea rest → NoArea other → flat_map area_line xs ++ rest
+pub same_area : (xs ys : List AreaItem) (rest other : List ℕ) → list_all is_area_item xs ≡ true → list_all is_area_item ys ≡ true → NoArea rest → NoArea other → flat_map area_line xs ++ rest
     ≡ flat_map area_line ys ++ other → (xs ≡ ys) × (rest ≡ other)
 same_area [] [] rest other v w none none2 e = (refl, e)
 same_area [] (y ∷ ys) rest other v w none none2 e =
@@ -162,7 +162,7 @@ same_area (x ∷ xs) (y ∷ ys) rest other v w none none2 e =
     let more = same_area xs ys rest other p.1 q.1 none none2 first.1 in
     (ap (λ (i : AreaItem). i ∷ xs) first.0 ∙ ap (λ (is : List AreaItem). y ∷ is) more.0, more.1)
 
-same_code : (xs ys : List CodeItem) (rest other : List ℕ) → list_all is_code_item xs ≡ true → list_all is_code_item ys ≡ true → NoCode rest → NoCode other → flat_map item_line xs ++ rest
+pub same_code : (xs ys : List CodeItem) (rest other : List ℕ) → list_all is_code_item xs ≡ true → list_all is_code_item ys ≡ true → NoCode rest → NoCode other → flat_map item_line xs ++ rest
     ≡ flat_map item_line ys ++ other → (xs ≡ ys) × (rest ≡ other)
 same_code [] [] rest other v w none none2 e = (refl, e)
 same_code [] (y ∷ ys) rest other v w none none2 e =
@@ -199,7 +199,7 @@ behind_data area items rest =
     ap (λ (x : List ℕ). codes "\t.data\n" ++ x) (append_assoc (flat_map area_line area) (codes "\t.text\n" ++ flat_map item_line items) rest)
 
 -- two texts of codes, each with something behind it
-same_texts : (area area2 : List AreaItem) (items items2 : List CodeItem) (rest other : List ℕ) → is_code (made area items) ≡ true → is_code (made area2 items2) ≡ true → NoCode rest
+pub same_texts : (area area2 : List AreaItem) (items items2 : List CodeItem) (rest other : List ℕ) → is_code (made area items) ≡ true → is_code (made area2 items2) ≡ true → NoCode rest
     → NoCode other → asm_text (made area items) ++ rest ≡ asm_text (made area2 items2) ++ other → (area ≡ area2) × (items ≡ items2) × (rest ≡ other)
 same_texts area area2 items items2 rest other v w none none2 e =
     let p = and_parts (list_all is_area_item area) (list_all is_code_item items) v in
@@ -228,7 +228,7 @@ only bytes (Err e) h = h
 
 -- where a line is wrong, no item's line stands
 
-abbrev NoLine : Stage → List ℕ → Type 0
+abbrev pub NoLine : Stage → List ℕ → Type 0
 NoLine stage rest = (text more : List ℕ) → IsLine stage text → rest ≡ text ++ more → ⊥
 
 wrong_has_no_area : (rest : List ℕ) → NoLine stages.Area rest → NoArea rest
@@ -238,7 +238,7 @@ wrong_has_no_code : (rest : List ℕ) → NoLine stages.Code rest → NoCode res
 wrong_has_no_code rest wrong item after v e = wrong (item_line item) after (record { item = item; valid = v; text = refl }) e
 
 -- where a line of the area is wrong, no text of a code begins
-no_text_begins : (bytes : List ℕ) (area : List AreaItem) (line : ℕ) (rest : List ℕ) (other : List AreaItem) (items : List CodeItem) (behind : List ℕ) → AreaLines bytes area line rest
+pub no_text_begins : (bytes : List ℕ) (area : List AreaItem) (line : ℕ) (rest : List ℕ) (other : List AreaItem) (items : List CodeItem) (behind : List ℕ) → AreaLines bytes area line rest
     → NoLine stages.Area rest → is_code (made other items) ≡ true → bytes ≡ asm_text (made other items) ++ behind → ⊥
 no_text_begins bytes area line rest other items behind h wrong v e =
     let q = and_parts (list_all is_area_item other) (list_all is_code_item items) v in

@@ -1,12 +1,12 @@
 // Reading an assembly text, with the first line that is wrong.
 #![tactic(auto)]
 
-mod address;
+pub mod address;
 pub mod fault;
-mod fronts;
+pub mod fronts;
 mod instr;
 mod kind;
-mod line;
+pub mod line;
 mod line_fault;
 mod operand;
 pub mod reader;
