@@ -7,13 +7,11 @@ ghost use Rattle.vax_machine.specs.Loading.{start, Stands};
 ghost use Rattle.vax_machine.specs.Running.{state_run, run};
 
 /// A run of a code on an input has one end, which it reaches with each number of steps from the end's own on, and with no smaller one.
-#[tactic(auto, using(crate::proofs::Law::run_has_one_end))]
 pub fn run_has_one_end()
     ensures { (c : Code) (input : List ℕ) → OneEnd (run c input) }
 {}
 
 /// A machine that was just made of a code runs as the code does.
-#[tactic(auto, using(crate::proofs::Law::loaded_machine_runs_so))]
 pub fn loaded_machine_runs_so()
     ensures { (c : Code) (input : List ℕ) (m : State) → Stands m (start c input) → state_run m ≡ run c input }
 {}
