@@ -5,13 +5,11 @@ ghost use Rattle.gg_compile_begins.specs.Claims.{WrittenProgramsBegin, TypedProg
 
 /// The law: where a code is written of a program, some state of the VAX stands for the beginning of the run of its trees, with room for a
 /// tree. It does nothing.
-#[tactic(auto, using(crate::proofs::Starting::written_programs_begin))]
 pub fn written_programs_begin()
     ensures { WrittenProgramsBegin }
 {}
 
 /// The law: so it is with each typed program of which a code is selected. It does nothing.
-#[tactic(auto, using(crate::proofs::Law::typed_programs_begin))]
 pub fn typed_programs_begin()
     ensures { TypedProgramsBegin }
 {}

@@ -6,7 +6,6 @@ ghost use Rattle.gg_compile_bound.specs.Claims.{TypedCodesAreBounded};
 /// The law: where the run of a typed program ends with n counted turns and calls, the run of the code that is selected of it ends so within
 /// K times (m + 1) instructions, K being one more than the number of the code's items, and m n + Z (n + 1) where the program's declarations
 /// set Z zeros. It does nothing.
-#[tactic(auto, using(crate::proofs::Law::typed_codes_are_bounded))]
 pub fn typed_codes_are_bounded()
     ensures { TypedCodesAreBounded }
 {}

@@ -15,43 +15,36 @@ pub fn stack_has_room()
 {}
 
 /// The law: behind a return the caller goes on, or the run is over.
-#[tactic(auto, using(crate::proofs::Going::returns_come_back))]
 pub fn returns_come_back()
     ensures { ReturnsComeBack }
 {}
 
 /// The law: the run of a code in which each function stands follows the run of the trees.
-#[tactic(auto, using(crate::proofs::Starting::compiled_follow))]
 pub fn compiled_follow()
     ensures { CompiledFollow }
 {}
 
 /// The law: a data area of the objects' blocks holds the objects.
-#[tactic(auto, using(crate::proofs::Areas::blocks_hold_objects))]
 pub fn blocks_hold_objects()
     ensures { BlocksHoldObjects }
 {}
 
 /// The law: the run of a code that is assembled function by function follows the run of the trees, on every input.
-#[tactic(auto, using(crate::proofs::Assembling::assembled_follow))]
 pub fn assembled_follow()
     ensures { AssembledFollow }
 {}
 
 /// The law: what the run of the trees follows, as the run of a source, is followed by the run of the code.
-#[tactic(auto, using(crate::proofs::Assembling::source_is_followed))]
 pub fn source_is_followed()
     ensures { SourceIsFollowed }
 {}
 
 /// The law: the frame round a body that is the code of a function's items is the code of the function.
-#[tactic(auto, using(crate::proofs::Assembling::frames_are_function_codes))]
 pub fn frames_are_function_codes()
     ensures { FramesAreFunctionCodes }
 {}
 
 /// The law: the code of one program follows it, with no premise left.
-#[tactic(auto, using(crate::proofs::Demo::demo_follows))]
 pub fn demo_follows()
     ensures { DemoFollows }
 {}

@@ -5,13 +5,11 @@ ghost use Rattle.gg_compile_selected.specs.Claims.{ComputedCodesAreSelected, Sel
 ghost use Rattle.gg_compile_selected.specs.Claims.{TypedCodesAreSelected, TypedCodesAreComputed};
 
 /// The law: a code that is computed of trees that are ready is the one of which the laws speak. It does nothing.
-#[tactic(auto, using(crate::proofs::Law::computed_codes_are_selected))]
 pub fn computed_codes_are_selected()
     ensures { ComputedCodesAreSelected }
 {}
 
 /// The law: and by checked tables the code of which the laws speak is computed. It does nothing.
-#[tactic(auto, using(crate::proofs::Law::selected_codes_are_computed))]
 pub fn selected_codes_are_computed()
     ensures { SelectedCodesAreComputed }
 {}

@@ -4,7 +4,6 @@
 ghost use Rattle.gg_compile_tallies.specs.Claims.{WrittenCodesCountNoMore};
 
 /// The law: where the run of the trees ends, the run of a code that is written of them ends so, and counts no more. It does nothing.
-#[tactic(auto, using(crate::proofs::Law::written_codes_count_no_more))]
 pub fn written_codes_count_no_more()
     ensures { WrittenCodesCountNoMore }
 {}

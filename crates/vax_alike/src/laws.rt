@@ -2,19 +2,16 @@
 ghost use Rattle.vax_alike.specs.Laws.{AlikeRunsFollow, AlikeIsSame, AlikeGoesOn};
 
 /// The law: what a code's run follows is followed by the run of each code that does the same.
-#[tactic(auto, using(crate::proofs::Following::alike_runs_follow))]
 pub fn alike_runs_follow()
     ensures { AlikeRunsFollow }
 {}
 
 /// The law: a code behaves as itself.
-#[tactic(auto, using(crate::proofs::Sharing::alike_is_same))]
 pub fn alike_is_same()
     ensures { AlikeIsSame }
 {}
 
 /// The law: what behaves alike may be put in place of a code.
-#[tactic(auto, using(crate::proofs::Sharing::alike_goes_on))]
 pub fn alike_goes_on()
     ensures { AlikeGoesOn }
 {}

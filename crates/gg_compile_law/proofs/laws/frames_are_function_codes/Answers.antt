@@ -1,0 +1,5 @@
+use Rattle.gg_compile_law.proofs.Assembling.{frames_are_function_codes}
+use Rattle.gg_compile_law.proofs.laws.frames_are_function_codes.Goals as goal
+
+pub returns : goal.returns
+returns c = frames_are_function_codes
