@@ -13,7 +13,7 @@ use Rattle.tree_core.specs.declared.program.TreeProgram.{TreeProgram}
 use Rattle.c_program.specs.declared.program.Program.{Program as Held}
 use Rattle.c_program.specs.Need.{need_of}
 use Rattle.c_program.specs.Programs.{ARoutine, AProgram, program}
-use Rattle.c_typed_check.specs.declared.program.Program.{Program}
+use Rattle.c_typed.specs.c_typed_check.specs.declared.program.Program.{Program}
 use Rattle.c_sound.specs.Labels.{AreLabelled}
 use Rattle.c_sound.specs.Sound.{IsSound}
 use Rattle.c_lower_scheme.specs.Programs.{body_of, lower_all, lowered}

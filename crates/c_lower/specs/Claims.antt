@@ -6,7 +6,7 @@ use Rattle.tree_core.specs.declared.program.TreeProgram.{TreeProgram}
 use Rattle.tree_meaning.specs.Meaning.{tree_run}
 use Rattle.c_program.specs.Need.{need_of}
 use Rattle.c_program.specs.Programs.{ARoutine, AProgram}
-use Rattle.c_meaning.specs.Programs.{source}
+use Rattle.c_lower_follows.specs.c_meaning.specs.Programs.{source}
 use Rattle.c_sound.specs.Fits.{AreBytes}
 use Rattle.c_sound.specs.Labels.{AreLabelled}
 use Rattle.c_lower_bounds.specs.Claim.{FitsFrame, SameFunction}

@@ -1,10 +1,10 @@
 -- What the laws of lowering say of the trees of a program, brought together.
 use Rattle.c_program.specs.Programs.{AProgram}
 use Rattle.c_sound.specs.Sound.{IsSound}
-use Rattle.c_sound_texts.proofs.Law.{typed_is_sound}
+use Rattle.c_lower.specs.c_sound_texts.proofs.Law.{typed_is_sound}
 use Rattle.c_sound_sources.proofs.Law.{sources_are_sound}
 use Rattle.c_lower_scheme.specs.Programs.{lowered}
-use Rattle.c_lower_follows.proofs.Law.{lowering_follows}
+use Rattle.c_lower.specs.c_lower_follows.proofs.Law.{lowering_follows}
 use Rattle.c_lower_valid.proofs.Law.{lowered_is_valid}
 use Rattle.c_lower_valid.proofs.Naming.{labels_stay}
 use Rattle.c_lower_bounds.proofs.Law.{each_function_fits, functions_stay}

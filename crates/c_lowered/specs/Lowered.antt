@@ -5,7 +5,7 @@ use Rattle.tree_core.specs.Valid.{IsValid}
 use Rattle.c_program.specs.Programs.{AProgram}
 use Rattle.c_sound.specs.Fits.{AreBytes}
 use Rattle.c_sound.specs.Sound.{IsSound}
-use Rattle.c_typed.specs.Sources.{Reads}
+use Rattle.c_lower.specs.c_typed.specs.Sources.{Reads}
 use Rattle.c_lower_scheme.specs.Programs.{lowered}
 use Rattle.c_lower_calm.specs.Claim.{TreesAreCalm, PlainStatementsStand}
 use Rattle.c_lower_laid.specs.Laid.{FunctionsAreLaid}

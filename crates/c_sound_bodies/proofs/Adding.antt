@@ -20,7 +20,7 @@ use Rattle.c_typed_scope.specs.Contents.{Filled, filled_to, holding, with_conten
 use Rattle.c_sound.specs.Fits.{no_local}
 use Rattle.c_typed_expressions.specs.Phrases.{init_in, brackets_in}
 use Rattle.c_typed_expressions.specs.Expressions.{written}
-use Rattle.c_typed_definition.specs.State.{State, with_area, variable_of, array_entry}
+use Rattle.c_typed_law.specs.c_typed_definition.specs.State.{State, with_area, variable_of, array_entry}
 use Rattle.c_typed_law.specs.Values.{IsLength, IsElement, AreElements}
 use Rattle.c_typed_law.specs.Objects.{AreLaid, HoldsAtFirst, IsFilled, IsPlainObject, IsCountedArray, IsArrayObject}
 use Rattle.c_typed_law.specs.Objects.{IsObjectBy, IsObject}

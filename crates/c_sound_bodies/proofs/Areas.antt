@@ -20,10 +20,10 @@ use Rattle.c_program.specs.Statements.{ADeclaration, StoreOf, AnAction, SomeActi
 use Rattle.c_sound.specs.Fits.{declaring}
 use Rattle.c_typed_expressions.specs.Phrases.{init_in, brackets_in}
 use Rattle.c_typed_expressions.specs.Expressions.{written}
-use Rattle.c_typed_definition.specs.Rooms.{offset_in, is_next_addressed}
-use Rattle.c_typed_definition.specs.State.{State, with_local, with_register}
-use Rattle.c_typed_definition.specs.Automatics.{memory_variable, memory_array}
-use Rattle.c_typed_definition.specs.Statements.{entered}
+use Rattle.c_typed_law.specs.c_typed_definition.specs.Rooms.{offset_in, is_next_addressed}
+use Rattle.c_typed_law.specs.c_typed_definition.specs.State.{State, with_local, with_register}
+use Rattle.c_typed_law.specs.c_typed_definition.specs.Automatics.{memory_variable, memory_array}
+use Rattle.c_typed_law.specs.c_typed_definition.specs.Statements.{entered}
 use Rattle.c_typed_law.specs.Objects.{IsObject}
 use Rattle.c_typed_law.specs.Values.{IsLength}
 use Rattle.c_typed_law.specs.Arrays.{IsGiven, IsStored, AreStored, IsArrayBegun, IsAutomaticLength}

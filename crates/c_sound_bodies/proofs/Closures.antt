@@ -17,7 +17,7 @@ use Rattle.c_typed_words.proofs.Any.{AnyToken, any_exp}
 use Rattle.c_sound.specs.Fits.{StandsIn, Fits, FitsAll}
 use Rattle.c_sound.specs.Stands.{arguments, IsThere, Takes, Stands, StandAll}
 use Rattle.c_typed_expressions.specs.Relations.{IsTyped}
-use Rattle.c_typed_definition.specs.State.{State, with_area}
+use Rattle.c_typed_law.specs.c_typed_definition.specs.State.{State, with_area}
 use Rattle.c_sound_bodies.specs.States.{IsKnown, InOrder, HasPlaces}
 use Rattle.c_sound_bodies.specs.Claim.{AreDefined}
 use Rattle.c_sound_bodies.proofs.ByParts.{Every, Closed}

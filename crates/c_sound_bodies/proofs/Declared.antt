@@ -5,7 +5,7 @@ use Rattle.c_program.specs.Statements.{ADeclaration, KeepOf, ClearOf, BeginOf, S
 use Rattle.c_program.specs.Programs.{ARoutine}
 use Rattle.c_sound.specs.Fits.{more, declaring, FitsDeclared}
 use Rattle.c_sound.specs.Stands.{IsThere, Takes, StandsDeclared}
-use Rattle.c_typed_definition.specs.State.{State}
+use Rattle.c_typed_law.specs.c_typed_definition.specs.State.{State}
 use Rattle.c_sound_bodies.specs.States.{InOrder, Grows, HasRoom, HasPlaces}
 use Rattle.c_sound_bodies.specs.Claim.{AreDefined}
 use Rattle.c_sound_bodies.proofs.Steps.{grows_same, grows_further, room_before, places_before}

@@ -10,8 +10,8 @@ use Rattle.c_phrases.specs.Units.{continue_on, give_back, if_then, if_else, whil
 use Rattle.c_phrases.specs.Units.{no_items}
 use Rattle.c_program.specs.Statements.{AnAction, SomeActions, ReturnOf}
 use Rattle.c_sound.specs.Fits.{behind_act, declaring, no_local}
-use Rattle.c_typed_definition.specs.State.{State}
-use Rattle.c_typed_definition.specs.Statements.{entered}
+use Rattle.c_typed_law.specs.c_typed_definition.specs.State.{State}
+use Rattle.c_typed_law.specs.c_typed_definition.specs.Statements.{entered}
 use Rattle.c_typed_law.specs.Statements.{IsFull, IsCondition, IsPart, IsTurn, IsReturn, IsStatement, AreItems}
 use Rattle.c_typed_law.proofs.Statements.{items_mean}
 use Rattle.c_typed_words.specs.Words.{IsToken}

@@ -11,7 +11,7 @@ use Rattle.c_typed_scope.specs.Layout.{Area, literal}
 use Rattle.c_phrases.specs.Phrases.{AnExp}
 use Rattle.c_phrases.specs.Units.{AnInit}
 use Rattle.c_typed_expressions.specs.Relations.{IsTyped}
-use Rattle.c_typed_definition.specs.State.{measuring}
+use Rattle.c_typed_law.specs.c_typed_definition.specs.State.{measuring}
 use Rattle.c_typed_law.specs.Objects.{IsCount}
 use Rattle.c_typed_words.proofs.Any.{AnyToken, any_exp}
 use Rattle.c_sound_bodies.proofs.Growth.{Laying, exp_lays}

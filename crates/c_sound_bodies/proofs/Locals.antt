@@ -21,9 +21,9 @@ use Rattle.c_sound.specs.Fits.{more, declaring}
 use Rattle.c_sound.proofs.Registers.{locals_same, locals_more, locals_push}
 use Rattle.c_typed_expressions.specs.Phrases.{init_in, brackets_in}
 use Rattle.c_typed_expressions.specs.Expressions.{written}
-use Rattle.c_typed_definition.specs.Forms.{form_fits, array_form, is_automatic}
-use Rattle.c_typed_definition.specs.Rooms.{is_next_addressed}
-use Rattle.c_typed_definition.specs.State.{State, with_local, with_register}
+use Rattle.c_typed_law.specs.c_typed_definition.specs.Forms.{form_fits, array_form, is_automatic}
+use Rattle.c_typed_law.specs.c_typed_definition.specs.Rooms.{is_next_addressed}
+use Rattle.c_typed_law.specs.c_typed_definition.specs.State.{State, with_local, with_register}
 use Rattle.c_typed_law.specs.Arrays.{IsGiven}
 use Rattle.c_typed_law.specs.Locals.{IsBegun, IsVariable, IsAutomaticBy, IsAutomatic, IsLocal, AreLocals}
 use Rattle.c_sound_bodies.specs.States.{IsKnown, InOrder, Grows}

@@ -28,10 +28,10 @@ use Rattle.c_sound.specs.Fits.{AreBytes, declaring, FitsDeclared}
 use Rattle.c_sound.specs.Stands.{IsThere, Takes, StandsDeclared}
 use Rattle.c_typed_expressions.specs.Calls.{count}
 use Rattle.c_typed_expressions.specs.Phrases.{init_in}
-use Rattle.c_typed_definition.specs.Forms.{text_of, text_fits, array_form, text_length, given_count, own_length}
-use Rattle.c_typed_definition.specs.Rooms.{offset_in, taking}
-use Rattle.c_typed_definition.specs.State.{State, with_area, array_entry}
-use Rattle.c_typed_definition.specs.Automatics.{memory_variable, memory_array, zeros, text_stores, text_stored}
+use Rattle.c_typed_law.specs.c_typed_definition.specs.Forms.{text_of, text_fits, array_form, text_length, given_count, own_length}
+use Rattle.c_typed_law.specs.c_typed_definition.specs.Rooms.{offset_in, taking}
+use Rattle.c_typed_law.specs.c_typed_definition.specs.State.{State, with_area, array_entry}
+use Rattle.c_typed_law.specs.c_typed_definition.specs.Automatics.{memory_variable, memory_array, zeros, text_stores, text_stored}
 use Rattle.c_typed_law.specs.Arrays.{IsGiven, IsStored, AreStored, IsArrayBegun, IsAutomaticLength, IsArray}
 use Rattle.c_typed_law.specs.Locals.{IsMemoryBegun}
 use Rattle.c_sound_bodies.specs.States.{IsKnown, OfVariable, InOrder, Grows, HasPlaces}

@@ -19,8 +19,8 @@ use Rattle.c_sound.specs.Fits.{no_local}
 use Rattle.c_sound.proofs.Registers.{locals_same}
 use Rattle.c_typed_expressions.specs.Phrases.{init_in, brackets_in}
 use Rattle.c_typed_expressions.specs.Expressions.{written}
-use Rattle.c_typed_definition.specs.Rooms.{Room}
-use Rattle.c_typed_definition.specs.State.{State, with_area, named_state, variable_of, label_of, counted_static, array_entry, laid}
+use Rattle.c_typed_law.specs.c_typed_definition.specs.Rooms.{Room}
+use Rattle.c_typed_law.specs.c_typed_definition.specs.State.{State, with_area, named_state, variable_of, label_of, counted_static, array_entry, laid}
 use Rattle.c_typed_law.specs.Values.{IsLength, IsElement, AreElements}
 use Rattle.c_typed_law.specs.Objects.{IsCount, AreLaid, HoldsAtFirst, IsFilled, IsPlainObject, IsCountedArray}
 use Rattle.c_typed_law.specs.Objects.{IsArrayObject, IsObjectBy, IsObject}

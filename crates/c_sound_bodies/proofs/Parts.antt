@@ -7,8 +7,8 @@ use Rattle.c_program.specs.Statements.{ADeclaration, AnAction, SomeActions, NoAc
 use Rattle.c_program.specs.Programs.{ARoutine}
 use Rattle.c_sound.specs.Fits.{FitsMaybe, FitsAct, FitsActs, behind_act, declaring}
 use Rattle.c_sound.specs.Stands.{IsThere, Takes, StandsMaybe, StandsAct, StandsActs}
-use Rattle.c_typed_definition.specs.State.{State}
-use Rattle.c_typed_definition.specs.Statements.{entered, left}
+use Rattle.c_typed_law.specs.c_typed_definition.specs.State.{State}
+use Rattle.c_typed_law.specs.c_typed_definition.specs.Statements.{entered, left}
 use Rattle.c_sound_bodies.specs.States.{InOrder, Grows, HasRoom, HasPlaces}
 use Rattle.c_sound_bodies.specs.Claim.{AreDefined, behind_acts}
 use Rattle.c_sound_bodies.proofs.Names.{scope_entered, left_scope}

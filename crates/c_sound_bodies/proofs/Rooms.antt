@@ -7,8 +7,8 @@ use Rattle.c_types.specs.declared.types.Integer.TheVariants as ints
 use Rattle.c_types.specs.Types.{integer_size, size_of, is_scalar}
 use Rattle.c_typed_scope.specs.declared.entry.Entry.{Entry}
 use Rattle.c_typed_scope.specs.Layout.{aligned}
-use Rattle.c_typed_definition.specs.Rooms.{Room, offset_in, taking}
-use Rattle.c_typed_definition.specs.State.{State, with_memory}
+use Rattle.c_typed_law.specs.c_typed_definition.specs.Rooms.{Room, offset_in, taking}
+use Rattle.c_typed_law.specs.c_typed_definition.specs.State.{State, with_memory}
 use Rattle.c_sound_bodies.specs.States.{IsKnown, OfVariable, InOrder, Grows}
 use Rattle.c_sound_bodies.proofs.Names.{scope_more, scope_named, known_more, named_outer}
 use Rattle.c_sound_bodies.proofs.Growth.{extends_same}

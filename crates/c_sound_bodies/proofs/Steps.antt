@@ -10,7 +10,7 @@ use Rattle.c_program.specs.Programs.{ARoutine}
 use Rattle.c_sound.specs.Fits.{Fits}
 use Rattle.c_sound.specs.Stands.{IsThere, Takes, Stands}
 use Rattle.c_typed_expressions.specs.Relations.{IsTyped}
-use Rattle.c_typed_definition.specs.State.{State, with_area}
+use Rattle.c_typed_law.specs.c_typed_definition.specs.State.{State, with_area}
 use Rattle.c_typed_words.specs.Words.{IsToken}
 use Rattle.c_typed_words.specs.Phrases.{ExpOf}
 use Rattle.c_sound_bodies.specs.States.{InOrder, Extends, Grows, HasRoom, HasPlaces}

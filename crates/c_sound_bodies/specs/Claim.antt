@@ -16,10 +16,10 @@ use Rattle.c_typed_scope.specs.declared.entry.Signature.{Signature}
 use Rattle.c_typed_scope.specs.Scopes.{Scope}
 use Rattle.c_typed_scope.specs.Layout.{Area}
 use Rattle.c_typed_expressions.specs.Calls.{callee_of}
-use Rattle.c_typed_definition.specs.Initialisers.{type_length}
-use Rattle.c_typed_definition.specs.State.{State}
-use Rattle.c_typed_definition.specs.Declarations.{type_object}
-use Rattle.c_typed_definition.specs.Statements.{type_items}
+use Rattle.c_typed_law.specs.c_typed_definition.specs.Initialisers.{type_length}
+use Rattle.c_typed_law.specs.c_typed_definition.specs.State.{State}
+use Rattle.c_typed_law.specs.c_typed_definition.specs.Declarations.{type_object}
+use Rattle.c_typed_law.specs.c_typed_definition.specs.Statements.{type_items}
 use Rattle.c_sound_bodies.specs.States.{InOrder, Extends, Grows, HasRoom, HasPlaces}
 
 -- behind a row of statements

@@ -9,7 +9,7 @@ use Rattle.c_typed_scope.specs.declared.entry.Entry.{Entry}
 use Rattle.c_typed_scope.specs.declared.entry.Entry.TheVariants as entries
 use Rattle.c_typed_scope.specs.Scopes.{Scope}
 use Rattle.c_typed_scope.specs.Layout.{Area}
-use Rattle.c_typed_definition.specs.State.{State}
+use Rattle.c_typed_law.specs.c_typed_definition.specs.State.{State}
 
 -- A variable of a function with so many locals, of which some are in scope, so many parameters and so many bytes of memory locals, where
 -- there are so many objects; or an array of so many bytes, a longword, which in the block is no more than its bytes.

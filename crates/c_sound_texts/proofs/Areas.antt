@@ -16,7 +16,7 @@ use Rattle.c_typed_scope.specs.Layout.{Area, aligned, with_object, placed, one_m
 use Rattle.c_tokens.specs.declared.token.Token.TheVariants as token
 use Rattle.c_sound.specs.Fits.{AreBytes}
 use Rattle.c_sound.proofs.Bytes.{bytes_joined}
-use Rattle.c_typed_words.specs.Words.{IsToken}
+use Rattle.c_sound_bodies.specs.c_typed_words.specs.Words.{IsToken}
 use Rattle.c_sound_bodies.proofs.Growth.{Laying}
 use Rattle.c_sound_texts.proofs.Held.{places_of, Addressed, Contains, contains_more, contents, AreContained, contained_more}
 

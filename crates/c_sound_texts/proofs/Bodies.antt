@@ -20,22 +20,22 @@ use Rattle.c_typed_scope.specs.declared.entry.Signature.{Signature}
 use Rattle.c_typed_scope.specs.Scopes.{Scope, enter}
 use Rattle.c_typed_scope.specs.Layout.{Area, aligned}
 use Rattle.c_program.specs.Programs.{ARoutine}
-use Rattle.c_typed_words.specs.Words.{IsToken}
-use Rattle.c_typed_words.specs.Phrases.{BodyOf, DeclaredOf, ExternalsOf}
+use Rattle.c_sound_bodies.specs.c_typed_words.specs.Words.{IsToken}
+use Rattle.c_sound_bodies.specs.c_typed_words.specs.Phrases.{BodyOf, DeclaredOf, ExternalsOf}
 use Rattle.c_sound.specs.Fits.{FitsActs, no_local}
 use Rattle.c_sound.specs.Stands.{IsThere, Takes, StandsActs}
 use Rattle.c_sound.proofs.Registers.{no_locals}
 use Rattle.c_typed_expressions.specs.Phrases.{brackets_in, params_in}
 use Rattle.c_typed_expressions.specs.Expressions.{written}
-use Rattle.c_typed_definition.specs.Rooms.{Room, offset_in, taking, is_parameter_addressed, parameter_store, with_parameter_in}
-use Rattle.c_typed_definition.specs.State.{State, with_area, named_state, with_room}
-use Rattle.c_typed_definition.specs.Signatures.{parameter_type}
-use Rattle.c_typed_definition.specs.Headings.{Text, with_parameter, with_state, with_declared, with_body}
-use Rattle.c_typed_definition.specs.Bodies.{routine_of, entered_function, left_function}
-use Rattle.c_typed_law.specs.Texts.{IsParameterLength, AreParameters, IsBody, IsFunction, AreGlobals, IsExternalBy}
-use Rattle.c_typed_law.specs.Texts.{AreExternals}
-use Rattle.c_typed_law.proofs.Statements.{items_mean}
-use Rattle.c_typed_law.proofs.Objects.{object_means}
+use Rattle.c_sound_bodies.specs.c_typed_definition.specs.Rooms.{Room, offset_in, taking, is_parameter_addressed, parameter_store, with_parameter_in}
+use Rattle.c_sound_bodies.specs.c_typed_definition.specs.State.{State, with_area, named_state, with_room}
+use Rattle.c_sound_bodies.specs.c_typed_definition.specs.Signatures.{parameter_type}
+use Rattle.c_sound_bodies.specs.c_typed_definition.specs.Headings.{Text, with_parameter, with_state, with_declared, with_body}
+use Rattle.c_sound_bodies.specs.c_typed_definition.specs.Bodies.{routine_of, entered_function, left_function}
+use Rattle.c_sound_bodies.specs.c_typed_law.specs.Texts.{IsParameterLength, AreParameters, IsBody, IsFunction, AreGlobals, IsExternalBy}
+use Rattle.c_sound_bodies.specs.c_typed_law.specs.Texts.{AreExternals}
+use Rattle.c_sound_bodies.specs.c_typed_law.proofs.Statements.{items_mean}
+use Rattle.c_sound_bodies.specs.c_typed_law.proofs.Objects.{object_means}
 use Rattle.c_sound_bodies.specs.States.{IsKnown, OfVariable, InOrder, Extends}
 use Rattle.c_sound_bodies.specs.Claim.{AreDefined}
 use Rattle.c_sound_bodies.proofs.Names.{scope_more, scope_named, scope_entered, named_outer, left_scope}

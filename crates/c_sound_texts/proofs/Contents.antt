@@ -16,7 +16,7 @@ use Rattle.c_types.specs.Types.{integer_size, size_of}
 use Rattle.c_types.specs.Typed.{AnExpression}
 use Rattle.c_typed_scope.specs.Contents.{low_bytes, Filled, with_value, address_at, with_link, filled_to}
 use Rattle.c_typed_scope.proofs.Written.{low_length}
-use Rattle.c_typed_law.specs.Values.{Null, Address, IsWritten}
+use Rattle.c_sound_bodies.specs.c_typed_law.specs.Values.{Null, Address, IsWritten}
 use Rattle.c_sound_texts.proofs.Held.{Contains, places_of, value_contained, link_contained}
 use Rattle.c_sound_texts.proofs.Areas.{link_more}
 use Rattle.c_sound_texts.proofs.Linked.{NamesObjects, linked_below}

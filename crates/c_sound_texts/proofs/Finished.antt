@@ -7,8 +7,8 @@ use Rattle.std.specs.Prelude.{codes, nat_lt, ◌||◌, slice_get}
 use Rattle.gg_base.proofs.Facts.{tail_same, head_same}
 use Rattle.c_typed_scope.specs.Layout.{Area}
 use Rattle.c_program.specs.Programs.{ARoutine}
-use Rattle.c_typed_definition.specs.State.{State}
-use Rattle.c_typed_definition.specs.Texts.{any_block, stacked_if}
+use Rattle.c_sound_bodies.specs.c_typed_definition.specs.State.{State}
+use Rattle.c_sound_bodies.specs.c_typed_definition.specs.Texts.{any_block, stacked_if}
 use Rattle.c_sound_texts.proofs.Areas.{Lays, lays_same}
 use Rattle.c_sound_texts.proofs.Labels.{Each, Differ, each_weaker, each_joined, differ_joined, labels, OfStatic, OfLiteral, HasFew}
 use Rattle.c_sound_texts.proofs.Named.{IsLabel, Numbered, Variable, IsNamed}

@@ -17,13 +17,13 @@ use Rattle.c_types.specs.declared.typed.Callee.{Callee}
 use Rattle.c_types.specs.declared.typed.Callee.TheVariants as callees
 use Rattle.c_typed_expressions.specs.Calls.{callee_of}
 use Rattle.c_sound.specs.Stands.{IsDefined, Takes}
-use Rattle.c_typed_definition.specs.State.{State}
-use Rattle.c_typed_definition.specs.Signatures.{signature_of, services, service_names, Known, with_function, known_by}
-use Rattle.c_typed_definition.specs.Signatures.{known_with, known_from}
-use Rattle.c_typed_definition.specs.Headings.{Text, is_below, with_declared}
-use Rattle.c_typed_definition.specs.Bodies.{routine_of}
-use Rattle.c_typed_law.specs.Texts.{IsBody, IsFunction, IsExternalBy, AreExternals}
-use Rattle.c_typed_law.proofs.Declared.{declared_bodies}
+use Rattle.c_sound_bodies.specs.c_typed_definition.specs.State.{State}
+use Rattle.c_sound_bodies.specs.c_typed_definition.specs.Signatures.{signature_of, services, service_names, Known, with_function, known_by}
+use Rattle.c_sound_bodies.specs.c_typed_definition.specs.Signatures.{known_with, known_from}
+use Rattle.c_sound_bodies.specs.c_typed_definition.specs.Headings.{Text, is_below, with_declared}
+use Rattle.c_sound_bodies.specs.c_typed_definition.specs.Bodies.{routine_of}
+use Rattle.c_sound_bodies.specs.c_typed_law.specs.Texts.{IsBody, IsFunction, IsExternalBy, AreExternals}
+use Rattle.c_sound_bodies.specs.c_typed_law.proofs.Declared.{declared_bodies}
 use Rattle.c_sound_bodies.specs.Claim.{AreDefined}
 
 -- the signature of a typed function

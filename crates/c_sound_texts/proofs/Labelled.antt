@@ -24,8 +24,8 @@ use Rattle.c_typed_scope.specs.Scopes.{Scope, find}
 use Rattle.c_typed_scope.proofs.Written.{low_is}
 use Rattle.c_program.specs.Programs.{ARoutine}
 use Rattle.c_sound.specs.Labels.{is_label_start, is_label, HoldsAddresses, AreLabelled}
-use Rattle.c_typed_definition.specs.State.{State}
-use Rattle.c_typed_words.specs.Words.{IsName}
+use Rattle.c_sound_bodies.specs.c_typed_definition.specs.State.{State}
+use Rattle.c_sound_bodies.specs.c_typed_words.specs.Words.{IsName}
 use Rattle.c_sound_bodies.proofs.Objects.{IsVariable}
 use Rattle.c_sound_texts.proofs.Areas.{LieTo}
 use Rattle.c_sound_texts.proofs.Held.{places_of, Addressed, Contains, contents, AreContained}

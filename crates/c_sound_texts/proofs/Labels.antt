@@ -24,10 +24,10 @@ use Rattle.c_typed_scope.specs.Contents.{Filled, filled_to, with_contents, fille
 use Rattle.c_typed_scope.proofs.Written.{held_length}
 use Rattle.c_typed_expressions.specs.Phrases.{init_in, brackets_in}
 use Rattle.c_typed_expressions.specs.Expressions.{written}
-use Rattle.c_typed_definition.specs.State.{State, with_area, label_of, variable_of, counted_static, array_entry, laid}
-use Rattle.c_typed_law.specs.Objects.{IsFilled, IsPlainObject, IsCountedArray, IsArrayObject, IsObjectBy}
-use Rattle.c_typed_law.specs.Objects.{IsObject}
-use Rattle.c_typed_words.proofs.Any.{AnyToken, any_init, any_part}
+use Rattle.c_sound_bodies.specs.c_typed_definition.specs.State.{State, with_area, label_of, variable_of, counted_static, array_entry, laid}
+use Rattle.c_sound_bodies.specs.c_typed_law.specs.Objects.{IsFilled, IsPlainObject, IsCountedArray, IsArrayObject, IsObjectBy}
+use Rattle.c_sound_bodies.specs.c_typed_law.specs.Objects.{IsObject}
+use Rattle.c_sound_bodies.specs.c_typed_words.proofs.Any.{AnyToken, any_init, any_part}
 use Rattle.c_sound_bodies.proofs.Growth.{Laying}
 use Rattle.c_sound_bodies.proofs.Lengths.{count_stays}
 use Rattle.c_sound_bodies.proofs.Adding.{contents_lay, literals_lay}

@@ -13,14 +13,14 @@ use Rattle.c_typed_scope.specs.declared.entry.Signature.{Signature}
 use Rattle.c_program.specs.Programs.{AProgram}
 use Rattle.c_sound.specs.Sound.{HoldBytes, IsSound}
 use Rattle.c_sound.proofs.Bytes.{same_names}
-use Rattle.c_typed_definition.specs.Signatures.{known, services, service_names, Known}
-use Rattle.c_typed_definition.specs.Headings.{Text}
-use Rattle.c_typed_definition.specs.Texts.{main_of, empty_text}
-use Rattle.c_typed_law.specs.Wholes.{IsStacked}
-use Rattle.c_typed_law.specs.Texts.{AreExternals, IsText}
-use Rattle.c_typed_words.specs.Words.{IsToken}
-use Rattle.c_typed_words.specs.Phrases.{ExternalsOf}
-use Rattle.c_typed_words.proofs.Spelled.{tokens_of}
+use Rattle.c_sound_bodies.specs.c_typed_definition.specs.Signatures.{known, services, service_names, Known}
+use Rattle.c_sound_bodies.specs.c_typed_definition.specs.Headings.{Text}
+use Rattle.c_sound_bodies.specs.c_typed_definition.specs.Texts.{main_of, empty_text}
+use Rattle.c_sound_bodies.specs.c_typed_law.specs.Wholes.{IsStacked}
+use Rattle.c_sound_bodies.specs.c_typed_law.specs.Texts.{AreExternals, IsText}
+use Rattle.c_sound_bodies.specs.c_typed_words.specs.Words.{IsToken}
+use Rattle.c_sound_bodies.specs.c_typed_words.specs.Phrases.{ExternalsOf}
+use Rattle.c_sound_bodies.specs.c_typed_words.proofs.Spelled.{tokens_of}
 use Rattle.c_sound_texts.specs.Claim.{TypedIsSound}
 use Rattle.c_sound_texts.proofs.Held.{places_of, Contains, contents, AreContained}
 use Rattle.c_sound_texts.proofs.Named.{start, IsNamed, externals_named}

@@ -11,7 +11,7 @@ use Rattle.c_typed_scope.specs.Layout.{Area}
 use Rattle.c_typed_scope.specs.Contents.{linked_place, linked}
 use Rattle.c_sound.specs.Stands.{Stands, StandsAt, StandAll}
 use Rattle.c_typed_expressions.specs.Relations.{IsTyped}
-use Rattle.c_typed_words.proofs.Any.{AnyToken, any_exp}
+use Rattle.c_sound_bodies.specs.c_typed_words.proofs.Any.{AnyToken, any_exp}
 use Rattle.c_sound_bodies.specs.States.{ScopeOf}
 use Rattle.c_sound_bodies.proofs.ByParts.{Every, Closed}
 use Rattle.c_sound_bodies.proofs.Names.{scope_more}

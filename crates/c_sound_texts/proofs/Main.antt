@@ -10,7 +10,7 @@ use Rattle.c_types.specs.declared.types.Integer.TheVariants as ints
 use Rattle.c_types.specs.Types.{same_type}
 use Rattle.c_program.specs.Programs.{ARoutine}
 use Rattle.c_sound.specs.Sound.{IsMain}
-use Rattle.c_typed_definition.specs.Texts.{is_main, behind, main_of}
+use Rattle.c_sound_bodies.specs.c_typed_definition.specs.Texts.{is_main, behind, main_of}
 
 -- a function of this number is main
 pub record MainAt (bodies : List ARoutine) (n : ℕ) : Type 0 where

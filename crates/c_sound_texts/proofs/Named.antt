@@ -20,20 +20,20 @@ use Rattle.c_program.specs.Programs.{ARoutine}
 use Rattle.c_sound.specs.Fits.{no_local}
 use Rattle.c_typed_expressions.specs.Phrases.{brackets_in, params_in}
 use Rattle.c_typed_expressions.specs.Expressions.{written}
-use Rattle.c_typed_definition.specs.State.{State, with_area}
-use Rattle.c_typed_definition.specs.Signatures.{parameter_type}
-use Rattle.c_typed_definition.specs.Headings.{Text, with_declared}
-use Rattle.c_typed_definition.specs.Bodies.{routine_of, entered_function}
-use Rattle.c_typed_definition.specs.Texts.{empty_text}
-use Rattle.c_typed_law.specs.Headings.{IsEarlier}
-use Rattle.c_typed_law.specs.Texts.{IsParameterLength, AreParameters, IsBody, IsFunction, AreGlobals, IsExternalBy}
-use Rattle.c_typed_law.specs.Texts.{AreExternals}
-use Rattle.c_typed_law.specs.Statements.{AreItems}
-use Rattle.c_typed_law.proofs.Statements.{items_mean}
-use Rattle.c_typed_law.proofs.Declared.{parameter_area}
-use Rattle.c_typed_words.specs.Words.{IsName, IsToken}
-use Rattle.c_typed_words.specs.Phrases.{DeclaratorsOf, DeclaredOf, ExternalsOf}
-use Rattle.c_typed_words.proofs.Any.{AnyToken, any_exp, any_items}
+use Rattle.c_sound_bodies.specs.c_typed_definition.specs.State.{State, with_area}
+use Rattle.c_sound_bodies.specs.c_typed_definition.specs.Signatures.{parameter_type}
+use Rattle.c_sound_bodies.specs.c_typed_definition.specs.Headings.{Text, with_declared}
+use Rattle.c_sound_bodies.specs.c_typed_definition.specs.Bodies.{routine_of, entered_function}
+use Rattle.c_sound_bodies.specs.c_typed_definition.specs.Texts.{empty_text}
+use Rattle.c_sound_bodies.specs.c_typed_law.specs.Headings.{IsEarlier}
+use Rattle.c_sound_bodies.specs.c_typed_law.specs.Texts.{IsParameterLength, AreParameters, IsBody, IsFunction, AreGlobals, IsExternalBy}
+use Rattle.c_sound_bodies.specs.c_typed_law.specs.Texts.{AreExternals}
+use Rattle.c_sound_bodies.specs.c_typed_law.specs.Statements.{AreItems}
+use Rattle.c_sound_bodies.specs.c_typed_law.proofs.Statements.{items_mean}
+use Rattle.c_sound_bodies.specs.c_typed_law.proofs.Declared.{parameter_area}
+use Rattle.c_sound_bodies.specs.c_typed_words.specs.Words.{IsName, IsToken}
+use Rattle.c_sound_bodies.specs.c_typed_words.specs.Phrases.{DeclaratorsOf, DeclaredOf, ExternalsOf}
+use Rattle.c_sound_bodies.specs.c_typed_words.proofs.Any.{AnyToken, any_exp, any_items}
 use Rattle.c_sound_bodies.specs.States.{InOrder}
 use Rattle.c_sound_bodies.proofs.Names.{left_scope}
 use Rattle.c_sound_bodies.proofs.Growth.{exp_lays}

@@ -27,14 +27,14 @@ use Rattle.c_typed_scope.proofs.Written.{held_length}
 use Rattle.c_typed_expressions.specs.Phrases.{init_in, brackets_in}
 use Rattle.c_typed_expressions.specs.Calls.{count}
 use Rattle.c_typed_expressions.specs.Expressions.{written}
-use Rattle.c_typed_definition.specs.Forms.{text_of, array_form, form_fits, text_length, given_count}
-use Rattle.c_typed_definition.specs.State.{State, with_area, measuring, variable_of, label_of, counted_static}
-use Rattle.c_typed_definition.specs.State.{array_entry, laid, text_contents}
-use Rattle.c_typed_law.specs.Values.{IsElement, AreElements}
-use Rattle.c_typed_law.specs.Objects.{IsCount, AreLaid, HoldsAtFirst, IsFilled, IsPlainObject, IsCountedArray}
-use Rattle.c_typed_law.specs.Objects.{IsArrayObject, IsObjectBy, IsObject}
-use Rattle.c_typed_words.specs.Words.{IsToken}
-use Rattle.c_typed_words.specs.Phrases.{ExpOf, ExpsOf, PartOf, BracketsOf, InitOf, DeclaratorOf}
+use Rattle.c_sound_bodies.specs.c_typed_definition.specs.Forms.{text_of, array_form, form_fits, text_length, given_count}
+use Rattle.c_sound_bodies.specs.c_typed_definition.specs.State.{State, with_area, measuring, variable_of, label_of, counted_static}
+use Rattle.c_sound_bodies.specs.c_typed_definition.specs.State.{array_entry, laid, text_contents}
+use Rattle.c_sound_bodies.specs.c_typed_law.specs.Values.{IsElement, AreElements}
+use Rattle.c_sound_bodies.specs.c_typed_law.specs.Objects.{IsCount, AreLaid, HoldsAtFirst, IsFilled, IsPlainObject, IsCountedArray}
+use Rattle.c_sound_bodies.specs.c_typed_law.specs.Objects.{IsArrayObject, IsObjectBy, IsObject}
+use Rattle.c_sound_bodies.specs.c_typed_words.specs.Words.{IsToken}
+use Rattle.c_sound_bodies.specs.c_typed_words.specs.Phrases.{ExpOf, ExpsOf, PartOf, BracketsOf, InitOf, DeclaratorOf}
 use Rattle.c_sound_bodies.specs.States.{OfVariable, ScopeOf}
 use Rattle.c_sound_bodies.proofs.Names.{variable_more, scope_more, scope_named}
 use Rattle.c_sound_bodies.proofs.Objects.{IsObjectOf, object_declares}

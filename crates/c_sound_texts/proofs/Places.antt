@@ -23,22 +23,22 @@ use Rattle.c_typed_scope.specs.Layout.{Area}
 use Rattle.c_program.specs.Statements.{ADeclaration, AnAction, SomeActions, StoreOf}
 use Rattle.c_typed_expressions.specs.Phrases.{init_in, brackets_in, params_in}
 use Rattle.c_typed_expressions.specs.Expressions.{written}
-use Rattle.c_typed_definition.specs.State.{State, with_area, with_local, with_register, named_state, with_room, with_memory, array_entry}
-use Rattle.c_typed_definition.specs.Statements.{entered, left}
-use Rattle.c_typed_definition.specs.Signatures.{parameter_type}
-use Rattle.c_typed_definition.specs.Headings.{Text, with_parameter, with_declared}
-use Rattle.c_typed_definition.specs.Bodies.{entered_function, left_function}
-use Rattle.c_typed_definition.specs.Rooms.{offset_in, is_next_addressed, is_parameter_addressed, with_parameter_in}
-use Rattle.c_typed_definition.specs.Automatics.{memory_variable, memory_array}
-use Rattle.c_typed_law.specs.Locals.{IsBegun, IsLocal, AreLocals, IsMemoryBegun, IsVariable, IsAutomaticBy}
-use Rattle.c_typed_law.specs.Statements.{IsFull, IsCondition, IsPart, IsTurn, IsReturn, IsStatement, AreItems}
-use Rattle.c_typed_law.specs.Texts.{IsParameterLength, AreParameters, IsBody, IsFunction, AreGlobals, IsExternalBy}
-use Rattle.c_typed_law.specs.Texts.{AreExternals}
-use Rattle.c_typed_law.specs.Values.{IsLength}
-use Rattle.c_typed_law.specs.Arrays.{IsGiven, IsStored, AreStored, IsArrayBegun, IsAutomaticLength}
-use Rattle.c_typed_words.specs.Words.{IsToken}
-use Rattle.c_typed_words.specs.Phrases.{ExpOf, PartOf, BracketsOf, InitOf, DeclaratorOf, DeclaratorsOf, StatementOf, ItemsOf, ParamsOf, BodyOf, DeclaredOf, ExternalsOf}
-use Rattle.c_typed_words.specs.Phrases.{ExpsOf}
+use Rattle.c_sound_bodies.specs.c_typed_definition.specs.State.{State, with_area, with_local, with_register, named_state, with_room, with_memory, array_entry}
+use Rattle.c_sound_bodies.specs.c_typed_definition.specs.Statements.{entered, left}
+use Rattle.c_sound_bodies.specs.c_typed_definition.specs.Signatures.{parameter_type}
+use Rattle.c_sound_bodies.specs.c_typed_definition.specs.Headings.{Text, with_parameter, with_declared}
+use Rattle.c_sound_bodies.specs.c_typed_definition.specs.Bodies.{entered_function, left_function}
+use Rattle.c_sound_bodies.specs.c_typed_definition.specs.Rooms.{offset_in, is_next_addressed, is_parameter_addressed, with_parameter_in}
+use Rattle.c_sound_bodies.specs.c_typed_definition.specs.Automatics.{memory_variable, memory_array}
+use Rattle.c_sound_bodies.specs.c_typed_law.specs.Locals.{IsBegun, IsLocal, AreLocals, IsMemoryBegun, IsVariable, IsAutomaticBy}
+use Rattle.c_sound_bodies.specs.c_typed_law.specs.Statements.{IsFull, IsCondition, IsPart, IsTurn, IsReturn, IsStatement, AreItems}
+use Rattle.c_sound_bodies.specs.c_typed_law.specs.Texts.{IsParameterLength, AreParameters, IsBody, IsFunction, AreGlobals, IsExternalBy}
+use Rattle.c_sound_bodies.specs.c_typed_law.specs.Texts.{AreExternals}
+use Rattle.c_sound_bodies.specs.c_typed_law.specs.Values.{IsLength}
+use Rattle.c_sound_bodies.specs.c_typed_law.specs.Arrays.{IsGiven, IsStored, AreStored, IsArrayBegun, IsAutomaticLength}
+use Rattle.c_sound_bodies.specs.c_typed_words.specs.Words.{IsToken}
+use Rattle.c_sound_bodies.specs.c_typed_words.specs.Phrases.{ExpOf, PartOf, BracketsOf, InitOf, DeclaratorOf, DeclaratorsOf, StatementOf, ItemsOf, ParamsOf, BodyOf, DeclaredOf, ExternalsOf}
+use Rattle.c_sound_bodies.specs.c_typed_words.specs.Phrases.{ExpsOf}
 use Rattle.c_sound_bodies.specs.States.{OfVariable, NamesOf, BlocksOf, ScopeOf}
 use Rattle.c_sound_bodies.proofs.Names.{scope_named, scope_entered}
 use Rattle.c_sound_bodies.proofs.Growth.{exp_lays}

@@ -14,10 +14,10 @@ use Rattle.c_typed_scope.specs.Scopes.{Scope}
 use Rattle.c_typed_scope.specs.Layout.{aligned}
 use Rattle.c_typed_expressions.specs.Phrases.{brackets_in}
 use Rattle.c_typed_expressions.specs.Expressions.{integer_of, under_stars, written}
-use Rattle.c_typed_definition.specs.Rooms.{parameter_store}
-use Rattle.c_typed_definition.specs.Signatures.{array_parameter, parameter_type}
-use Rattle.c_typed_definition.specs.Bodies.{with_stores}
-use Rattle.c_typed_law.specs.Headings.{IsParameterForm}
+use Rattle.c_sound_bodies.specs.c_typed_definition.specs.Rooms.{parameter_store}
+use Rattle.c_sound_bodies.specs.c_typed_definition.specs.Signatures.{array_parameter, parameter_type}
+use Rattle.c_sound_bodies.specs.c_typed_definition.specs.Bodies.{with_stores}
+use Rattle.c_sound_bodies.specs.c_typed_law.specs.Headings.{IsParameterForm}
 
 -- a parameter is stored in the block
 pub record IsStore (parameters block : ℕ) (d : ADeclaration) : Type 0 where

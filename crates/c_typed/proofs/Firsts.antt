@@ -20,8 +20,8 @@ use Rattle.c_types.specs.declared.fault.TypeKind.{TypeKind}
 use Rattle.c_types.specs.declared.fault.TypeFault.{TypeFault}
 use Rattle.c_types.specs.declared.fault.TypeFault.TheVariants as type_fault
 use Rattle.c_types.specs.Answers.{Fault}
-use Rattle.c_typed_operators.specs.Table.{OnlyFault}
-use Rattle.c_typed_law.specs.Texts.{TextFault}
+use Rattle.c_typed_check.specs.c_typed_operators.specs.Table.{OnlyFault}
+use Rattle.c_typed_check.specs.c_typed_law.specs.Texts.{TextFault}
 use Rattle.c_typed.specs.declared.source.SourceKind.{SourceKind}
 use Rattle.c_typed.specs.declared.source.SourceKind.TheVariants as kinds
 use Rattle.c_typed.specs.Sources.{place_at, IsFaultAt}

@@ -1,1 +1,2 @@
 pub mod Sources
+pub use Rattle.c_typed_check

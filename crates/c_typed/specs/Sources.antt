@@ -14,8 +14,8 @@ use Rattle.c_syntax.specs.Ends.{body_ends}
 use Rattle.c_syntax_goals.specs.Refusals.{NotHereAt, TooDeepAt}
 use Rattle.c_types.specs.declared.fault.TypeKind.{TypeKind}
 use Rattle.c_types.specs.declared.fault.TypeKind.TheVariants as types
-use Rattle.c_program.specs.Programs.{AProgram}
-use Rattle.c_typed_law.specs.Texts.{IsText, TextFault}
+use Rattle.c_typed_check.specs.c_program.specs.Programs.{AProgram}
+use Rattle.c_typed_check.specs.c_typed_law.specs.Texts.{IsText, TextFault}
 use Rattle.c_typed.specs.declared.source.SourceKind.{SourceKind}
 use Rattle.c_typed.specs.declared.source.SourceKind.TheVariants as kinds
 use Rattle.c_typed.specs.declared.source.SourceFault.{SourceFault}

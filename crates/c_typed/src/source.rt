@@ -3,7 +3,7 @@ ghost use Rattle.std.specs.Prelude.{◌≡◌, ◌≤◌, ◌⊎◌, length, Lis
 ghost use Rattle.gg_base.specs.declared.limits.TheConstants.{SOURCE_LIMIT};
 ghost use Rattle.c_tokens.specs.declared.token.Spanned.{Spanned as ASpanned};
 ghost use Rattle.c_tokens.specs.Grammar.{Tokens};
-ghost use Rattle.c_program.specs.Programs.{AProgram};
+ghost use Rattle.c_typed_check.specs.c_program.specs.Programs.{AProgram};
 ghost use Rattle.c_typed_check.specs.Views.{typed};
 ghost use Rattle.gg_base.specs.declared.place.Place.{Place};
 ghost use Rattle.c_typed.specs.declared.source.SourceKind.{SourceKind};

@@ -3,3 +3,7 @@ pub mod Marks
 pub mod Expressions
 pub mod Statements
 pub mod Views
+pub use Rattle.c_typed_scope
+pub use Rattle.c_phrases
+pub use Rattle.c_typed_expressions
+pub use Rattle.gg_base

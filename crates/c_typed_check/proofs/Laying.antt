@@ -29,20 +29,20 @@ use Rattle.c_typed_expressions.specs.Phrases.{init_in, brackets_in, params_in}
 use Rattle.c_typed_expressions.specs.Expressions.{integer_of, beside, sizeof_unless, is_function, type_exp, type_exps}
 use Rattle.c_program.specs.Statements.{ADeclaration, AnAction}
 use Rattle.c_program.specs.Programs.{ARoutine, AProgram}
-use Rattle.c_typed_definition.specs.Initialisers.{type_length, type_element, type_elements}
-use Rattle.c_typed_definition.specs.State.{State, with_area, measuring, counted_static, laid, with_local, with_register}
-use Rattle.c_typed_definition.specs.Declarations.{length_in, literals_in, contents_of, object_with}
-use Rattle.c_typed_definition.specs.Declarations.{plain_object, counted_array, array_object, object_by, type_object}
-use Rattle.c_typed_definition.specs.Automatics.{memory_variable, memory_array, type_value, begun, type_store, memory_begun, type_stores, array_begun, filled_array, automatic_length}
-use Rattle.c_typed_definition.specs.Automatics.{automatic_array, automatic_variable, automatic_by, type_automatic, type_local, type_locals}
-use Rattle.c_typed_definition.specs.Statements.{entered, jump, type_full, type_condition, type_maybe, type_maybe_condition, type_return, type_statement, type_items}
-use Rattle.c_typed_definition.specs.Headings.{Text, with_declared, agrees}
-use Rattle.c_typed_definition.specs.Bodies.{entered_function}
-use Rattle.c_typed_definition.specs.Headings.{earlier_by, head_of, is_below}
-use Rattle.c_typed_definition.specs.Signatures.{signature_of, known}
-use Rattle.c_typed_definition.specs.Texts.{type_parameter, parameter_length, type_parameters, type_body}
-use Rattle.c_typed_definition.specs.Texts.{type_introduced, type_function, type_globals, type_declared}
-use Rattle.c_typed_definition.specs.Texts.{type_externals, any_block, stacked_if, whole_by, main_of, empty_text, type_text}
+use Rattle.c_typed_statements.specs.c_typed_definition.specs.Initialisers.{type_length, type_element, type_elements}
+use Rattle.c_typed_statements.specs.c_typed_definition.specs.State.{State, with_area, measuring, counted_static, laid, with_local, with_register}
+use Rattle.c_typed_statements.specs.c_typed_definition.specs.Declarations.{length_in, literals_in, contents_of, object_with}
+use Rattle.c_typed_statements.specs.c_typed_definition.specs.Declarations.{plain_object, counted_array, array_object, object_by, type_object}
+use Rattle.c_typed_statements.specs.c_typed_definition.specs.Automatics.{memory_variable, memory_array, type_value, begun, type_store, memory_begun, type_stores, array_begun, filled_array, automatic_length}
+use Rattle.c_typed_statements.specs.c_typed_definition.specs.Automatics.{automatic_array, automatic_variable, automatic_by, type_automatic, type_local, type_locals}
+use Rattle.c_typed_statements.specs.c_typed_definition.specs.Statements.{entered, jump, type_full, type_condition, type_maybe, type_maybe_condition, type_return, type_statement, type_items}
+use Rattle.c_typed_statements.specs.c_typed_definition.specs.Headings.{Text, with_declared, agrees}
+use Rattle.c_typed_statements.specs.c_typed_definition.specs.Bodies.{entered_function}
+use Rattle.c_typed_statements.specs.c_typed_definition.specs.Headings.{earlier_by, head_of, is_below}
+use Rattle.c_typed_statements.specs.c_typed_definition.specs.Signatures.{signature_of, known}
+use Rattle.c_typed_statements.specs.c_typed_definition.specs.Texts.{type_parameter, parameter_length, type_parameters, type_body}
+use Rattle.c_typed_statements.specs.c_typed_definition.specs.Texts.{type_introduced, type_function, type_globals, type_declared}
+use Rattle.c_typed_statements.specs.c_typed_definition.specs.Texts.{type_externals, any_block, stacked_if, whole_by, main_of, empty_text, type_text}
 use Rattle.c_typed_scope.specs.Stack.{stack_size, opened, with_stack}
 use Rattle.c_typed_check.specs.Laid.{LiesBehind, LieFrom, AreLaid}
 use Rattle.c_typed_law.proofs.Law.{text_means}

@@ -11,19 +11,19 @@ use Rattle.c_typed_scope.specs.declared.entry.Signature.{Signature}
 use Rattle.c_program.specs.declared.program.Routine.{Routine}
 use Rattle.c_program.specs.Programs.{ARoutine, AProgram, routine}
 use Rattle.c_program.specs.Need.{need_of}
-use Rattle.c_typed_definition.specs.State.{State}
+use Rattle.c_typed_statements.specs.c_typed_definition.specs.State.{State}
 use Rattle.c_typed_expressions.specs.Phrases.{params_in}
 use Rattle.c_typed_expressions.specs.Expressions.{integer_of, written}
 use Rattle.c_typed_scope.specs.Scopes.{find}
-use Rattle.c_typed_definition.specs.Statements.{type_items}
-use Rattle.c_typed_definition.specs.Headings.{Text, with_declared, with_state, with_body}
-use Rattle.c_typed_definition.specs.Bodies.{fits_stack, end_in, routine_of, left_function}
-use Rattle.c_typed_definition.specs.Headings.{agrees, earlier_by, head_of, is_below}
-use Rattle.c_typed_definition.specs.Bodies.{entered_function}
-use Rattle.c_typed_definition.specs.Signatures.{signature_of, known}
-use Rattle.c_typed_definition.specs.Texts.{type_parameters, type_globals, type_body, type_introduced, type_function}
-use Rattle.c_typed_definition.specs.Texts.{type_declared, type_externals, any_block, stacked_if, main_of, whole_by, whole, type_text}
-use Rattle.c_typed_definition.specs.Texts.{empty_text}
+use Rattle.c_typed_statements.specs.c_typed_definition.specs.Statements.{type_items}
+use Rattle.c_typed_statements.specs.c_typed_definition.specs.Headings.{Text, with_declared, with_state, with_body}
+use Rattle.c_typed_statements.specs.c_typed_definition.specs.Bodies.{fits_stack, end_in, routine_of, left_function}
+use Rattle.c_typed_statements.specs.c_typed_definition.specs.Headings.{agrees, earlier_by, head_of, is_below}
+use Rattle.c_typed_statements.specs.c_typed_definition.specs.Bodies.{entered_function}
+use Rattle.c_typed_statements.specs.c_typed_definition.specs.Signatures.{signature_of, known}
+use Rattle.c_typed_statements.specs.c_typed_definition.specs.Texts.{type_parameters, type_globals, type_body, type_introduced, type_function}
+use Rattle.c_typed_statements.specs.c_typed_definition.specs.Texts.{type_declared, type_externals, any_block, stacked_if, main_of, whole_by, whole, type_text}
+use Rattle.c_typed_statements.specs.c_typed_definition.specs.Texts.{empty_text}
 use Rattle.c_typed_law.proofs.Law.{text_means}
 use Rattle.c_typed_law.proofs.Declared.{declared_bodies}
 use Rattle.c_typed_check.specs.Typed.{IsTypedUnit, need_in}

@@ -17,12 +17,12 @@ use Rattle.c_typed_scope.specs.declared.entry.Entry.{Entry}
 use Rattle.c_typed_scope.specs.declared.entry.Signature.{Signature}
 use Rattle.c_program.specs.declared.program.Routine.{Routine}
 use Rattle.c_program.specs.Programs.{routine}
-use Rattle.c_typed_definition.specs.State.{State}
-use Rattle.c_typed_definition.specs.Declarations.{type_object}
-use Rattle.c_typed_definition.specs.Signatures.{Known, known, known_with, known_from}
-use Rattle.c_typed_definition.specs.Headings.{Text}
-use Rattle.c_typed_definition.specs.Texts.{empty_text, type_text, type_globals, type_external, any_block, stacked_if}
-use Rattle.c_typed_definition.specs.Texts.{type_externals, is_main, behind, main_of}
+use Rattle.c_typed_statements.specs.c_typed_definition.specs.State.{State}
+use Rattle.c_typed_statements.specs.c_typed_definition.specs.Declarations.{type_object}
+use Rattle.c_typed_statements.specs.c_typed_definition.specs.Signatures.{Known, known, known_with, known_from}
+use Rattle.c_typed_statements.specs.c_typed_definition.specs.Headings.{Text}
+use Rattle.c_typed_statements.specs.c_typed_definition.specs.Texts.{empty_text, type_text, type_globals, type_external, any_block, stacked_if}
+use Rattle.c_typed_statements.specs.c_typed_definition.specs.Texts.{type_externals, is_main, behind, main_of}
 
 -- an answer that is no fault of types
 abbrev pub fine : {A : Type 0} → A → Result A Fault

@@ -1,7 +1,7 @@
 // Whole texts.
 ghost use Rattle.std.specs.Prelude.{◌≡◌, ◌<◌, ◌∷◌, [], IfOk, IfErr, codes, length, map, Some, Ok};
 ghost use Rattle.c_types.specs.Answers.{Fault, Gives};
-ghost use Rattle.c_typed_operators.specs.Table.{Refused, OnlyAnswer, OnlyFault};
+ghost use Rattle.c_typed_statements.specs.c_typed_operators.specs.Table.{Refused, OnlyAnswer, OnlyFault};
 ghost use Rattle.c_typed_law.specs.Texts.{IsText, TextFault};
 ghost use Rattle.c_typed_words.specs.Words.{HasTokens};
 ghost use Rattle.c_phrases.specs.UnitShapes.{external_of, externals_of, declarators_of, unit_of};
@@ -10,9 +10,9 @@ ghost use Rattle.c_typed_objects.specs.Views.{state};
 ghost use Rattle.c_program.specs.Programs.{AProgram, routine, program};
 ghost use Rattle.c_typed_statements.specs.Views.{text};
 ghost use Rattle.c_typed_expressions.specs.Functions.{by_functions};
-ghost use Rattle.c_typed_definition.specs.Signatures.{services, service_names, known, known_with};
-ghost use Rattle.c_typed_definition.specs.Texts.{type_globals, type_external, type_externals, type_text, empty_text};
-ghost use Rattle.c_typed_definition.specs.Texts.{is_main, main_of, any_block, stacked_if};
+ghost use Rattle.c_typed_statements.specs.c_typed_definition.specs.Signatures.{services, service_names, known, known_with};
+ghost use Rattle.c_typed_statements.specs.c_typed_definition.specs.Texts.{type_globals, type_external, type_externals, type_text, empty_text};
+ghost use Rattle.c_typed_statements.specs.c_typed_definition.specs.Texts.{is_main, main_of, any_block, stacked_if};
 ghost use Rattle.c_typed_scope.specs.Views.{area};
 ghost use Rattle.c_typed_check.specs.Laid.{AreLaid};
 ghost use Rattle.c_typed_check.specs.Typed.{IsTypedUnit, need_at};

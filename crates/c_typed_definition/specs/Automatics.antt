@@ -2,9 +2,9 @@
 -- This is how the code computes it; the rules of typing are the relations of c_typed_law.
 use Rattle.std.specs.Prelude.{ℕ, ◌+◌, ◌-◌, ◌*◌, ◌==◌, not, ◌&&◌, Bool, true, false, List, [], ◌∷◌, ◌++◌, length, Option, Some, None}
 use Rattle.std.specs.Prelude.{Result, Ok, if◌then◌else◌}
-use Rattle.c_phrases.specs.declared.operator.Spec.{Spec}
-use Rattle.c_phrases.specs.declared.operator.Storage.{Storage}
-use Rattle.c_phrases.specs.declared.operator.Storage.TheVariants as storages
+use Rattle.c_typed_addressed.specs.c_phrases.specs.declared.operator.Spec.{Spec}
+use Rattle.c_typed_addressed.specs.c_phrases.specs.declared.operator.Storage.{Storage}
+use Rattle.c_typed_addressed.specs.c_phrases.specs.declared.operator.Storage.TheVariants as storages
 use Rattle.c_types.specs.declared.types.CType.{CType}
 use Rattle.c_types.specs.declared.typed.Variable.TheVariants as variables
 use Rattle.c_types.specs.Answers.{Fault, ◌>>=◌}
@@ -12,13 +12,13 @@ use Rattle.c_types.specs.Types.{size_of, pointer_to}
 use Rattle.c_types.specs.Typed.{AnExpression, Constant}
 use Rattle.c_types.specs.Constants.{converted}
 use Rattle.c_typed_operators.specs.Stores.{given}
-use Rattle.c_typed_scope.specs.declared.entry.Entry.{Entry}
-use Rattle.c_typed_scope.specs.declared.entry.Entry.TheVariants as entries
-use Rattle.c_typed_scope.specs.declared.entry.Signature.{Signature}
-use Rattle.c_phrases.specs.Phrases.{AnExp, SomeExps, no_exps, exps}
-use Rattle.c_phrases.specs.Units.{AnInit, value, elements, ADeclarator}
-use Rattle.c_typed_expressions.specs.Phrases.{first, init_in, brackets_in}
-use Rattle.c_typed_expressions.specs.Expressions.{written, type_exp}
+use Rattle.c_typed_addressed.specs.c_typed_scope.specs.declared.entry.Entry.{Entry}
+use Rattle.c_typed_addressed.specs.c_typed_scope.specs.declared.entry.Entry.TheVariants as entries
+use Rattle.c_typed_addressed.specs.c_typed_scope.specs.declared.entry.Signature.{Signature}
+use Rattle.c_typed_addressed.specs.c_phrases.specs.Phrases.{AnExp, SomeExps, no_exps, exps}
+use Rattle.c_typed_addressed.specs.c_phrases.specs.Units.{AnInit, value, elements, ADeclarator}
+use Rattle.c_typed_addressed.specs.c_typed_expressions.specs.Phrases.{first, init_in, brackets_in}
+use Rattle.c_typed_addressed.specs.c_typed_expressions.specs.Expressions.{written, type_exp}
 use Rattle.c_program.specs.Statements.{ADeclaration, KeepOf, ClearOf, BeginOf, StoreOf, ZerosOf}
 use Rattle.c_typed_definition.specs.Initialisers.{type_length}
 use Rattle.c_typed_definition.specs.Forms.{text_of, given_count, own_length, automatic_form, many}

@@ -2,18 +2,18 @@
 -- This is how the code computes it; the rules of typing are the relations of c_typed_law.
 use Rattle.std.specs.Prelude.{ℕ, nat_lt, List, [], ◌∷◌, length, map, slice_index_or, Option, Some, None, Result, Ok, if◌then◌else◌}
 use Rattle.c_types.specs.declared.typed.TheConstants.{BLOCK_LIMIT}
-use Rattle.c_phrases.specs.declared.operator.Spec.{Spec}
-use Rattle.c_phrases.specs.Units.{SomeItems, AFunction}
+use Rattle.c_typed_addressed.specs.c_phrases.specs.declared.operator.Spec.{Spec}
+use Rattle.c_typed_addressed.specs.c_phrases.specs.Units.{SomeItems, AFunction}
 use Rattle.c_types.specs.declared.types.CType.{CType}
 use Rattle.c_types.specs.declared.fault.TypeKind.TheVariants.{DataFull}
 use Rattle.c_types.specs.Answers.{Fault, bad}
 use Rattle.c_program.specs.Statements.{ADeclaration, SomeActions, MoreActions, DeclareOf}
 use Rattle.c_program.specs.Programs.{ARoutine}
 use Rattle.c_program.specs.Need.{need_of}
-use Rattle.c_typed_scope.specs.Scopes.{enter, leave}
-use Rattle.c_typed_scope.specs.Layout.{aligned}
-use Rattle.c_typed_expressions.specs.Phrases.{params_in}
-use Rattle.c_typed_expressions.specs.Expressions.{written}
+use Rattle.c_typed_addressed.specs.c_typed_scope.specs.Scopes.{enter, leave}
+use Rattle.c_typed_addressed.specs.c_typed_scope.specs.Layout.{aligned}
+use Rattle.c_typed_addressed.specs.c_typed_expressions.specs.Phrases.{params_in}
+use Rattle.c_typed_addressed.specs.c_typed_expressions.specs.Expressions.{written}
 use Rattle.c_typed_addressed.specs.Marks.{Marks, no_marks}
 use Rattle.c_typed_addressed.specs.Statements.{addressed}
 use Rattle.c_typed_definition.specs.Rooms.{Room, room_for, no_room}

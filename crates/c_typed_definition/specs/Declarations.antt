@@ -1,20 +1,20 @@
 -- The declarations of variables that are objects: their lengths, their places and their initialisers.
 -- This is how the code computes it; the rules of typing are the relations of c_typed_law.
 use Rattle.std.specs.Prelude.{ℕ, ◌*◌, Bool, true, false, List, [], Option, Some, None, Result, Ok}
-use Rattle.c_phrases.specs.declared.operator.Spec.{Spec}
+use Rattle.c_typed_addressed.specs.c_phrases.specs.declared.operator.Spec.{Spec}
 use Rattle.c_types.specs.declared.types.CType.{CType}
 use Rattle.c_types.specs.Answers.{Fault, ◌>>=◌}
 use Rattle.c_types.specs.Types.{size_of, pointer_to}
-use Rattle.c_typed_scope.specs.declared.entry.Entry.{Entry}
-use Rattle.c_typed_scope.specs.declared.entry.Entry.TheVariants as entries
-use Rattle.c_typed_scope.specs.declared.entry.Signature.{Signature}
-use Rattle.c_phrases.specs.Phrases.{AnExp}
-use Rattle.c_phrases.specs.Units.{AnInit, value, elements, ADeclarator}
-use Rattle.c_typed_expressions.specs.Phrases.{init_in, brackets_in}
-use Rattle.c_typed_scope.specs.Scopes.{Scope, with_name}
-use Rattle.c_typed_scope.specs.Layout.{Area}
-use Rattle.c_typed_expressions.specs.Expressions.{written, type_exp}
-use Rattle.c_typed_scope.specs.Contents.{Filled, filled_to, filled}
+use Rattle.c_typed_addressed.specs.c_typed_scope.specs.declared.entry.Entry.{Entry}
+use Rattle.c_typed_addressed.specs.c_typed_scope.specs.declared.entry.Entry.TheVariants as entries
+use Rattle.c_typed_addressed.specs.c_typed_scope.specs.declared.entry.Signature.{Signature}
+use Rattle.c_typed_addressed.specs.c_phrases.specs.Phrases.{AnExp}
+use Rattle.c_typed_addressed.specs.c_phrases.specs.Units.{AnInit, value, elements, ADeclarator}
+use Rattle.c_typed_addressed.specs.c_typed_expressions.specs.Phrases.{init_in, brackets_in}
+use Rattle.c_typed_addressed.specs.c_typed_scope.specs.Scopes.{Scope, with_name}
+use Rattle.c_typed_addressed.specs.c_typed_scope.specs.Layout.{Area}
+use Rattle.c_typed_addressed.specs.c_typed_expressions.specs.Expressions.{written, type_exp}
+use Rattle.c_typed_addressed.specs.c_typed_scope.specs.Contents.{Filled, filled_to, filled}
 use Rattle.c_typed_definition.specs.Initialisers.{type_length, type_element, type_elements}
 use Rattle.c_typed_definition.specs.Forms.{text_of, given_count, own_length, form_of, many}
 use Rattle.c_typed_definition.specs.State.{State, with_area, named_state, measuring, variable_of, array_entry, laid, text_contents}

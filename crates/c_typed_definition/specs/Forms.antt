@@ -6,11 +6,11 @@ use Rattle.c_types.specs.declared.types.CType.{CType}
 use Rattle.c_types.specs.declared.fault.TypeKind.TheVariants.{Twice, BadInit, BadType}
 use Rattle.c_types.specs.Answers.{Fault, bad}
 use Rattle.c_types.specs.Types.{size_of, is_scalar}
-use Rattle.c_phrases.specs.Phrases.{AnExp, str, paren}
-use Rattle.c_phrases.specs.Units.{AnInit, value, elements, ADeclarator}
-use Rattle.c_typed_scope.specs.Scopes.{Scope, is_taken}
-use Rattle.c_typed_expressions.specs.Phrases.{init_in, brackets_in}
-use Rattle.c_typed_expressions.specs.Calls.{count}
+use Rattle.c_typed_addressed.specs.c_phrases.specs.Phrases.{AnExp, str, paren}
+use Rattle.c_typed_addressed.specs.c_phrases.specs.Units.{AnInit, value, elements, ADeclarator}
+use Rattle.c_typed_addressed.specs.c_typed_scope.specs.Scopes.{Scope, is_taken}
+use Rattle.c_typed_addressed.specs.c_typed_expressions.specs.Phrases.{init_in, brackets_in}
+use Rattle.c_typed_addressed.specs.c_typed_expressions.specs.Calls.{count}
 
 -- the bytes of a string literal, also in parentheses
 unfoldable pub text_of : AnExp → Option (List ℕ)

@@ -2,21 +2,21 @@
 -- This is how the code computes it; the rules of typing are the relations of c_typed_law.
 use Rattle.std.specs.Prelude.{ℕ, nat_lt, Bool, true, false, ◌&&◌, List, [], ◌∷◌}
 use Rattle.std.specs.Prelude.{◌++◌, length, slice_get, Option, Some, None, Result, Ok, if◌then◌else◌}
-use Rattle.c_phrases.specs.declared.operator.Spec.{Spec}
-use Rattle.c_phrases.specs.declared.operator.Spec.TheVariants as specs
-use Rattle.c_phrases.specs.declared.tree.Named.{Named}
+use Rattle.c_typed_addressed.specs.c_phrases.specs.declared.operator.Spec.{Spec}
+use Rattle.c_typed_addressed.specs.c_phrases.specs.declared.operator.Spec.TheVariants as specs
+use Rattle.c_typed_addressed.specs.c_phrases.specs.declared.tree.Named.{Named}
 use Rattle.c_types.specs.declared.types.CType.{CType}
 use Rattle.c_types.specs.declared.types.Integer.{Integer}
 use Rattle.c_types.specs.declared.typed.Variable.TheVariants as variables
 use Rattle.c_types.specs.declared.fault.TypeKind.TheVariants.{Twice, BadType}
 use Rattle.c_types.specs.Answers.{Fault, bad}
 use Rattle.c_types.specs.Types.{same_type, is_scalar, size_of}
-use Rattle.c_typed_scope.specs.declared.entry.Entry.{Entry}
-use Rattle.c_typed_scope.specs.declared.entry.Entry.TheVariants as entries
-use Rattle.c_typed_scope.specs.declared.entry.Signature.{Signature}
-use Rattle.c_phrases.specs.Units.{AParam, AFunction}
-use Rattle.c_typed_scope.specs.Scopes.{Scope, is_taken}
-use Rattle.c_typed_expressions.specs.Expressions.{written}
+use Rattle.c_typed_addressed.specs.c_typed_scope.specs.declared.entry.Entry.{Entry}
+use Rattle.c_typed_addressed.specs.c_typed_scope.specs.declared.entry.Entry.TheVariants as entries
+use Rattle.c_typed_addressed.specs.c_typed_scope.specs.declared.entry.Signature.{Signature}
+use Rattle.c_typed_addressed.specs.c_phrases.specs.Units.{AParam, AFunction}
+use Rattle.c_typed_addressed.specs.c_typed_scope.specs.Scopes.{Scope, is_taken}
+use Rattle.c_typed_addressed.specs.c_typed_expressions.specs.Expressions.{written}
 use Rattle.c_typed_definition.specs.Rooms.{is_parameter_addressed, offset_in, with_parameter_in}
 use Rattle.c_typed_definition.specs.State.{State, named_state, with_room}
 use Rattle.c_program.specs.Programs.{ARoutine}

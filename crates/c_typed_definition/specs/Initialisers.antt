@@ -3,14 +3,14 @@
 use Rattle.std.specs.Prelude.{ℕ, List, Result, Ok}
 use Rattle.c_types.specs.declared.types.CType.{CType}
 use Rattle.c_types.specs.Answers.{Fault, ◌>>=◌}
-use Rattle.c_typed_scope.specs.declared.entry.Entry.{Entry}
-use Rattle.c_typed_scope.specs.declared.entry.Signature.{Signature}
-use Rattle.c_typed_scope.specs.Scopes.{Scope}
-use Rattle.c_typed_scope.specs.Layout.{Area}
-use Rattle.c_typed_scope.specs.Contents.{wanted, length_of, Filled, element_of}
-use Rattle.c_phrases.specs.Phrases.{AnExp, SomeExps, no_exps, exps}
-use Rattle.c_typed_expressions.specs.Phrases.{first}
-use Rattle.c_typed_expressions.specs.Expressions.{type_exp}
+use Rattle.c_typed_addressed.specs.c_typed_scope.specs.declared.entry.Entry.{Entry}
+use Rattle.c_typed_addressed.specs.c_typed_scope.specs.declared.entry.Signature.{Signature}
+use Rattle.c_typed_addressed.specs.c_typed_scope.specs.Scopes.{Scope}
+use Rattle.c_typed_addressed.specs.c_typed_scope.specs.Layout.{Area}
+use Rattle.c_typed_addressed.specs.c_typed_scope.specs.Contents.{wanted, length_of, Filled, element_of}
+use Rattle.c_typed_addressed.specs.c_phrases.specs.Phrases.{AnExp, SomeExps, no_exps, exps}
+use Rattle.c_typed_addressed.specs.c_typed_expressions.specs.Phrases.{first}
+use Rattle.c_typed_addressed.specs.c_typed_expressions.specs.Expressions.{type_exp}
 
 module _ (names : List (List ℕ × Entry)) (signatures : List Signature) (scope : Scope) where
   -- a length in brackets; its literals are objects where it is no array's

@@ -11,3 +11,7 @@ pub mod Signatures
 pub mod Headings
 pub mod Bodies
 pub mod Texts
+pub use Rattle.c_typed_operators
+pub use Rattle.c_program
+pub use Rattle.c_typed_addressed.specs.c_typed_expressions as c_typed_expressions
+pub use Rattle.tree_core

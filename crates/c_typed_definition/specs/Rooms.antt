@@ -6,7 +6,7 @@ use Rattle.c_types.specs.declared.typed.Variable.TheVariants as variables
 use Rattle.c_types.specs.Types.{size_of}
 use Rattle.c_types.specs.Typed.{ReadOf, VariableAt}
 use Rattle.c_program.specs.Statements.{ADeclaration, StoreOf}
-use Rattle.c_typed_scope.specs.Layout.{aligned}
+use Rattle.c_typed_addressed.specs.c_typed_scope.specs.Layout.{aligned}
 use Rattle.c_typed_addressed.specs.Marks.{Marks, no_marks}
 
 -- To which of its variables the function applies `&`, how many automatic locals it has declared, the bytes of its memory locals so far,

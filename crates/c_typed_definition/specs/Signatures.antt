@@ -2,18 +2,18 @@
 -- This is how the code computes it; the rules of typing are the relations of c_typed_law.
 use Rattle.std.specs.Prelude.{ℕ, is_some, List, [], ◌∷◌}
 use Rattle.std.specs.Prelude.{◌++◌, length, map, codes, Option, Some, None, if◌then◌else◌}
-use Rattle.c_phrases.specs.declared.operator.Spec.{Spec}
+use Rattle.c_typed_addressed.specs.c_phrases.specs.declared.operator.Spec.{Spec}
 use Rattle.c_types.specs.declared.types.CType.{CType}
 use Rattle.c_types.specs.declared.types.CType.TheVariants as types
 use Rattle.c_types.specs.declared.types.Integer.{Integer}
 use Rattle.c_types.specs.declared.types.Integer.TheVariants as ints
-use Rattle.c_typed_scope.specs.declared.entry.Entry.{Entry}
-use Rattle.c_typed_scope.specs.declared.entry.Entry.TheVariants as entries
-use Rattle.c_typed_scope.specs.declared.entry.Signature.{Signature}
-use Rattle.c_phrases.specs.Units.{AParam, SomeParams, AFunction, ADeclared, function, globals, AnExternal}
-use Rattle.c_typed_expressions.specs.Phrases.{params_in, brackets_in}
-use Rattle.c_typed_scope.specs.Scopes.{find}
-use Rattle.c_typed_expressions.specs.Expressions.{integer_of, written}
+use Rattle.c_typed_addressed.specs.c_typed_scope.specs.declared.entry.Entry.{Entry}
+use Rattle.c_typed_addressed.specs.c_typed_scope.specs.declared.entry.Entry.TheVariants as entries
+use Rattle.c_typed_addressed.specs.c_typed_scope.specs.declared.entry.Signature.{Signature}
+use Rattle.c_typed_addressed.specs.c_phrases.specs.Units.{AParam, SomeParams, AFunction, ADeclared, function, globals, AnExternal}
+use Rattle.c_typed_addressed.specs.c_typed_expressions.specs.Phrases.{params_in, brackets_in}
+use Rattle.c_typed_addressed.specs.c_typed_scope.specs.Scopes.{find}
+use Rattle.c_typed_addressed.specs.c_typed_expressions.specs.Expressions.{integer_of, written}
 
 -- A parameter that is written as an array is a pointer.
 abbrev pub array_parameter : Option Integer → ℕ → CType

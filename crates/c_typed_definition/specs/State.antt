@@ -8,11 +8,11 @@ use Rattle.c_types.specs.declared.types.CType.TheVariants as types
 use Rattle.c_types.specs.declared.typed.Variable.{Variable}
 use Rattle.c_types.specs.declared.typed.Variable.TheVariants as variables
 use Rattle.c_types.specs.Answers.{Fault, ◌>>=◌}
-use Rattle.c_typed_scope.specs.declared.entry.Entry.{Entry}
-use Rattle.c_typed_scope.specs.declared.entry.Entry.TheVariants as entries
-use Rattle.c_typed_scope.specs.Scopes.{Scope, with_name}
-use Rattle.c_typed_scope.specs.Layout.{Area, placed}
-use Rattle.c_typed_scope.specs.Contents.{Filled}
+use Rattle.c_typed_addressed.specs.c_typed_scope.specs.declared.entry.Entry.{Entry}
+use Rattle.c_typed_addressed.specs.c_typed_scope.specs.declared.entry.Entry.TheVariants as entries
+use Rattle.c_typed_addressed.specs.c_typed_scope.specs.Scopes.{Scope, with_name}
+use Rattle.c_typed_addressed.specs.c_typed_scope.specs.Layout.{Area, placed}
+use Rattle.c_typed_addressed.specs.c_typed_scope.specs.Contents.{Filled}
 use Rattle.c_typed_definition.specs.Rooms.{Room, one_declared, taking}
 
 -- what is in scope and laid out while a function is read; of its locals so far that are no memory locals the types, and the numbers of

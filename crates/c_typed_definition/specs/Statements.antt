@@ -7,15 +7,15 @@ use Rattle.c_types.specs.Answers.{Fault, bad, ◌>>=◌}
 use Rattle.c_types.specs.Typed.{AnExpression}
 use Rattle.c_typed_operators.specs.Stores.{given}
 use Rattle.c_typed_operators.specs.Choices.{condition_of}
-use Rattle.c_typed_scope.specs.declared.entry.Entry.{Entry}
-use Rattle.c_typed_scope.specs.declared.entry.Signature.{Signature}
-use Rattle.c_phrases.specs.Phrases.{AnExp}
-use Rattle.c_phrases.specs.Units.{local_item, statement_item, AStatement, block, empty, expression, break_off}
-use Rattle.c_phrases.specs.Units.{continue_on, give_back, if_then, if_else, while_loop, do_loop, for_loop, SomeItems}
-use Rattle.c_phrases.specs.Units.{no_items}
-use Rattle.c_typed_expressions.specs.Phrases.{first}
-use Rattle.c_typed_scope.specs.Scopes.{enter, leave}
-use Rattle.c_typed_expressions.specs.Expressions.{type_exp}
+use Rattle.c_typed_addressed.specs.c_typed_scope.specs.declared.entry.Entry.{Entry}
+use Rattle.c_typed_addressed.specs.c_typed_scope.specs.declared.entry.Signature.{Signature}
+use Rattle.c_typed_addressed.specs.c_phrases.specs.Phrases.{AnExp}
+use Rattle.c_typed_addressed.specs.c_phrases.specs.Units.{local_item, statement_item, AStatement, block, empty, expression, break_off}
+use Rattle.c_typed_addressed.specs.c_phrases.specs.Units.{continue_on, give_back, if_then, if_else, while_loop, do_loop, for_loop, SomeItems}
+use Rattle.c_typed_addressed.specs.c_phrases.specs.Units.{no_items}
+use Rattle.c_typed_addressed.specs.c_typed_expressions.specs.Phrases.{first}
+use Rattle.c_typed_addressed.specs.c_typed_scope.specs.Scopes.{enter, leave}
+use Rattle.c_typed_addressed.specs.c_typed_expressions.specs.Expressions.{type_exp}
 use Rattle.c_typed_definition.specs.State.{State, with_area}
 use Rattle.c_typed_definition.specs.Automatics.{type_locals}
 use Rattle.c_program.specs.Statements.{AnAction, SomeActions, NoActions, MoreActions, DeclareOf, BlockOf, EvaluateOf}

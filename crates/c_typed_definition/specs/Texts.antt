@@ -3,23 +3,23 @@
 use Rattle.std.specs.Prelude.{ℕ, ◌+◌, ◌==◌, nat_lt, Bool, true, false, ◌&&◌, ◌||◌, is_some, List, [], ◌∷◌}
 use Rattle.std.specs.Prelude.{length, codes, Option, Some, None, option_map, Result, Ok, if◌then◌else◌}
 use Rattle.std.specs.Str.{bytes_eq}
-use Rattle.gg_base.specs.declared.limits.TheConstants.{AREA_START}
-use Rattle.c_phrases.specs.declared.operator.Spec.{Spec}
+use Rattle.c_typed_addressed.specs.gg_base.specs.declared.limits.TheConstants.{AREA_START}
+use Rattle.c_typed_addressed.specs.c_phrases.specs.declared.operator.Spec.{Spec}
 use Rattle.c_types.specs.declared.types.CType.TheVariants as types
 use Rattle.c_types.specs.declared.types.Integer.TheVariants as ints
 use Rattle.c_types.specs.declared.fault.TypeKind.TheVariants.{NoMain}
 use Rattle.c_types.specs.Answers.{Fault, bad, ◌>>=◌}
 use Rattle.c_types.specs.Types.{same_type}
-use Rattle.c_typed_scope.specs.declared.entry.Entry.{Entry}
-use Rattle.c_typed_scope.specs.declared.entry.Signature.{Signature}
-use Rattle.c_phrases.specs.Phrases.{AnExp}
-use Rattle.c_phrases.specs.Units.{SomeItems, ADeclarator, AParam, AFunction, ADeclared, function, globals, AnExternal}
-use Rattle.c_typed_expressions.specs.Phrases.{params_in, brackets_in}
-use Rattle.c_typed_scope.specs.Scopes.{Scope, find}
-use Rattle.c_typed_scope.specs.Layout.{Area}
-use Rattle.c_typed_expressions.specs.Expressions.{integer_of, written}
+use Rattle.c_typed_addressed.specs.c_typed_scope.specs.declared.entry.Entry.{Entry}
+use Rattle.c_typed_addressed.specs.c_typed_scope.specs.declared.entry.Signature.{Signature}
+use Rattle.c_typed_addressed.specs.c_phrases.specs.Phrases.{AnExp}
+use Rattle.c_typed_addressed.specs.c_phrases.specs.Units.{SomeItems, ADeclarator, AParam, AFunction, ADeclared, function, globals, AnExternal}
+use Rattle.c_typed_addressed.specs.c_typed_expressions.specs.Phrases.{params_in, brackets_in}
+use Rattle.c_typed_addressed.specs.c_typed_scope.specs.Scopes.{Scope, find}
+use Rattle.c_typed_addressed.specs.c_typed_scope.specs.Layout.{Area}
+use Rattle.c_typed_addressed.specs.c_typed_expressions.specs.Expressions.{integer_of, written}
 use Rattle.c_typed_definition.specs.Initialisers.{type_length}
-use Rattle.c_typed_scope.specs.Stack.{with_stack}
+use Rattle.c_typed_addressed.specs.c_typed_scope.specs.Stack.{with_stack}
 use Rattle.c_typed_definition.specs.Rooms.{no_room}
 use Rattle.c_typed_definition.specs.State.{State, with_area}
 use Rattle.c_typed_definition.specs.Declarations.{type_object}

@@ -4,9 +4,9 @@ use Rattle.std.specs.Prelude.{IfOk, IfErr}
 use Rattle.c_types.specs.declared.fault.TypeFault.{TypeFault}
 use Rattle.c_types.specs.declared.fault.TypeFault.TheVariants.{NoMemory, At}
 use Rattle.c_types.specs.Answers.{Fault, Gives}
-use Rattle.c_typed_operators.specs.Table.{Means, Refused, OnlyAnswer, OnlyFault}
+use Rattle.c_typed_definition.specs.c_typed_operators.specs.Table.{Means, Refused, OnlyAnswer, OnlyFault}
 use Rattle.c_phrases.specs.Units.{AnExternal}
-use Rattle.c_program.specs.Programs.{AProgram}
+use Rattle.c_typed_definition.specs.c_program.specs.Programs.{AProgram}
 use Rattle.c_typed_definition.specs.Texts.{type_text}
 use Rattle.c_typed_law.specs.Texts.{IsText, TextFault}
 use Rattle.c_typed_law.proofs.Law.{text_means}

@@ -8,16 +8,16 @@ use Rattle.c_types.specs.declared.types.CType.{CType}
 use Rattle.c_types.specs.declared.fault.TypeKind.TheVariants.{Twice, BadInit, BadType}
 use Rattle.c_types.specs.Types.{size_of}
 use Rattle.c_types.specs.Typed.{Constant}
-use Rattle.c_typed_operators.specs.Table.{Means}
+use Rattle.c_typed_definition.specs.c_typed_operators.specs.Table.{Means}
 use Rattle.c_typed_scope.specs.declared.entry.Entry.{Entry}
 use Rattle.c_typed_scope.specs.declared.entry.Signature.{Signature}
 use Rattle.c_typed_scope.specs.Scopes.{Scope, is_taken}
 use Rattle.c_phrases.specs.Phrases.{AnExp, SomeExps, no_exps, exps}
 use Rattle.c_phrases.specs.Units.{AnInit, value, elements, ADeclarator}
-use Rattle.c_program.specs.Statements.{ADeclaration, KeepOf, ClearOf, BeginOf, StoreOf}
-use Rattle.c_typed_expressions.specs.Phrases.{first, init_in, brackets_in}
-use Rattle.c_typed_expressions.specs.Expressions.{written}
-use Rattle.c_typed_expressions.proofs.Law.{means_then, means_ok, exp_means}
+use Rattle.c_typed_definition.specs.c_program.specs.Statements.{ADeclaration, KeepOf, ClearOf, BeginOf, StoreOf}
+use Rattle.c_typed_definition.specs.c_typed_expressions.specs.Phrases.{first, init_in, brackets_in}
+use Rattle.c_typed_definition.specs.c_typed_expressions.specs.Expressions.{written}
+use Rattle.c_typed_definition.specs.c_typed_expressions.proofs.Law.{means_then, means_ok, exp_means}
 use Rattle.c_typed_definition.specs.Forms.{text_of, form_fits, given_count, own_length, is_automatic, automatic_form}
 use Rattle.c_typed_definition.specs.Rooms.{offset_in, is_next_addressed}
 use Rattle.c_typed_definition.specs.State.{State, with_area, with_local, with_register}
@@ -30,7 +30,7 @@ use Rattle.c_typed_law.specs.Arrays.{IsGiven, GivenFault, IsStored, AreStored, S
 use Rattle.c_typed_law.specs.Arrays.{IsAutomaticLength, AutomaticLengthFault, IsArray, ArrayFault}
 use Rattle.c_typed_law.specs.Locals.{IsBegun, BegunFault, IsMemoryBegun, IsVariable, VariableFault, IsAutomaticBy, AutomaticFaultBy}
 use Rattle.c_typed_law.specs.Locals.{IsAutomatic, AutomaticFault, IsLocal, LocalFault, AreLocals, LocalsFault}
-use Rattle.c_typed_expressions.specs.Relations.{FirstOf}
+use Rattle.c_typed_definition.specs.c_typed_expressions.specs.Relations.{FirstOf}
 use Rattle.c_typed_law.proofs.Combined.{unless_means, with_means}
 use Rattle.c_typed_law.proofs.Values.{length_means}
 use Rattle.c_typed_law.proofs.Objects.{many_means, given_means, object_means}

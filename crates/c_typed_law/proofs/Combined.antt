@@ -4,9 +4,9 @@ use Rattle.std.specs.Prelude.{if◌then◌else◌}
 use Rattle.c_types.specs.declared.fault.TypeKind.{TypeKind}
 use Rattle.c_types.specs.declared.fault.TypeKind.TheVariants.{BadConst}
 use Rattle.c_types.specs.Answers.{Fault, bad}
-use Rattle.c_typed_operators.specs.Table.{Means, NoRow}
+use Rattle.c_typed_definition.specs.c_typed_operators.specs.Table.{Means, NoRow}
 use Rattle.c_typed_scope.specs.Contents.{wanted}
-use Rattle.c_typed_expressions.specs.Relations.{Unless, Refuses, Passes}
+use Rattle.c_typed_definition.specs.c_typed_expressions.specs.Relations.{Unless, Refuses, Passes}
 use Rattle.c_typed_law.specs.Tests.{With, Without, Lacking, Fails, Holds, IsFault}
 
 -- a fault alone

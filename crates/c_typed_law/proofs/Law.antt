@@ -7,7 +7,7 @@ use Rattle.c_types.specs.declared.types.Integer.{Integer}
 use Rattle.c_types.specs.declared.fault.TypeKind.TheVariants.{Twice, BadType, DataFull, NoMain}
 use Rattle.c_types.specs.Answers.{bad, ◌>>=◌}
 use Rattle.c_types.specs.Types.{is_scalar}
-use Rattle.c_typed_operators.specs.Table.{Means, NoRow}
+use Rattle.c_typed_definition.specs.c_typed_operators.specs.Table.{Means, NoRow}
 use Rattle.c_typed_scope.specs.declared.entry.Entry.{Entry}
 use Rattle.c_typed_scope.specs.declared.entry.Entry.TheVariants as entries
 use Rattle.c_typed_scope.specs.declared.entry.Signature.{Signature}
@@ -15,11 +15,11 @@ use Rattle.c_typed_scope.specs.Scopes.{Scope, find, is_taken}
 use Rattle.c_typed_scope.specs.Layout.{Area}
 use Rattle.c_phrases.specs.Phrases.{AnExp}
 use Rattle.c_phrases.specs.Units.{SomeItems, ADeclarator, AParam, AFunction, ADeclared, function, globals, AnExternal}
-use Rattle.c_typed_expressions.specs.Phrases.{params_in, brackets_in}
-use Rattle.c_typed_expressions.specs.Expressions.{integer_of, written}
-use Rattle.c_program.specs.Programs.{ARoutine}
-use Rattle.c_typed_expressions.specs.Relations.{Joint, Unless}
-use Rattle.c_typed_expressions.proofs.Law.{means_then, means_ok, means_is}
+use Rattle.c_typed_definition.specs.c_typed_expressions.specs.Phrases.{params_in, brackets_in}
+use Rattle.c_typed_definition.specs.c_typed_expressions.specs.Expressions.{integer_of, written}
+use Rattle.c_typed_definition.specs.c_program.specs.Programs.{ARoutine}
+use Rattle.c_typed_definition.specs.c_typed_expressions.specs.Relations.{Joint, Unless}
+use Rattle.c_typed_definition.specs.c_typed_expressions.proofs.Law.{means_then, means_ok, means_is}
 use Rattle.c_typed_definition.specs.State.{State, with_area}
 use Rattle.c_typed_definition.specs.Signatures.{parameter_type, signature_of, known}
 use Rattle.c_typed_definition.specs.Headings.{Text, with_state, same_signature, earlier_by, is_below, head_by}

@@ -6,9 +6,9 @@ use Rattle.c_types.specs.declared.types.CType.{CType}
 use Rattle.c_types.specs.declared.fault.TypeKind.TheVariants.{Twice, BadInit, BadType}
 use Rattle.c_types.specs.Types.{size_of, pointer_to, is_scalar}
 use Rattle.c_types.specs.Typed.{AnExpression, ConvertTo}
-use Rattle.c_typed_operators.specs.Rules.{fits}
-use Rattle.c_typed_operators.specs.Stores.{given}
-use Rattle.c_typed_operators.specs.Table.{Means}
+use Rattle.c_typed_definition.specs.c_typed_operators.specs.Rules.{fits}
+use Rattle.c_typed_definition.specs.c_typed_operators.specs.Stores.{given}
+use Rattle.c_typed_definition.specs.c_typed_operators.specs.Table.{Means}
 use Rattle.c_typed_scope.specs.declared.entry.Entry.{Entry}
 use Rattle.c_typed_scope.specs.declared.entry.Entry.TheVariants as entries
 use Rattle.c_typed_scope.specs.declared.entry.Signature.{Signature}
@@ -17,9 +17,9 @@ use Rattle.c_typed_scope.specs.Layout.{Area}
 use Rattle.c_typed_scope.specs.Contents.{filled_to, filled}
 use Rattle.c_phrases.specs.Phrases.{AnExp}
 use Rattle.c_phrases.specs.Units.{AnInit, value, elements, ADeclarator}
-use Rattle.c_typed_expressions.specs.Phrases.{init_in, brackets_in}
-use Rattle.c_typed_expressions.specs.Expressions.{written}
-use Rattle.c_typed_expressions.proofs.Law.{means_then, means_ok, means_is, exp_means}
+use Rattle.c_typed_definition.specs.c_typed_expressions.specs.Phrases.{init_in, brackets_in}
+use Rattle.c_typed_definition.specs.c_typed_expressions.specs.Expressions.{written}
+use Rattle.c_typed_definition.specs.c_typed_expressions.proofs.Law.{means_then, means_ok, means_is, exp_means}
 use Rattle.c_typed_definition.specs.Forms.{text_of, form_fits, given_count, own_length, form_of, many}
 use Rattle.c_typed_definition.specs.State.{State, with_area, named_state, measuring, variable_of, array_entry, laid, text_contents}
 use Rattle.c_typed_definition.specs.Declarations.{length_in, literals_in, contents_of, object_with, plain_object}
@@ -30,7 +30,7 @@ use Rattle.c_typed_law.specs.Objects.{IsCount, CountFault, AreLaid, LaidFault, H
 use Rattle.c_typed_law.specs.Objects.{FilledFault, IsPlainObject, PlainObjectFault, IsCountedArray, CountedArrayFault}
 use Rattle.c_typed_law.specs.Objects.{IsArrayObject, ArrayObjectFault, IsObjectBy, ObjectFaultBy, IsObject}
 use Rattle.c_typed_law.specs.Objects.{ObjectFault}
-use Rattle.c_typed_expressions.specs.Relations.{Unless}
+use Rattle.c_typed_definition.specs.c_typed_expressions.specs.Relations.{Unless}
 use Rattle.c_typed_law.proofs.Combined.{unless_means, with_means}
 use Rattle.c_typed_law.proofs.Values.{length_means, element_means, elements_mean}
 

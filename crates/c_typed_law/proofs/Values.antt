@@ -1,7 +1,7 @@
 -- Lengths and values of objects: the definition's answer is what the relations say.
 use Rattle.std.proofs.Common.{◌≡◌, ℕ, Bool, true, false, List, Ok, refl, ap}
 use Rattle.std.specs.Prelude.{if◌then◌else◌}
-use Rattle.tree_core.specs.declared.program.Object.{Object}
+use Rattle.c_typed_definition.specs.tree_core.specs.declared.program.Object.{Object}
 use Rattle.c_types.specs.declared.types.CType.{CType}
 use Rattle.c_types.specs.declared.types.CType.TheVariants as types
 use Rattle.c_types.specs.declared.types.Integer.{Integer}
@@ -9,15 +9,15 @@ use Rattle.c_types.specs.declared.fault.TypeKind.TheVariants.{BadType}
 use Rattle.c_types.specs.Types.{same_type, integer_size, is_integer}
 use Rattle.c_types.specs.Typed.{AnExpression, type_of, is_null}
 use Rattle.c_types.specs.Constants.{constant_of}
-use Rattle.c_typed_operators.specs.Table.{Means}
+use Rattle.c_typed_definition.specs.c_typed_operators.specs.Table.{Means}
 use Rattle.c_typed_scope.specs.declared.entry.Entry.{Entry}
 use Rattle.c_typed_scope.specs.declared.entry.Signature.{Signature}
 use Rattle.c_typed_scope.specs.Scopes.{Scope}
 use Rattle.c_typed_scope.specs.Layout.{Area}
 use Rattle.c_typed_scope.specs.Contents.{length_of, linked, Filled, with_value, with_link, integer_element, linked_element, element_of}
 use Rattle.c_phrases.specs.Phrases.{AnExp, SomeExps, no_exps, exps}
-use Rattle.c_typed_expressions.specs.Phrases.{first}
-use Rattle.c_typed_expressions.proofs.Law.{means_then, means_ok, exp_means}
+use Rattle.c_typed_definition.specs.c_typed_expressions.specs.Phrases.{first}
+use Rattle.c_typed_definition.specs.c_typed_expressions.proofs.Law.{means_then, means_ok, exp_means}
 use Rattle.c_typed_definition.specs.Initialisers.{type_length, type_element, type_elements}
 use Rattle.c_typed_law.specs.Values.{IsIntegerValue, IntegerFault, IsAddressValue, AddressFault, IsPointerValue, Null, Address, PointerFault, IsWritten, WrittenFault, IsLength}
 use Rattle.c_typed_law.specs.Values.{LengthFault, IsElement, ElementFault, AreElements, ElementsFault}

@@ -5,14 +5,14 @@ use Rattle.c_types.specs.declared.types.CType.{CType}
 use Rattle.c_types.specs.declared.fault.TypeKind.TheVariants.{BadInit, BadType}
 use Rattle.c_types.specs.Answers.{Fault}
 use Rattle.c_types.specs.Types.{size_of}
-use Rattle.c_typed_operators.specs.Rules.{fits}
+use Rattle.c_typed_definition.specs.c_typed_operators.specs.Rules.{fits}
 use Rattle.c_types.specs.Typed.{AnExpression, ConvertTo}
 use Rattle.c_typed_scope.specs.declared.entry.Entry.{Entry}
 use Rattle.c_typed_scope.specs.declared.entry.Signature.{Signature}
 use Rattle.c_phrases.specs.Units.{AnInit, value, elements, ADeclarator}
-use Rattle.c_program.specs.Statements.{ADeclaration, StoreOf}
-use Rattle.c_typed_expressions.specs.Phrases.{first, init_in}
-use Rattle.c_typed_expressions.specs.Relations.{Joint, FirstOf, Unless, IsTyped, FirstFault}
+use Rattle.c_typed_definition.specs.c_program.specs.Statements.{ADeclaration, StoreOf}
+use Rattle.c_typed_definition.specs.c_typed_expressions.specs.Phrases.{first, init_in}
+use Rattle.c_typed_definition.specs.c_typed_expressions.specs.Relations.{Joint, FirstOf, Unless, IsTyped, FirstFault}
 use Rattle.c_typed_definition.specs.Forms.{text_of, given_count, own_length}
 use Rattle.c_typed_definition.specs.Rooms.{offset_in}
 use Rattle.c_typed_definition.specs.State.{State, with_area}

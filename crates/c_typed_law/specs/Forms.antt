@@ -6,8 +6,8 @@ use Rattle.c_types.specs.Answers.{Fault}
 use Rattle.c_types.specs.Types.{is_scalar}
 use Rattle.c_typed_scope.specs.Scopes.{Scope, is_taken}
 use Rattle.c_phrases.specs.Units.{ADeclarator}
-use Rattle.c_typed_expressions.specs.Phrases.{init_in, brackets_in}
-use Rattle.c_typed_expressions.specs.Relations.{Unless}
+use Rattle.c_typed_definition.specs.c_typed_expressions.specs.Phrases.{init_in, brackets_in}
+use Rattle.c_typed_definition.specs.c_typed_expressions.specs.Relations.{Unless}
 use Rattle.c_typed_definition.specs.Forms.{form_fits, is_automatic}
 use Rattle.c_typed_law.specs.Tests.{With, Without, Lacking, Never}
 

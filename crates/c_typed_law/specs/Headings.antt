@@ -10,8 +10,8 @@ use Rattle.c_typed_scope.specs.declared.entry.Entry.TheVariants as entries
 use Rattle.c_typed_scope.specs.declared.entry.Signature.{Signature}
 use Rattle.c_typed_scope.specs.Scopes.{Scope, is_taken}
 use Rattle.c_phrases.specs.Units.{AParam}
-use Rattle.c_typed_expressions.specs.Expressions.{written}
-use Rattle.c_typed_expressions.specs.Relations.{Unless}
+use Rattle.c_typed_definition.specs.c_typed_expressions.specs.Expressions.{written}
+use Rattle.c_typed_definition.specs.c_typed_expressions.specs.Relations.{Unless}
 use Rattle.c_typed_definition.specs.Headings.{same_signature, word_of}
 use Rattle.c_typed_law.specs.Tests.{With, Without, Lacking, Never, IsFault}
 

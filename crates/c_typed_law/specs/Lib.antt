@@ -8,3 +8,4 @@ pub mod Statements
 pub mod Headings
 pub mod Wholes
 pub mod Texts
+pub use Rattle.c_typed_definition

@@ -11,10 +11,10 @@ use Rattle.c_typed_scope.specs.declared.entry.Entry.{Entry}
 use Rattle.c_typed_scope.specs.declared.entry.Signature.{Signature}
 use Rattle.c_phrases.specs.Phrases.{AnExp}
 use Rattle.c_phrases.specs.Units.{AnInit, value, elements, ADeclarator}
-use Rattle.c_program.specs.Statements.{ADeclaration, KeepOf, ClearOf, BeginOf, StoreOf}
-use Rattle.c_typed_expressions.specs.Phrases.{init_in, brackets_in}
-use Rattle.c_typed_expressions.specs.Expressions.{written}
-use Rattle.c_typed_expressions.specs.Relations.{Joint, FirstOf}
+use Rattle.c_typed_definition.specs.c_program.specs.Statements.{ADeclaration, KeepOf, ClearOf, BeginOf, StoreOf}
+use Rattle.c_typed_definition.specs.c_typed_expressions.specs.Phrases.{init_in, brackets_in}
+use Rattle.c_typed_definition.specs.c_typed_expressions.specs.Expressions.{written}
+use Rattle.c_typed_definition.specs.c_typed_expressions.specs.Relations.{Joint, FirstOf}
 use Rattle.c_typed_definition.specs.Rooms.{offset_in, is_next_addressed}
 use Rattle.c_typed_definition.specs.State.{State, with_local, with_register}
 use Rattle.c_typed_definition.specs.Automatics.{memory_variable}

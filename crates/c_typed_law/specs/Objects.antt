@@ -13,9 +13,9 @@ use Rattle.c_typed_scope.specs.Layout.{Area}
 use Rattle.c_typed_scope.specs.Contents.{Filled, filled_to, filled}
 use Rattle.c_phrases.specs.Phrases.{AnExp}
 use Rattle.c_phrases.specs.Units.{AnInit, value, elements, ADeclarator}
-use Rattle.c_typed_expressions.specs.Phrases.{init_in, brackets_in}
-use Rattle.c_typed_expressions.specs.Expressions.{written}
-use Rattle.c_typed_expressions.specs.Relations.{Joint, FirstOf, Unless, IsTyped, FirstFault}
+use Rattle.c_typed_definition.specs.c_typed_expressions.specs.Phrases.{init_in, brackets_in}
+use Rattle.c_typed_definition.specs.c_typed_expressions.specs.Expressions.{written}
+use Rattle.c_typed_definition.specs.c_typed_expressions.specs.Relations.{Joint, FirstOf, Unless, IsTyped, FirstFault}
 use Rattle.c_typed_definition.specs.Forms.{text_of, given_count, own_length}
 use Rattle.c_typed_definition.specs.State.{State, with_area, named_state, measuring, variable_of, array_entry, laid, text_contents}
 use Rattle.c_typed_law.specs.Tests.{Without, Never}

@@ -5,17 +5,17 @@ use Rattle.c_types.specs.declared.fault.TypeKind.TheVariants.{BadJump, BadType}
 use Rattle.c_types.specs.Answers.{Fault}
 use Rattle.c_types.specs.Types.{is_scalar}
 use Rattle.c_types.specs.Typed.{AnExpression, type_of, ConvertTo}
-use Rattle.c_typed_operators.specs.Rules.{fits}
+use Rattle.c_typed_definition.specs.c_typed_operators.specs.Rules.{fits}
 use Rattle.c_typed_scope.specs.declared.entry.Entry.{Entry}
 use Rattle.c_typed_scope.specs.declared.entry.Signature.{Signature}
 use Rattle.c_phrases.specs.Phrases.{AnExp}
 use Rattle.c_phrases.specs.Units.{ALocal, local_item, statement_item, AStatement, block, empty, expression, break_off}
 use Rattle.c_phrases.specs.Units.{continue_on, give_back, if_then, if_else, while_loop, do_loop, for_loop, SomeItems}
 use Rattle.c_phrases.specs.Units.{no_items}
-use Rattle.c_program.specs.Statements.{ADeclaration, AnAction, SomeActions, NoActions, MoreActions, DeclareOf, BlockOf}
-use Rattle.c_program.specs.Statements.{EvaluateOf, BreakOf, ContinueOf, ReturnOf, IfOf, IfElseOf, WhileOf, DoOf, ForOf}
-use Rattle.c_typed_expressions.specs.Phrases.{first}
-use Rattle.c_typed_expressions.specs.Relations.{Joint, FirstOf, IsTyped, FirstFault}
+use Rattle.c_typed_definition.specs.c_program.specs.Statements.{ADeclaration, AnAction, SomeActions, NoActions, MoreActions, DeclareOf, BlockOf}
+use Rattle.c_typed_definition.specs.c_program.specs.Statements.{EvaluateOf, BreakOf, ContinueOf, ReturnOf, IfOf, IfElseOf, WhileOf, DoOf, ForOf}
+use Rattle.c_typed_definition.specs.c_typed_expressions.specs.Phrases.{first}
+use Rattle.c_typed_definition.specs.c_typed_expressions.specs.Relations.{Joint, FirstOf, IsTyped, FirstFault}
 use Rattle.c_typed_definition.specs.State.{State, with_area}
 use Rattle.c_typed_definition.specs.Statements.{entered, left}
 use Rattle.c_typed_law.specs.Tests.{With, Lacking, Never}

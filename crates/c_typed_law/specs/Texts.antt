@@ -10,10 +10,10 @@ use Rattle.c_typed_scope.specs.Scopes.{Scope, find}
 use Rattle.c_typed_scope.specs.Layout.{Area}
 use Rattle.c_phrases.specs.Phrases.{AnExp}
 use Rattle.c_phrases.specs.Units.{SomeItems, ADeclarator, AParam, AFunction, ADeclared, function, globals, AnExternal}
-use Rattle.c_program.specs.Programs.{AProgram}
-use Rattle.c_typed_expressions.specs.Phrases.{params_in, brackets_in}
-use Rattle.c_typed_expressions.specs.Expressions.{integer_of, written}
-use Rattle.c_typed_expressions.specs.Relations.{Joint, FirstOf, Unless}
+use Rattle.c_typed_definition.specs.c_program.specs.Programs.{AProgram}
+use Rattle.c_typed_definition.specs.c_typed_expressions.specs.Phrases.{params_in, brackets_in}
+use Rattle.c_typed_definition.specs.c_typed_expressions.specs.Expressions.{integer_of, written}
+use Rattle.c_typed_definition.specs.c_typed_expressions.specs.Relations.{Joint, FirstOf, Unless}
 use Rattle.c_typed_definition.specs.State.{State, with_area}
 use Rattle.c_typed_definition.specs.Signatures.{parameter_type, signature_of, known}
 use Rattle.c_typed_definition.specs.Headings.{Text, with_state, is_below, with_parameter, with_declared, with_body}

@@ -1,6 +1,6 @@
 -- Lengths in brackets, and the values that objects hold at first.
 use Rattle.std.specs.Prelude.{◌≡◌, ℕ, true, false, List, Some}
-use Rattle.tree_core.specs.declared.program.Object.{Object}
+use Rattle.c_typed_definition.specs.tree_core.specs.declared.program.Object.{Object}
 use Rattle.c_types.specs.declared.types.CType.{CType}
 use Rattle.c_types.specs.declared.types.CType.TheVariants as types
 use Rattle.c_types.specs.declared.types.Integer.{Integer}
@@ -9,15 +9,15 @@ use Rattle.c_types.specs.Answers.{Fault}
 use Rattle.c_types.specs.Types.{same_type, integer_size, is_integer}
 use Rattle.c_types.specs.Typed.{AnExpression, type_of, is_null}
 use Rattle.c_types.specs.Constants.{constant_of}
-use Rattle.c_typed_operators.specs.Table.{NoRow}
+use Rattle.c_typed_definition.specs.c_typed_operators.specs.Table.{NoRow}
 use Rattle.c_typed_scope.specs.declared.entry.Entry.{Entry}
 use Rattle.c_typed_scope.specs.declared.entry.Signature.{Signature}
 use Rattle.c_typed_scope.specs.Scopes.{Scope}
 use Rattle.c_typed_scope.specs.Layout.{Area}
 use Rattle.c_typed_scope.specs.Contents.{length_of, linked, Filled, with_value, with_link}
 use Rattle.c_phrases.specs.Phrases.{AnExp, SomeExps, no_exps, exps}
-use Rattle.c_typed_expressions.specs.Phrases.{first}
-use Rattle.c_typed_expressions.specs.Relations.{Joint, FirstOf, IsTyped, FirstFault}
+use Rattle.c_typed_definition.specs.c_typed_expressions.specs.Phrases.{first}
+use Rattle.c_typed_definition.specs.c_typed_expressions.specs.Relations.{Joint, FirstOf, IsTyped, FirstFault}
 use Rattle.c_typed_law.specs.Tests.{With, Lacking, Never, IsFault}
 
 -- an integer's initialiser: a constant of an integer type

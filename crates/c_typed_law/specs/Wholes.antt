@@ -2,10 +2,10 @@
 use Rattle.std.specs.Prelude.{◌≡◌, ℕ, Some, Ok, Err}
 use Rattle.c_types.specs.declared.fault.TypeKind.TheVariants.{NoMain}
 use Rattle.c_types.specs.Answers.{Fault}
-use Rattle.c_typed_operators.specs.Table.{NoRow}
+use Rattle.c_typed_definition.specs.c_typed_operators.specs.Table.{NoRow}
 use Rattle.c_typed_scope.specs.Layout.{Area}
-use Rattle.c_program.specs.Programs.{AProgram}
-use Rattle.c_typed_expressions.specs.Relations.{Joint, FirstOf}
+use Rattle.c_typed_definition.specs.c_program.specs.Programs.{AProgram}
+use Rattle.c_typed_definition.specs.c_typed_expressions.specs.Relations.{Joint, FirstOf}
 use Rattle.c_typed_definition.specs.Headings.{Text}
 use Rattle.c_typed_definition.specs.Texts.{any_block, stacked_if, main_of}
 

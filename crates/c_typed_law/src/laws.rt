@@ -3,8 +3,8 @@ ghost use Rattle.std.specs.Prelude.{ℕ, List, Result, IfOk, IfErr};
 ghost use Rattle.c_phrases.specs.Units.{AnExternal};
 ghost use Rattle.c_types.specs.declared.fault.TypeFault.{TypeFault};
 ghost use Rattle.c_types.specs.Answers.{Fault, Gives};
-ghost use Rattle.c_typed_operators.specs.Table.{Means, Refused, OnlyAnswer, OnlyFault};
-ghost use Rattle.c_program.specs.Programs.{AProgram};
+ghost use Rattle.c_typed_definition.specs.c_typed_operators.specs.Table.{Means, Refused, OnlyAnswer, OnlyFault};
+ghost use Rattle.c_typed_definition.specs.c_program.specs.Programs.{AProgram};
 ghost use Rattle.c_typed_definition.specs.Texts.{type_text};
 ghost use Rattle.c_typed_law.specs.Texts.{IsText, TextFault};
 

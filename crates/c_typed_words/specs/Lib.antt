@@ -1,2 +1,3 @@
 pub mod Words
 pub mod Phrases
+pub use Rattle.c_sound

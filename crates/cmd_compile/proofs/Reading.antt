@@ -11,7 +11,7 @@ use Rattle.vax_core.specs.Text.{asm_text}
 use Rattle.vax_core.specs.Valid.{is_code}
 use Rattle.vax_reader.specs.Grammar.{Reads}
 use Rattle.vax_reader.proofs.TextLaws.{unique}
-use Rattle.vax_target_meaning.specs.Vax.{vax}
+use Rattle.cmd_check.specs.vax_target_meaning.specs.Vax.{vax}
 use Rattle.vax_machine_lists.specs.Sound.{AllBelow}
 use Rattle.vax_alike.specs.Alike.{Alike}
 use Rattle.vax_alike.specs.Laws.{AlikeRunsFollow}

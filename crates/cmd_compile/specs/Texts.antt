@@ -12,7 +12,7 @@ use Rattle.c_lower_scheme.specs.Programs.{lowered}
 use Rattle.vax_core.specs.declared.code.Code.{Code}
 use Rattle.vax_core.specs.Valid.{is_code}
 use Rattle.vax_core.specs.Text.{asm_text}
-use Rattle.vax_target_meaning.specs.Vax.{vax}
+use Rattle.cmd_check.specs.vax_target_meaning.specs.Vax.{vax}
 use Rattle.vax_alike.specs.Alike.{Alike}
 use Rattle.gg_compile.specs.Needs.{AllFit, IsFirstOver}
 use Rattle.gg_compile.specs.Selecting.{SelectedAll}

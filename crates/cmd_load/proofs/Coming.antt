@@ -7,12 +7,12 @@ use Rattle.cmd_session.specs.Telling.{IsRefused}
 use Rattle.cmd_files.specs.Outsides.{Lookup, Outside}
 use Rattle.cmd_files.specs.Stages.{FileRefused, Unread, LongFile, WrongFile, StarvedFile, OutputRefused, CutOutput, StarvedOutput}
 use Rattle.md_reader.specs.State.{Content}
-use Rattle.cmd_check.specs.lr_checked.specs.declared.checking.CheckFault.{CheckFault}
-use Rattle.cmd_check.specs.lr_checked.specs.declared.checking.CheckFault.TheVariants as check_fault
-use Rattle.cmd_check.specs.sel_parse.specs.Shown.{Refusal, PoolSmall, Template, Unshown}
-use Rattle.cmd_check.specs.Descriptions.{description_form, BuildRefused, TooMany, StarvedBuild, NotRead, NotBuilt, NotAccepted, NoTables, Stopped, NoRules}
-use Rattle.cmd_check.specs.Rules.{refusal_status, RulesRefused, NotShown, StarvedShow}
-use Rattle.cmd_check.specs.Stops.{TellsStop}
+use Rattle.cmd_compile.specs.lr_checked.specs.declared.checking.CheckFault.{CheckFault}
+use Rattle.cmd_compile.specs.lr_checked.specs.declared.checking.CheckFault.TheVariants as check_fault
+use Rattle.cmd_compile.specs.sel_parse.specs.Shown.{Refusal, PoolSmall, Template, Unshown}
+use Rattle.cmd_compile.specs.cmd_check.specs.Descriptions.{description_form, BuildRefused, TooMany, StarvedBuild, NotRead, NotBuilt, NotAccepted, NoTables, Stopped, NoRules}
+use Rattle.cmd_compile.specs.cmd_check.specs.Rules.{refusal_status, RulesRefused, NotShown, StarvedShow}
+use Rattle.cmd_compile.specs.cmd_check.specs.Stops.{TellsStop}
 use Rattle.cmd_compile.specs.Passing.{Passing}
 use Rattle.cmd_load.specs.declared.summary.Summary.{Summary}
 use Rattle.cmd_load.specs.Telling.{SummaryTold, Whole, Cut, StarvedSummary}

@@ -6,8 +6,8 @@ use Rattle.cmd_session.specs.declared.status.Status.TheVariants as statuses
 use Rattle.cmd_files.specs.Outsides.{Outside, HasNoFault}
 use Rattle.cmd_files.specs.Exact.{IsItem, IsAnswer}
 use Rattle.md_reader.specs.State.{Content}
-use Rattle.cmd_check.specs.Descriptions.{description_form, IsAccepted}
-use Rattle.cmd_check.specs.Exact.{Refuses}
+use Rattle.cmd_compile.specs.cmd_check.specs.Descriptions.{description_form, IsAccepted}
+use Rattle.cmd_compile.specs.cmd_check.specs.Exact.{Refuses}
 
 -- each status where its cause is there
 pub record Answers (result : Status) (file : File) : Type 0 where

@@ -16,7 +16,7 @@ use Rattle.c_typed.specs.Sources.{Reads}
 use Rattle.c_meaning.specs.Programs.{source}
 use Rattle.vax_machine.specs.Running.{run}
 use Rattle.gg_load.specs.Source.{source_text}
-use Rattle.cmd_check.specs.Descriptions.{description_form, IsAccepted, NotAccepted}
+use Rattle.cmd_compile.specs.cmd_check.specs.Descriptions.{description_form, IsAccepted, NotAccepted}
 use Rattle.cmd_compile.specs.Passing.{Passing}
 use Rattle.cmd_compile.specs.Texts.{IsTextBy}
 use Rattle.cmd_load_runs.specs.Sides.{EndsAt}

@@ -29,7 +29,7 @@ impl SourceText {
 
 impl FileForm for SourceText {
     ghost use Rattle.c_program.specs.Programs.{AProgram};
-    ghost use Rattle.c_typed_check.specs.Views.{typed};
+    ghost use Rattle.c_typed.specs.c_typed_check.specs.Views.{typed};
     ghost use Rattle.cmd_files.specs.Forms.{not_translated};
     ghost use Rattle.cmd_meaning.specs.Sources.{source_form, source_runner};
 

@@ -5,8 +5,8 @@ use Rattle.cmd_session.specs.declared.words.Command.TheVariants.{Check, Compile,
 use Rattle.cmd_session.specs.declared.status.Status.{Status}
 use Rattle.cmd_session.specs.Words.{IsCount, greatest_count, greatest_size, OnlyNamed, OnlyPaired, OnlyCounted, Says, SaysOnly}
 use Rattle.cmd_files.specs.Outsides.{Outside}
-use Rattle.cmd_compile.specs.Passing.{Passing}
-use Rattle.cmd_compile.specs.Outcome.{files, Leaves as CompileLeaves}
+use Rattle.cmd_load.specs.cmd_compile.specs.Passing.{Passing}
+use Rattle.cmd_load.specs.cmd_compile.specs.Outcome.{files, Leaves as CompileLeaves}
 use Rattle.cmd_load.specs.Outcome.{Leaves as LoadLeaves}
 
 pub only_check : (words : List (List ℕ)) (command : Command) (d : Bor (List ℕ)) → SaysOnly words command → command ≡ Check d → OnlyNamed (codes "check") words d.now

@@ -2,7 +2,7 @@
 ghost use Rattle.std.specs.Prelude.{◌≤◌};
 ghost use Rattle.gg_base.specs.declared.limits.TheConstants.{NEED_LIMIT};
 ghost use Rattle.sel_parse_desk.specs.Mirror.{IsReady};
-ghost use Rattle.vax_target_meaning.specs.Vax.{vax};
+ghost use Rattle.vax_target.specs.vax_target_meaning.specs.Vax.{vax};
 
 use gg_base::NoMemory;
 use gg_base::limits::NEED_LIMIT;

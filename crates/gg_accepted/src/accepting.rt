@@ -5,7 +5,7 @@ ghost use Rattle.lr_tables.specs.Promises.{IsNumbered};
 ghost use Rattle.sel_parse.specs.Answers.{Shows};
 ghost use Rattle.sel_parse.specs.Shown.{first_refusal};
 ghost use Rattle.sel_parse_effect.specs.Claims.{IsFit};
-ghost use Rattle.vax_target_meaning.specs.Vax.{vax};
+ghost use Rattle.vax_target.specs.vax_target_meaning.specs.Vax.{vax};
 
 use lr_checked::Checked;
 use lr_tables::Tables;

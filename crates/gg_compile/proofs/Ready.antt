@@ -13,9 +13,9 @@ use Rattle.c_lower.specs.c_typed_check.specs.declared.program.Program.{Program}
 use Rattle.c_lower_scheme.specs.Programs.{lowered}
 use Rattle.vax_core.specs.declared.code.Code.{Code}
 use Rattle.vax_core.specs.Valid.{is_code}
-use Rattle.vax_target_meaning.specs.Vax.{vax}
-use Rattle.gg_compile_code.specs.Selecting.{SelectedAll}
-use Rattle.gg_compile_code.specs.Going.{ProgramGoes}
+use Rattle.gg_compile_laws.specs.vax_target_meaning.specs.Vax.{vax}
+use Rattle.gg_compile_laws.specs.gg_compile_code.specs.Selecting.{SelectedAll}
+use Rattle.gg_compile_laws.specs.gg_compile_code.specs.Going.{ProgramGoes}
 use Rattle.gg_compile_laws.specs.Keeping.{Keeps}
 use Rattle.gg_compile_laws.specs.Ready.{HasReadyTrees}
 use Rattle.gg_compile_laws.proofs.Going.{trees_go}

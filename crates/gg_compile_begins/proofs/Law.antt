@@ -1,13 +1,13 @@
 -- The runs of a typed program's trees begin.
 use Rattle.c_program.specs.Programs.{AProgram}
 use Rattle.c_sound.specs.Sound.{IsSound}
-use Rattle.c_sound_texts.proofs.Law.{typed_is_sound}
+use Rattle.gg_compile_laws.specs.c_sound_texts.proofs.Law.{typed_is_sound}
 use Rattle.c_lower_scheme.specs.Programs.{lowered}
 use Rattle.c_lower_valid.proofs.Law.{lowered_is_valid}
 use Rattle.c_lower_valid.proofs.Naming.{labels_stay}
 use Rattle.c_lower_calm.proofs.Law.{each_tree_is_calm}
-use Rattle.gg_compile_keeps.specs.Programs.{IsSelectable}
-use Rattle.gg_compile_keeps.proofs.Law.{is_written}
+use Rattle.gg_compile_laws.specs.gg_compile_keeps.specs.Programs.{IsSelectable}
+use Rattle.gg_compile_laws.specs.gg_compile_keeps.proofs.Law.{is_written}
 use Rattle.gg_compile_laws.specs.Keeping.{IsWithinLimits}
 use Rattle.gg_compile_laws.proofs.Objects.{all_below, hold_numbers, are_apart, objects_named}
 use Rattle.gg_compile_laws.proofs.Limits.{typed_programs_are_within_limits}

@@ -6,7 +6,7 @@ use Rattle.tree_core.specs.Area.{opening}
 use Rattle.tree_meaning.specs.State.{State, Extent, begun}
 use Rattle.tree_meaning.specs.Meaning.{main_of}
 use Rattle.sel_target.specs.Meaning.{Meaning}
-use Rattle.sel_parse_joined.specs.sel_parse_effect.specs.Claims.{Begins}
+use Rattle.gg_compile_laws.specs.sel_parse_effect.specs.Claims.{Begins}
 
 -- the state of a program's trees in which `main` begins, on an input
 abbrev pub beginning : TreeProgram → TreeFn → List ℕ → State

@@ -3,15 +3,15 @@ use Rattle.std.specs.Prelude.{ℕ, List}
 use Rattle.tree_core.specs.declared.program.TreeProgram.{TreeProgram}
 use Rattle.md_reader.specs.State.{Content}
 use Rattle.c_program.specs.Programs.{AProgram}
-use Rattle.c_typed_check.specs.Typed.{IsTypedUnit}
+use Rattle.gg_compile_laws.specs.c_typed_check.specs.Typed.{IsTypedUnit}
 use Rattle.c_sound.specs.Fits.{AreBytes}
 use Rattle.c_lower_scheme.specs.Programs.{lowered}
-use Rattle.sel_parse_joined.specs.sel_parse_effect.specs.Claims.{IsFit}
+use Rattle.gg_compile_laws.specs.sel_parse_effect.specs.Claims.{IsFit}
 use Rattle.vax_core.specs.declared.code.Code.{Code}
 use Rattle.vax_machine_lists.specs.Sound.{AllBelow}
 use Rattle.vax_target_meaning.specs.Vax.{vax}
 use Rattle.gg_compile_law.specs.Written.{IsWritten}
-use Rattle.gg_compile_keeps.specs.gg_compile_code.specs.Selecting.{SelectedAll}
+use Rattle.gg_compile_laws.specs.gg_compile_code.specs.Selecting.{SelectedAll}
 use Rattle.gg_compile_laws.specs.Typed.{FitFrames}
 use Rattle.gg_compile_begins.specs.Begins.{HasBegin}
 

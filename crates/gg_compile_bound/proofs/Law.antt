@@ -8,7 +8,7 @@ use Rattle.tree_core.specs.declared.program.TreeProgram.{TreeProgram}
 use Rattle.tree_counts.specs.Counted.{tree_tally}
 use Rattle.c_program.specs.Programs.{AProgram}
 use Rattle.c_sound.specs.Sound.{IsSound}
-use Rattle.c_sound_texts.proofs.Law.{typed_is_sound}
+use Rattle.gg_compile_laws.specs.c_sound_texts.proofs.Law.{typed_is_sound}
 use Rattle.c_meaning.specs.Programs.{source}
 use Rattle.c_lower_scheme.specs.Programs.{lowered}
 use Rattle.c_lower_valid.proofs.Law.{lowered_is_valid}
@@ -27,8 +27,8 @@ use Rattle.vax_bound.proofs.Law.{runs_are_bounded}
 use Rattle.gg_compile_tallies.specs.Claims.{SaysWithin}
 use Rattle.gg_compile_tallies.specs.Claims.{Within as CodeWithin}
 use Rattle.gg_compile_tallies.proofs.Law.{written_codes_count_no_more}
-use Rattle.gg_compile_keeps.specs.Programs.{IsSelectable}
-use Rattle.gg_compile_keeps.proofs.Law.{is_written}
+use Rattle.gg_compile_laws.specs.gg_compile_keeps.specs.Programs.{IsSelectable}
+use Rattle.gg_compile_laws.specs.gg_compile_keeps.proofs.Law.{is_written}
 use Rattle.gg_compile_laws.specs.Keeping.{IsWithinLimits}
 use Rattle.gg_compile_laws.proofs.Objects.{all_below, hold_numbers, are_apart, objects_named}
 use Rattle.gg_compile_laws.proofs.Limits.{typed_programs_are_within_limits}

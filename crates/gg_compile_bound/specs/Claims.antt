@@ -4,18 +4,18 @@ use Rattle.gg_base.specs.declared.run.End.{End}
 use Rattle.gg_base.specs.declared.run.End.TheVariants.{Ended, Trapped, Wild, Deep, Spent, Broken}
 use Rattle.gg_base.specs.Runs.{Runs}
 use Rattle.c_program.specs.Programs.{AProgram}
-use Rattle.c_typed_check.specs.Typed.{IsTypedUnit}
+use Rattle.gg_compile_laws.specs.c_typed_check.specs.Typed.{IsTypedUnit}
 use Rattle.c_sound.specs.Fits.{AreBytes}
 use Rattle.c_meaning.specs.Programs.{source}
 use Rattle.c_lower_scheme.specs.Programs.{lowered}
 use Rattle.c_lower_counts.specs.Zeros.{with_zeros}
 use Rattle.md_reader.specs.State.{Content}
-use Rattle.sel_parse_written.specs.sel_parse_effect.specs.Claims.{IsFit}
+use Rattle.gg_compile_laws.specs.sel_parse_effect.specs.Claims.{IsFit}
 use Rattle.vax_core.specs.declared.code.Code.{Code}
 use Rattle.vax_machine.specs.Running.{run}
 use Rattle.vax_bound.specs.Bound.{bound}
-use Rattle.vax_target_meaning.specs.Vax.{vax}
-use Rattle.gg_compile_keeps.specs.gg_compile_code.specs.Selecting.{SelectedAll}
+use Rattle.gg_compile_laws.specs.vax_target_meaning.specs.Vax.{vax}
+use Rattle.gg_compile_laws.specs.gg_compile_code.specs.Selecting.{SelectedAll}
 use Rattle.gg_compile_laws.specs.Typed.{FitFrames}
 
 -- what an answer asks of another run with so many steps: where it tells an end, so does that, with the same output

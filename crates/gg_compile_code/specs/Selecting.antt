@@ -9,8 +9,8 @@ use Rattle.tree_core.specs.declared.program.TreeProgram.{TreeProgram}
 use Rattle.tree_core.specs.Names.{label_name}
 use Rattle.md_reader.specs.State.{Content}
 use Rattle.sel_regs.specs.Slots.{Frame}
-use Rattle.sel_target.specs.Meaning.{Meaning}
-use Rattle.sel_parse_desk.specs.Selected.{tree_of, Selected}
+use Rattle.vax_target.specs.sel_target.specs.Meaning.{Meaning}
+use Rattle.sel_parse.specs.sel_parse_desk.specs.Selected.{tree_of, Selected}
 use Rattle.vax_core.specs.declared.operand.Operand.{Operand}
 use Rattle.vax_core.specs.declared.code.Instr.{Instr}
 use Rattle.vax_core.specs.declared.code.Code.{Code}

@@ -2,7 +2,7 @@
 ghost use Rattle.std.specs.Prelude.{◌≤◌, IfOk, length};
 ghost use Rattle.std.specs.List.{All};
 ghost use Rattle.gg_base.specs.declared.limits.TheConstants.{AREA_LIMIT, NEED_LIMIT};
-ghost use Rattle.vax_target_meaning.specs.Vax.{vax};
+ghost use Rattle.vax_target.specs.vax_target_meaning.specs.Vax.{vax};
 ghost use Rattle.gg_compile_code.specs.Selecting.{SelectedAll};
 ghost use Rattle.gg_compile_code.specs.Going.{ProgramGoes};
 

@@ -3,7 +3,7 @@ ghost use Rattle.std.specs.Prelude.{◌≡◌, ◌≤◌, ◌++◌, [], ◌∷�
 ghost use Rattle.gg_base.specs.declared.limits.TheConstants.{NEED_LIMIT};
 ghost use Rattle.tree_core.specs.Names.{label_name};
 ghost use Rattle.vax_core.specs.declared.code.CodeItem.TheVariants as item_kind;
-ghost use Rattle.vax_target_meaning.specs.Vax.{vax};
+ghost use Rattle.vax_target.specs.vax_target_meaning.specs.Vax.{vax};
 ghost use Rattle.vax_frames.specs.Frames.{code_items};
 ghost use Rattle.gg_compile_code.specs.Selecting.{PutsItem, IsBody};
 ghost use Rattle.gg_compile_code.specs.Going.{ItemGoes, FunctionGoes};

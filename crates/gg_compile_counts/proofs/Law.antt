@@ -19,12 +19,12 @@ use Rattle.c_typed_scope.specs.declared.entry.Signature.{Signature}
 use Rattle.c_typed_scope.specs.Layout.{aligned}
 use Rattle.c_typed_expressions.specs.Expressions.{written}
 use Rattle.c_typed_expressions.specs.Phrases.{params_in}
-use Rattle.c_typed_definition.specs.State.{State}
-use Rattle.c_typed_definition.specs.Signatures.{known}
-use Rattle.c_typed_definition.specs.Headings.{Text, with_declared}
-use Rattle.c_typed_definition.specs.Texts.{empty_text}
-use Rattle.c_typed_definition.specs.Bodies.{routine_of, entered_function}
-use Rattle.c_typed_law.specs.Texts.{IsBody, IsFunction, IsExternalBy, AreExternals, IsText}
+use Rattle.gg_compile_spelled.specs.c_typed_definition.specs.State.{State}
+use Rattle.gg_compile_spelled.specs.c_typed_definition.specs.Signatures.{known}
+use Rattle.gg_compile_spelled.specs.c_typed_definition.specs.Headings.{Text, with_declared}
+use Rattle.gg_compile_spelled.specs.c_typed_definition.specs.Texts.{empty_text}
+use Rattle.gg_compile_spelled.specs.c_typed_definition.specs.Bodies.{routine_of, entered_function}
+use Rattle.gg_compile_spelled.specs.c_typed_law.specs.Texts.{IsBody, IsFunction, IsExternalBy, AreExternals, IsText}
 use Rattle.gg_compile_counts.specs.Sizes.{row_size, routines_size, program_size, block_size}
 use Rattle.gg_compile_counts.specs.Claims.{ProgramsAreSmall, TypedHaveFewLabels}
 use Rattle.gg_compile_counts.proofs.Labels.{labels_are_few}

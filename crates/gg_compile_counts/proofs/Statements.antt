@@ -27,14 +27,14 @@ use Rattle.c_typed_scope.specs.declared.entry.Entry.{Entry}
 use Rattle.c_typed_scope.specs.declared.entry.Signature.{Signature}
 use Rattle.c_typed_expressions.specs.Phrases.{init_in, brackets_in}
 use Rattle.c_typed_expressions.specs.Expressions.{written}
-use Rattle.c_typed_definition.specs.State.{State, with_local, with_register}
-use Rattle.c_typed_definition.specs.Statements.{entered}
-use Rattle.c_typed_definition.specs.Forms.{text_of, given_count}
-use Rattle.c_typed_definition.specs.Rooms.{offset_in, is_next_addressed}
-use Rattle.c_typed_definition.specs.Automatics.{memory_variable, memory_array, zeros, text_stores, text_stored}
-use Rattle.c_typed_law.specs.Locals.{IsBegun, IsAutomatic, IsLocal, AreLocals, IsMemoryBegun, IsVariable, IsAutomaticBy}
-use Rattle.c_typed_law.specs.Statements.{IsFull, IsCondition, IsPart, IsTurn, IsReturn, IsStatement, AreItems}
-use Rattle.c_typed_law.specs.Arrays.{IsGiven, IsStored, AreStored, IsArrayBegun}
+use Rattle.gg_compile_spelled.specs.c_typed_definition.specs.State.{State, with_local, with_register}
+use Rattle.gg_compile_spelled.specs.c_typed_definition.specs.Statements.{entered}
+use Rattle.gg_compile_spelled.specs.c_typed_definition.specs.Forms.{text_of, given_count}
+use Rattle.gg_compile_spelled.specs.c_typed_definition.specs.Rooms.{offset_in, is_next_addressed}
+use Rattle.gg_compile_spelled.specs.c_typed_definition.specs.Automatics.{memory_variable, memory_array, zeros, text_stores, text_stored}
+use Rattle.gg_compile_spelled.specs.c_typed_law.specs.Locals.{IsBegun, IsAutomatic, IsLocal, AreLocals, IsMemoryBegun, IsVariable, IsAutomaticBy}
+use Rattle.gg_compile_spelled.specs.c_typed_law.specs.Statements.{IsFull, IsCondition, IsPart, IsTurn, IsReturn, IsStatement, AreItems}
+use Rattle.gg_compile_spelled.specs.c_typed_law.specs.Arrays.{IsGiven, IsStored, AreStored, IsArrayBegun}
 use Rattle.gg_compile_counts.specs.Sizes.{declared_size, act_size, row_size}
 use Rattle.gg_compile_counts.proofs.Phrases.{exp_nodes}
 

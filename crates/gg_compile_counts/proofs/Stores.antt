@@ -19,18 +19,18 @@ use Rattle.c_typed_scope.specs.declared.entry.Entry.TheVariants as entries
 use Rattle.c_typed_scope.specs.declared.entry.Signature.{Signature}
 use Rattle.c_typed_expressions.specs.Phrases.{init_in, brackets_in}
 use Rattle.c_typed_expressions.specs.Expressions.{written}
-use Rattle.c_typed_definition.specs.Rooms.{offset_in, is_next_addressed, is_parameter_addressed, parameter_store, with_parameter_in}
-use Rattle.c_typed_definition.specs.State.{State, with_area, with_local, with_register, with_room, named_state, variable_of, array_entry}
-use Rattle.c_typed_definition.specs.Automatics.{memory_variable, memory_array}
-use Rattle.c_typed_definition.specs.Signatures.{parameter_type}
-use Rattle.c_typed_definition.specs.Headings.{with_parameter}
-use Rattle.c_typed_definition.specs.Bodies.{with_stores}
-use Rattle.c_typed_definition.specs.Statements.{entered}
-use Rattle.c_typed_law.specs.Arrays.{IsGiven, IsStored, AreStored, IsArrayBegun, IsAutomaticLength}
-use Rattle.c_typed_law.specs.Locals.{IsBegun, IsMemoryBegun, IsVariable, IsAutomaticBy, IsLocal, AreLocals}
-use Rattle.c_typed_law.specs.Objects.{IsFilled, IsCountedArray, IsObjectBy, IsObject}
-use Rattle.c_typed_law.specs.Statements.{IsFull, IsCondition, IsPart, IsTurn, IsReturn, IsStatement, AreItems}
-use Rattle.c_typed_law.specs.Texts.{AreParameters}
+use Rattle.gg_compile_spelled.specs.c_typed_definition.specs.Rooms.{offset_in, is_next_addressed, is_parameter_addressed, parameter_store, with_parameter_in}
+use Rattle.gg_compile_spelled.specs.c_typed_definition.specs.State.{State, with_area, with_local, with_register, with_room, named_state, variable_of, array_entry}
+use Rattle.gg_compile_spelled.specs.c_typed_definition.specs.Automatics.{memory_variable, memory_array}
+use Rattle.gg_compile_spelled.specs.c_typed_definition.specs.Signatures.{parameter_type}
+use Rattle.gg_compile_spelled.specs.c_typed_definition.specs.Headings.{with_parameter}
+use Rattle.gg_compile_spelled.specs.c_typed_definition.specs.Bodies.{with_stores}
+use Rattle.gg_compile_spelled.specs.c_typed_definition.specs.Statements.{entered}
+use Rattle.gg_compile_spelled.specs.c_typed_law.specs.Arrays.{IsGiven, IsStored, AreStored, IsArrayBegun, IsAutomaticLength}
+use Rattle.gg_compile_spelled.specs.c_typed_law.specs.Locals.{IsBegun, IsMemoryBegun, IsVariable, IsAutomaticBy, IsLocal, AreLocals}
+use Rattle.gg_compile_spelled.specs.c_typed_law.specs.Objects.{IsFilled, IsCountedArray, IsObjectBy, IsObject}
+use Rattle.gg_compile_spelled.specs.c_typed_law.specs.Statements.{IsFull, IsCondition, IsPart, IsTurn, IsReturn, IsStatement, AreItems}
+use Rattle.gg_compile_spelled.specs.c_typed_law.specs.Texts.{AreParameters}
 use Rattle.gg_compile_counts.specs.Sizes.{declared_size, row_size}
 
 -- the stores of parameters

@@ -3,8 +3,8 @@ use Rattle.std.specs.Prelude.{ℕ, List, ◌*◌, ◌<◌, ◌≤◌, length}
 use Rattle.c_phrases.specs.Units.{AUnit}
 use Rattle.c_phrases.specs.UnitSpelling.{unit_tokens}
 use Rattle.c_program.specs.Programs.{AProgram}
-use Rattle.c_typed_law.specs.Texts.{IsText}
-use Rattle.c_typed_words.specs.Words.{HasTokens}
+use Rattle.gg_compile_spelled.specs.c_typed_law.specs.Texts.{IsText}
+use Rattle.gg_compile_spelled.specs.c_typed_words.specs.Words.{HasTokens}
 use Rattle.gg_compile_spelled.specs.Claims.{label_count}
 use Rattle.gg_compile_counts.specs.Sizes.{program_size}
 

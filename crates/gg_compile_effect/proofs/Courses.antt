@@ -5,15 +5,15 @@ use Rattle.tree_core.specs.Names.{label_name, function_label}
 use Rattle.tree_meaning.specs.State.{State as Trees, Extent}
 use Rattle.gg_base.specs.declared.run.Finish.TheVariants as finish
 use Rattle.tree_meaning.specs.Steps.{Step, Goes as GoesOn, Serves, GoesTo, Enters, GoesBack, Ends}
-use Rattle.sel_target.specs.Courses as target
-use Rattle.sel_target.specs.StatementLaws as steps
-use Rattle.sel_target.specs.StatementLaws.{IsStep}
+use Rattle.sel_parse_lines.specs.sel_target.specs.Courses as target
+use Rattle.sel_parse_lines.specs.sel_target.specs.StatementLaws as steps
+use Rattle.sel_parse_lines.specs.sel_target.specs.StatementLaws.{IsStep}
 use Rattle.vax_core.specs.declared.code.Instr.{Instr}
 use Rattle.vax_machine.specs.declared.turn.Stop.TheVariants as stops
 use Rattle.vax_machine.specs.State.{State}
-use Rattle.vax_machine_lists.specs.Instructions.{Course, Ending, Comes, Goes, Calls, Returns, Stops}
-use Rattle.vax_target_meaning.specs.Running.{ending_of, course_of}
-use Rattle.vax_target_meaning.specs.Vax.{vax}
+use Rattle.gg_compile_law.specs.vax_machine_lists.specs.Instructions.{Course, Ending, Comes, Goes, Calls, Returns, Stops}
+use Rattle.vax_target_laws.specs.vax_target_meaning.specs.Running.{ending_of, course_of}
+use Rattle.vax_target_laws.specs.vax_target_meaning.specs.Vax.{vax}
 use Rattle.gg_compile_law.specs.Effects.{Stays, Does}
 
 -- ---- what a course is

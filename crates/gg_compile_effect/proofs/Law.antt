@@ -20,12 +20,12 @@ use Rattle.tree_meaning.specs.Steps as steps
 use Rattle.md_reader.specs.declared.types.Class.{Class}
 use Rattle.md_reader.specs.declared.types.Rule.{Rule}
 use Rattle.md_reader.specs.State.{Content}
-use Rattle.sel_terms.specs.Effects.{EffectShape}
-use Rattle.sel_target.specs.StatementLaws.{IsStep}
+use Rattle.sel_parse_lines.specs.sel_terms.specs.Effects.{EffectShape}
+use Rattle.sel_parse_lines.specs.sel_target.specs.StatementLaws.{IsStep}
 use Rattle.vax_target_places.specs.sel_parse.specs.Shown.{IsShown}
-use Rattle.sel_parse_moves.specs.Claims.{root, deed}
-use Rattle.sel_parse_moves.specs.Possible.{FitsArea, IsPossible}
-use Rattle.sel_parse_desk.specs.Selected.{tree_of}
+use Rattle.sel_parse_lines.specs.sel_parse_moves.specs.Claims.{root, deed}
+use Rattle.sel_parse_lines.specs.sel_parse_moves.specs.Possible.{FitsArea, IsPossible}
+use Rattle.vax_target_places.specs.sel_parse_desk.specs.Selected.{tree_of}
 use Rattle.sel_parse_lines.specs.sel_parse_selected.specs.Selected.{Selected}
 use Rattle.vax_target_places.specs.sel_parse_effect.specs.Claims.{frame_sight, IsFit, Begins}
 use Rattle.vax_target_places.specs.sel_parse_effect.specs.Claims as selection
@@ -33,11 +33,11 @@ use Rattle.vax_target_places.specs.sel_parse_effect.proofs.Law.{selected_has_eff
 use Rattle.sel_parse_lines.proofs.Ending.{statements_have_code}
 use Rattle.vax_core.specs.declared.code.Instr.{Instr}
 use Rattle.vax_machine.specs.State.{State}
-use Rattle.vax_machine_lists.specs.Instructions.{exec}
-use Rattle.vax_states.specs.Agreeing.{Agrees}
-use Rattle.vax_target_meaning.specs.Fitting.{CanWrite}
-use Rattle.vax_target_meaning.specs.Running.{run}
-use Rattle.vax_target_meaning.specs.Vax.{vax}
+use Rattle.gg_compile_law.specs.vax_machine_lists.specs.Instructions.{exec}
+use Rattle.gg_compile_law.specs.vax_states.specs.Agreeing.{Agrees}
+use Rattle.vax_target_laws.specs.vax_target_meaning.specs.Fitting.{CanWrite}
+use Rattle.vax_target_laws.specs.vax_target_meaning.specs.Running.{run}
+use Rattle.vax_target_laws.specs.vax_target_meaning.specs.Vax.{vax}
 use Rattle.vax_target_places.proofs.Law.{stores_go_to_places}
 use Rattle.vax_target_laws.proofs.Law.{vax_is_lawful}
 use Rattle.gg_compile_law.specs.Effects.{Does, IsReady, HasEffect}

@@ -21,16 +21,16 @@ use Rattle.tree_core.specs.Valid.{names, leaf_names}
 use Rattle.tree_meaning.specs.State.{State as Trees, Extent}
 use Rattle.tree_meaning.specs.Values.{Sight}
 use Rattle.md_reader.specs.State.{Content}
-use Rattle.sel_target.specs.Spelled.{IsSpelled}
-use Rattle.sel_target.specs.Values.{address_of}
-use Rattle.sel_parse_moves.specs.Claims.{root}
-use Rattle.sel_parse_moves.proofs.Covering.{AreLeaves}
-use Rattle.sel_parse_moves.proofs.Moves.{leaves_of}
-use Rattle.sel_parse_desk.specs.Selected.{tree_of}
+use Rattle.sel_parse_lines.specs.sel_target.specs.Spelled.{IsSpelled}
+use Rattle.sel_parse_lines.specs.sel_target.specs.Values.{address_of}
+use Rattle.sel_parse_lines.specs.sel_parse_moves.specs.Claims.{root}
+use Rattle.sel_parse_lines.specs.sel_parse_moves.proofs.Covering.{AreLeaves}
+use Rattle.sel_parse_lines.specs.sel_parse_moves.proofs.Moves.{leaves_of}
+use Rattle.vax_target_places.specs.sel_parse_desk.specs.Selected.{tree_of}
 use Rattle.vax_target_places.specs.sel_parse_stands.specs.Stands.{NamedBy, Names}
 use Rattle.vax_core.specs.declared.register.Reg.TheVariants.{R0}
 use Rattle.vax_machine.specs.State.{State, reg}
-use Rattle.vax_target_meaning.specs.Vax.{vax}
+use Rattle.vax_target_laws.specs.vax_target_meaning.specs.Vax.{vax}
 use Rattle.gg_compile_law.specs.Roles.{Calls, Saves, role_of}
 use Rattle.gg_compile_effect.proofs.Trees.{IsLow, Headed, headed, root_is}
 

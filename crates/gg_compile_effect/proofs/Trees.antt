@@ -11,9 +11,9 @@ use Rattle.tree_core.specs.declared.tree.Leaf.{Leaf}
 use Rattle.tree_core.specs.Grammar.{kids, sort_of, fits}
 use Rattle.tree_core.specs.Attributes.{leaf_fits, end_leaf}
 use Rattle.tree_core.specs.Trees.{Forest, none, tree, leaves_onto, sort_fits, stands_for, Typed, IsTyped}
-use Rattle.sel_parse_moves.specs.Claims.{root}
-use Rattle.sel_parse_moves.proofs.Piles.{leaves_before}
-use Rattle.sel_parse_desk.specs.Selected.{tree_of}
+use Rattle.sel_parse_lines.specs.sel_parse_moves.specs.Claims.{root}
+use Rattle.sel_parse_lines.specs.sel_parse_moves.proofs.Piles.{leaves_before}
+use Rattle.vax_target_places.specs.sel_parse_desk.specs.Selected.{tree_of}
 
 -- the leaves of a typed root's tree
 pub tree_leaves : (w : List Leaf) (h : IsTyped w sort.Stmt) → tree_of w ≡ leaves_onto h.trees []

@@ -8,13 +8,13 @@ use Rattle.tree_core.specs.declared.program.TreeProgram.{TreeProgram}
 use Rattle.tree_core.specs.Calm.{Calm}
 use Rattle.tree_core.specs.Valid.{IsValid, ItemStands}
 use Rattle.md_reader.specs.State.{Content}
-use Rattle.sel_target.specs.Spelled.{IsSpelled}
-use Rattle.sel_parse_desk.specs.Selected.{tree_of}
+use Rattle.sel_parse_lines.specs.sel_target.specs.Spelled.{IsSpelled}
+use Rattle.vax_target_places.specs.sel_parse_desk.specs.Selected.{tree_of}
 use Rattle.sel_parse_lines.specs.sel_parse_selected.specs.Selected.{Selected}
 use Rattle.vax_target_places.specs.sel_parse_effect.specs.Claims.{IsFit}
 use Rattle.vax_core.specs.declared.code.Instr.{Instr}
-use Rattle.vax_target_meaning.specs.Fitting.{CanWrite}
-use Rattle.vax_target_meaning.specs.Vax.{vax}
+use Rattle.vax_target_laws.specs.vax_target_meaning.specs.Fitting.{CanWrite}
+use Rattle.vax_target_laws.specs.vax_target_meaning.specs.Vax.{vax}
 use Rattle.gg_compile_law.specs.Effects.{HasEffect}
 
 -- A tree of a function of the program: a typed statement whose leaves name what is there, with longwords for numbers;

@@ -13,7 +13,7 @@ use Rattle.tree_core.specs.declared.program.TreeFn.{TreeFn}
 use Rattle.tree_core.specs.declared.program.TreeProgram.{TreeProgram}
 use Rattle.tree_core.specs.Names.{label_name, function_label}
 use Rattle.md_reader.specs.State.{Content}
-use Rattle.sel_parse_joined.specs.sel_parse_effect.specs.Claims.{IsFit}
+use Rattle.gg_compile_laws.specs.sel_parse_effect.specs.Claims.{IsFit}
 use Rattle.vax_core.specs.declared.code.CodeItem.{CodeItem}
 use Rattle.vax_core.specs.declared.code.CodeItem.TheVariants as item_kind
 use Rattle.vax_core.specs.declared.code.Code.{Code}
@@ -27,12 +27,12 @@ use Rattle.vax_frames_law.proofs.Framing.{frames_are_guarded}
 use Rattle.vax_target_meaning.specs.Vax.{vax}
 use Rattle.gg_compile_law.specs.Programs.{stands_in}
 use Rattle.gg_compile_law.proofs.Validity.{IsIn, root_facts}
-use Rattle.gg_compile_keeps.specs.gg_compile_code.specs.Selecting.{AreSelected, nothing, label, tree, IsSelectedFunction, AreSelectedFunctions, none, more}
-use Rattle.gg_compile_keeps.specs.Programs.{IsSelectable}
-use Rattle.gg_compile_keeps.proofs.Leaves.{tree_inside}
-use Rattle.gg_compile_keeps.proofs.Trees.{Among, behind, tree_of_it, selected}
-use Rattle.gg_compile_keeps.proofs.Functions.{AreOf}
-use Rattle.gg_compile_keeps.proofs.Law.{selected_codes_keep_trees}
+use Rattle.gg_compile_laws.specs.gg_compile_code.specs.Selecting.{AreSelected, nothing, label, tree, IsSelectedFunction, AreSelectedFunctions, none, more}
+use Rattle.gg_compile_laws.specs.gg_compile_keeps.specs.Programs.{IsSelectable}
+use Rattle.gg_compile_laws.specs.gg_compile_keeps.proofs.Leaves.{tree_inside}
+use Rattle.gg_compile_laws.specs.gg_compile_keeps.proofs.Trees.{Among, behind, tree_of_it, selected}
+use Rattle.gg_compile_laws.specs.gg_compile_keeps.proofs.Functions.{AreOf}
+use Rattle.gg_compile_laws.specs.gg_compile_keeps.proofs.Law.{selected_codes_keep_trees}
 use Rattle.gg_compile_frames.specs.Claims.{SelectedCodesAreFrames, SelectedCodesAreGuarded}
 use Rattle.gg_compile_frames.proofs.Inside.{Inside, selected_inside}
 

@@ -9,9 +9,9 @@ use Rattle.tree_core.specs.Names.{label_name}
 use Rattle.md_reader.specs.State.{Content}
 use Rattle.sel_target.specs.declared.attr.Attr.{Attr}
 use Rattle.sel_target.specs.declared.attr.Attr.TheVariants as attr
-use Rattle.sel_parse_lines.specs.Claims.{Lasts, IsFilled}
-use Rattle.sel_parse_lines.specs.sel_parse_selected.specs.Selected.{Selected}
-use Rattle.sel_parse_lines.proofs.Filling.{selections_are_filled}
+use Rattle.gg_compile_laws.specs.sel_parse_lines.specs.Claims.{Lasts, IsFilled}
+use Rattle.gg_compile_laws.specs.sel_parse_selected.specs.Selected.{Selected}
+use Rattle.gg_compile_laws.specs.sel_parse_lines.proofs.Filling.{selections_are_filled}
 use Rattle.vax_core.specs.declared.op.Op.{Op}
 use Rattle.vax_core.specs.declared.op.Op.TheVariants as ops
 use Rattle.vax_core.specs.declared.operand.Operand.{Operand}
@@ -24,7 +24,7 @@ use Rattle.vax_templates.specs.Instructions.{Instruction, Relation, Jump, Calls,
 use Rattle.vax_templates.specs.Filled.{attr_at}
 use Rattle.vax_templates.specs.FilledLines.{op_in, label_of_att, label_in, label_among, branch_to, callee_among, call_of, filled_instruction}
 use Rattle.vax_target_meaning.specs.Vax.{vax}
-use Rattle.gg_compile_names.specs.Claims.{GoesInside}
+use Rattle.gg_compile_laws.specs.gg_compile_names.specs.Claims.{GoesInside}
 
 module _ (q : TreeProgram) (code : List CodeItem) where
   -- the label to which a token goes stands in the code

@@ -3,7 +3,7 @@ use Rattle.std.proofs.Common.{◌≡◌, ℕ, ◌<◌, ◌≤◌, List, [], ◌�
 use Rattle.std.specs.Prelude.{slice_index}
 use Rattle.c_program.specs.Programs.{AProgram}
 use Rattle.c_sound.specs.Sound.{IsSound}
-use Rattle.c_sound_texts.proofs.Law.{typed_is_sound}
+use Rattle.gg_compile_laws.specs.c_sound_texts.proofs.Law.{typed_is_sound}
 use Rattle.c_lower_scheme.specs.Programs.{lowered}
 use Rattle.c_lower_valid.proofs.Law.{lowered_is_valid}
 use Rattle.c_lower_valid.proofs.Naming.{labels_stay}
@@ -16,7 +16,7 @@ use Rattle.vax_frames_law.specs.Guarding.{IsGuarded, KeepsRegisters}
 use Rattle.vax_frames_law.specs.Within.{mask_from}
 use Rattle.vax_frames_law.proofs.Guarding.{steps_keep, returns_restore, calls_save, runs_begin_intact}
 use Rattle.vax_frames_law.proofs.Undoing.{returns_undo}
-use Rattle.gg_compile_keeps.specs.Programs.{IsSelectable}
+use Rattle.gg_compile_laws.specs.gg_compile_keeps.specs.Programs.{IsSelectable}
 use Rattle.gg_compile_laws.specs.Keeping.{IsWithinLimits}
 use Rattle.gg_compile_laws.specs.Typed.{FitFrames}
 use Rattle.gg_compile_laws.proofs.Objects.{hold_numbers, are_apart, objects_named}

@@ -4,10 +4,10 @@ use Rattle.gg_base.specs.declared.size.Size.TheVariants.{Byte}
 use Rattle.gg_base.specs.Arithmetic.{sub32}
 use Rattle.tree_core.specs.declared.program.TreeProgram.{TreeProgram}
 use Rattle.c_program.specs.Programs.{AProgram}
-use Rattle.c_typed_check.specs.Typed.{IsTypedUnit}
+use Rattle.gg_compile_laws.specs.c_typed_check.specs.Typed.{IsTypedUnit}
 use Rattle.c_lower_scheme.specs.Programs.{lowered}
 use Rattle.md_reader.specs.State.{Content}
-use Rattle.sel_parse_joined.specs.sel_parse_effect.specs.Claims.{IsFit}
+use Rattle.gg_compile_laws.specs.sel_parse_effect.specs.Claims.{IsFit}
 use Rattle.vax_core.specs.declared.register.Reg.TheVariants.{Sp}
 use Rattle.vax_core.specs.declared.code.CodeItem.{CodeItem}
 use Rattle.vax_core.specs.declared.code.Code.{Code}
@@ -18,8 +18,8 @@ use Rattle.vax_target_meaning.specs.Vax.{vax}
 use Rattle.vax_frames_law.specs.Guarding.{IsGuarded, KeepsRegisters}
 use Rattle.vax_frames_law.specs.Within.{AreFrames, mask_from}
 use Rattle.vax_frames_law.specs.Undoing.{IsUndone}
-use Rattle.gg_compile_keeps.specs.gg_compile_code.specs.Selecting.{SelectedAll}
-use Rattle.gg_compile_keeps.specs.Programs.{IsSelectable}
+use Rattle.gg_compile_laws.specs.gg_compile_code.specs.Selecting.{SelectedAll}
+use Rattle.gg_compile_laws.specs.gg_compile_keeps.specs.Programs.{IsSelectable}
 use Rattle.gg_compile_laws.specs.Typed.{FitFrames}
 use Rattle.gg_compile_frames.specs.Reached.{Reached, GoesOn}
 

@@ -7,10 +7,10 @@ use Rattle.tree_core.specs.declared.program.TreeProgram.{TreeProgram}
 use Rattle.md_reader.specs.State.{Content}
 use Rattle.sel_parse_joined.specs.sel_parse_effect.specs.Claims.{IsFit}
 use Rattle.vax_core.specs.declared.code.CodeItem.{CodeItem}
-use Rattle.vax_target_meaning.specs.Vax.{vax}
-use Rattle.gg_compile_law.specs.Assembled.{IsFunctionCode, AreFunctions}
-use Rattle.gg_compile_law.specs.Assembled as assembled
-use Rattle.gg_compile_law.proofs.Assembling.{frames_are_function_codes}
+use Rattle.gg_compile_names.specs.vax_target_meaning.specs.Vax.{vax}
+use Rattle.gg_compile_effect.specs.gg_compile_law.specs.Assembled.{IsFunctionCode, AreFunctions}
+use Rattle.gg_compile_effect.specs.gg_compile_law.specs.Assembled as assembled
+use Rattle.gg_compile_effect.specs.gg_compile_law.proofs.Assembling.{frames_are_function_codes}
 use Rattle.gg_compile_code.specs.Selecting.{IsSelectedFunction, AreSelectedFunctions, none, more}
 use Rattle.gg_compile_keeps.specs.Programs.{IsSelectable}
 use Rattle.gg_compile_keeps.proofs.Trees.{used_up, words_few, tree_code}

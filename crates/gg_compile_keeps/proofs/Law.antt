@@ -6,10 +6,10 @@ use Rattle.sel_parse_joined.specs.sel_parse_effect.specs.Claims.{IsFit}
 use Rattle.vax_core.specs.declared.code.Code.{Code}
 use Rattle.vax_core.specs.declared.code.AreaItem.{AreaItem}
 use Rattle.vax_machine.specs.Labels.{undefined_label}
-use Rattle.vax_target_meaning.specs.Vax.{vax}
-use Rattle.gg_compile_law.specs.Assembled.{AreFunctions}
-use Rattle.gg_compile_law.specs.Written.{IsWritten}
-use Rattle.gg_compile_law.proofs.Law.{written_codes_load, written_codes_follow}
+use Rattle.gg_compile_names.specs.vax_target_meaning.specs.Vax.{vax}
+use Rattle.gg_compile_effect.specs.gg_compile_law.specs.Assembled.{AreFunctions}
+use Rattle.gg_compile_effect.specs.gg_compile_law.specs.Written.{IsWritten}
+use Rattle.gg_compile_effect.specs.gg_compile_law.proofs.Law.{written_codes_load, written_codes_follow}
 use Rattle.gg_compile_names.proofs.Standing.{labels_stand}
 use Rattle.gg_compile_code.specs.Selecting.{SelectedAll}
 use Rattle.gg_compile_keeps.specs.Programs.{IsSelectable}

@@ -16,17 +16,17 @@ use Rattle.tree_core.specs.Grammar.{sort_of}
 use Rattle.tree_core.specs.Trees.{IsTyped}
 use Rattle.tree_core.specs.Valid.{names, leaf_names}
 use Rattle.tree_core.specs.Names.{label_name}
-use Rattle.sel_target.specs.Instances.{InFrame}
-use Rattle.sel_target.specs.Spelled.{IsSpelled}
+use Rattle.sel_parse_joined.specs.sel_target.specs.Instances.{InFrame}
+use Rattle.sel_parse_joined.specs.sel_target.specs.Spelled.{IsSpelled}
 use Rattle.gg_compile_effect.specs.sel_parse_moves.specs.Claims.{root}
 use Rattle.gg_compile_effect.specs.sel_parse_moves.proofs.Covering.{AreLeaves}
 use Rattle.gg_compile_effect.specs.sel_parse_moves.proofs.Moves.{leaves_of}
-use Rattle.sel_parse_desk.specs.Selected.{tree_of}
+use Rattle.sel_parse_joined.specs.sel_parse_desk.specs.Selected.{tree_of}
 use Rattle.sel_parse_joined.specs.sel_parse_slots.specs.Claims.{IsOwn}
 use Rattle.vax_core.specs.declared.code.CodeItem.{CodeItem}
 use Rattle.vax_machine.specs.Labels.{has_label}
-use Rattle.vax_target_meaning.specs.vax_templates.specs.FilledLines.{label_of_att}
-use Rattle.gg_compile_law.specs.Roles.{target_by, target_of}
+use Rattle.gg_compile_names.specs.vax_templates.specs.FilledLines.{label_of_att}
+use Rattle.gg_compile_effect.specs.gg_compile_law.specs.Roles.{target_by, target_of}
 use Rattle.gg_compile_effect.proofs.Trees.{IsLow, Headed, headed}
 pub use Rattle.gg_compile_effect.proofs.Trees.{root_is}
 use Rattle.gg_compile_effect.proofs.Naming.{of_tree, passes}

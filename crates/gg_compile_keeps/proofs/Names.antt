@@ -10,16 +10,16 @@ use Rattle.tree_core.specs.declared.program.TreeItem.TheVariants as tree_item
 use Rattle.tree_core.specs.declared.program.TreeFn.{TreeFn}
 use Rattle.tree_core.specs.declared.program.TreeProgram.{TreeProgram}
 use Rattle.md_reader.specs.State.{Content}
-use Rattle.sel_parse_desk.specs.Selected.{tree_of}
+use Rattle.sel_parse_joined.specs.sel_parse_desk.specs.Selected.{tree_of}
 use Rattle.sel_parse_joined.specs.sel_parse_effect.specs.Claims.{IsFit}
 use Rattle.vax_core.specs.declared.code.AreaItem.{AreaItem}
 use Rattle.vax_core.specs.declared.code.CodeItem.{CodeItem}
 use Rattle.vax_core.specs.declared.code.Instr.{Instr}
 use Rattle.vax_machine.specs.Labels.{undefined_in, undefined_at, undefined_label}
 use Rattle.vax_frames.specs.Frames.{code_items, room_code, end_code}
-use Rattle.vax_target_meaning.specs.Vax.{vax}
-use Rattle.gg_compile_law.specs.Spelling.{area_of}
-use Rattle.gg_compile_law.proofs.Validity.{IsIn, root_facts}
+use Rattle.gg_compile_names.specs.vax_target_meaning.specs.Vax.{vax}
+use Rattle.gg_compile_effect.specs.gg_compile_law.specs.Spelling.{area_of}
+use Rattle.gg_compile_effect.specs.gg_compile_law.proofs.Validity.{IsIn, root_facts}
 use Rattle.gg_compile_names.specs.Claims.{HasLabels}
 use Rattle.gg_compile_names.proofs.Lines.{selected_names_are_there}
 use Rattle.gg_compile_code.specs.Selecting.{AreSelected, nothing, label, tree, IsSelectedFunction, AreSelectedFunctions, none, more}
@@ -46,7 +46,7 @@ module _ (q : TreeProgram) (ok : IsSelectable q) (d : Content) (fit : IsFit vax 
 
   module _ (n : ℕ) (g : TreeFn) (here : slice_get q.functions n ≡ Some g) where
     tree_fine : (w : List Leaf) → IsIn (tree_item.Root w) g.items → (instrs : List Instr) (most : ℕ)
-        → Rattle.sel_parse_desk.specs.Selected.Selected vax q d g.locals (tree_of w) instrs most → All Fine (code_items instrs)
+        → Rattle.sel_parse_joined.specs.sel_parse_desk.specs.Selected.Selected vax q d g.locals (tree_of w) instrs most → All Fine (code_items instrs)
     tree_fine w at instrs most s =
         instrs_fine instrs
         (selected_names_are_there q d g.locals (tree_of w) instrs most area code there.names

@@ -10,20 +10,20 @@ use Rattle.tree_core.specs.declared.program.TreeProgram.{TreeProgram}
 use Rattle.tree_core.specs.Trees.{IsTyped}
 use Rattle.tree_core.specs.Valid.{ItemStands, ItemsStand}
 use Rattle.md_reader.specs.State.{Content}
-use Rattle.sel_parse_desk.specs.Selected.{tree_of}
-use Rattle.sel_parse_desk.specs.Selected as desk
+use Rattle.sel_parse_joined.specs.sel_parse_desk.specs.Selected.{tree_of}
+use Rattle.sel_parse_joined.specs.sel_parse_desk.specs.Selected as desk
 use Rattle.sel_parse_joined.specs.sel_parse_selected.specs.Selected.{Selected}
 use Rattle.sel_parse_joined.specs.sel_parse_effect.specs.Claims.{IsFit}
 use Rattle.gg_compile_names.specs.sel_parse_lines.proofs.Words.{selections_use_few_words}
 use Rattle.sel_parse_joined.proofs.Law.{same_code}
 use Rattle.vax_core.specs.declared.code.Instr.{Instr}
 use Rattle.vax_core.specs.declared.code.CodeItem.{CodeItem}
-use Rattle.vax_target_meaning.specs.Vax.{vax}
+use Rattle.gg_compile_names.specs.vax_target_meaning.specs.Vax.{vax}
 use Rattle.gg_compile_effect.specs.vax_target_laws.proofs.Law.{vax_is_lawful}
-use Rattle.gg_compile_law.specs.Effects.{HasEffect}
-use Rattle.gg_compile_law.specs.Assembled.{IsTreeCode}
-use Rattle.gg_compile_law.specs.Assembled as assembled
-use Rattle.gg_compile_law.proofs.Validity.{all_at, IsIn}
+use Rattle.gg_compile_effect.specs.gg_compile_law.specs.Effects.{HasEffect}
+use Rattle.gg_compile_effect.specs.gg_compile_law.specs.Assembled.{IsTreeCode}
+use Rattle.gg_compile_effect.specs.gg_compile_law.specs.Assembled as assembled
+use Rattle.gg_compile_effect.specs.gg_compile_law.proofs.Validity.{all_at, IsIn}
 use Rattle.gg_compile_effect.specs.Claims.{IsTreeOf}
 use Rattle.gg_compile_effect.proofs.Trees.{root_is}
 use Rattle.gg_compile_effect.proofs.Law.{all_taken, selected_trees_have_effect}

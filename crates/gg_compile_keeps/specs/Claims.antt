@@ -9,8 +9,8 @@ use Rattle.sel_parse_joined.specs.sel_parse_effect.specs.Claims.{IsFit}
 use Rattle.vax_core.specs.declared.code.Code.{Code}
 use Rattle.vax_machine.specs.Loading.{Loads}
 use Rattle.vax_machine.specs.Running.{run}
-use Rattle.vax_machine_lists.specs.Sound.{AllBelow}
-use Rattle.vax_target_meaning.specs.Vax.{vax}
+use Rattle.gg_compile_names.specs.vax_machine_lists.specs.Sound.{AllBelow}
+use Rattle.gg_compile_names.specs.vax_target_meaning.specs.Vax.{vax}
 use Rattle.gg_compile_code.specs.Selecting.{SelectedAll}
 use Rattle.gg_compile_keeps.specs.Programs.{IsSelectable}
 

@@ -6,11 +6,11 @@ use Rattle.tree_core.specs.declared.program.TreeFn.{TreeFn}
 use Rattle.tree_core.specs.declared.program.TreeProgram.{TreeProgram}
 use Rattle.tree_core.specs.Calm.{Calm}
 use Rattle.tree_core.specs.Valid.{IsValid}
-use Rattle.sel_target.specs.Spelled.{EachTree, TreesAreSpelled}
-use Rattle.vax_target_meaning.specs.Fitting.{CanWrite}
-use Rattle.gg_compile_law.specs.Spelling.{HoldsNumbers}
-use Rattle.gg_compile_law.specs.Names.{HaveSmall}
-use Rattle.gg_compile_law.specs.Loaded.{AreApart}
+use Rattle.sel_parse_joined.specs.sel_target.specs.Spelled.{EachTree, TreesAreSpelled}
+use Rattle.gg_compile_names.specs.vax_target_meaning.specs.Fitting.{CanWrite}
+use Rattle.gg_compile_effect.specs.gg_compile_law.specs.Spelling.{HoldsNumbers}
+use Rattle.gg_compile_effect.specs.gg_compile_law.specs.Names.{HaveSmall}
+use Rattle.gg_compile_effect.specs.gg_compile_law.specs.Loaded.{AreApart}
 
 -- A tree program that code can be selected of: it is valid, in none of its trees is memory read behind a division, each
 -- function's locals fit its frame, and its objects have labels of their own, and bytes as contents, a link's being the

@@ -19,7 +19,7 @@ use Rattle.tree_core.specs.declared.program.TreeItem.TheVariants as tree_item
 use Rattle.tree_core.specs.declared.program.TreeFn.{TreeFn}
 use Rattle.tree_core.specs.declared.program.TreeProgram.{TreeProgram}
 use Rattle.tree_meaning.specs.State.{behind}
-use Rattle.vax_frames.specs.Frames.{code_items, room_code, end_code, frame_items}
+use Rattle.vax_frames_law.specs.vax_frames.specs.Frames.{code_items, room_code, end_code, frame_items}
 use Rattle.gg_compile_law.specs.Programs.{HasItems, stands_in, IsBody, nothing, label, root, StandsAt, IsEmitted, IsCompiled}
 use Rattle.gg_compile_law.specs.Assembled.{IsTreeCode, nothing as nothing_of, label as label_of, root as root_of, IsFunctionCode, AreFunctions, none, more, IsAssembled}
 use Rattle.gg_compile_law.specs.Assembled.{AssembledFollow, SourceIsFollowed, FramesAreFunctionCodes}

@@ -15,7 +15,7 @@ use Rattle.tree_core.specs.Items.{nothing, other, call}
 use Rattle.tree_core.specs.Labels.{TargetsStand}
 use Rattle.tree_core.specs.Valid.{PushesStand, main_takes_nothing, leaf_names, ItemStands, ItemsStand, WantedStand, LinksLie, IsValid}
 use Rattle.vax_core.specs.First.{putchar_name}
-use Rattle.vax_frames.specs.Frames.{end_code}
+use Rattle.vax_frames_law.specs.vax_frames.specs.Frames.{end_code}
 use Rattle.gg_compile_law.specs.Demo.{demo_main, demo, push_code, call_code, demo_body, demo_code, DemoFollows}
 use Rattle.gg_compile_law.specs.Areas.{none as no_blocks}
 use Rattle.gg_compile_law.specs.Assembled.{nothing as nothing_of, root as root_of, none as no_more, more, IsAssembled}

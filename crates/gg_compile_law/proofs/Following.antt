@@ -20,7 +20,7 @@ use Rattle.gg_base.specs.declared.run.Finish.TheVariants as finish
 use Rattle.tree_meaning.specs.Steps.{Step, Goes, Serves, GoesTo, Enters, GoesBack, Ends, tree_step}
 use Rattle.tree_meaning.specs.Meaning.{run, runs as tree_runs, carried}
 use Rattle.vax_machine_lists.specs.Instructions.{Course}
-use Rattle.vax_frames.specs.Frames.{end_code}
+use Rattle.vax_frames_law.specs.vax_frames.specs.Frames.{end_code}
 use Rattle.vax_machine_lists.specs.Runs.{HasInstrs, at_of, Carries}
 use Rattle.gg_compile_law.specs.Programs.{InOrder, IsEmitted, StandsAt, Stands}
 use Rattle.gg_compile_law.specs.Laws.{ComesBack}

@@ -16,14 +16,14 @@ use Rattle.tree_core.specs.declared.program.TreeFn.{TreeFn}
 use Rattle.tree_core.specs.declared.program.TreeProgram.{TreeProgram}
 use Rattle.tree_meaning.specs.State.{Activation, Extent}
 use Rattle.tree_meaning.specs.State.{State as Trees}
-use Rattle.vax_states.specs.Stack.{Holds, Hold, caller}
+use Rattle.vax_frames_law.specs.vax_states.specs.Stack.{Holds, Hold, caller}
 use Rattle.vax_machine_lists.specs.Sound.{AllBelow}
-use Rattle.vax_states.specs.Agreeing.{Agrees}
+use Rattle.vax_frames_law.specs.vax_states.specs.Agreeing.{Agrees}
 use Rattle.vax_machine_lists.specs.Runs.{Leads, Halts, Gets}
 use Rattle.gg_compile_law.specs.Programs.{IsActive, Waits, ends_run, goes_on}
 use Rattle.vax_frames_law.specs.Laws.{IsRoomy}
 use Rattle.gg_compile_law.specs.Laws.{ComesBack, ReturnsComeBack}
-use Rattle.vax_states.proofs.Standing.{kept}
+use Rattle.vax_frames_law.specs.vax_states.proofs.Standing.{kept}
 use Rattle.vax_machine_lists.proofs.Steps.{got_on, got_over}
 use Rattle.vax_frames_law.proofs.Returning.{run_ends, caller_state, caller_agrees, answer_is}
 use Rattle.vax_frames_law.proofs.Returning.{goes_on as goes_back}

@@ -23,7 +23,7 @@ use Rattle.tree_core.specs.Items.{times, all_labels}
 use Rattle.tree_core.specs.Valid.{named, IsValid}
 use Rattle.tree_core.proofs.Apart.{times-append}
 use Rattle.tree_core.specs.Names.{label_name, function_label}
-use Rattle.vax_frames.specs.Frames.{room_code, end_code, code_items, frame_items}
+use Rattle.vax_frames_law.specs.vax_frames.specs.Frames.{room_code, end_code, code_items, frame_items}
 use Rattle.gg_compile_law.specs.Assembled.{IsTreeCode, nothing, label, root, IsFunctionCode, AreFunctions, none, more}
 use Rattle.gg_compile_law.specs.Names.{AreSmall, HaveSmall, CodeLabelsDiffer, MainStands}
 

@@ -18,7 +18,7 @@ use Rattle.tree_core.specs.declared.program.TreeFn.{TreeFn}
 use Rattle.tree_core.specs.declared.program.TreeProgram.{TreeProgram}
 use Rattle.tree_core.specs.Names.{label_name}
 use Rattle.vax_machine_lists.specs.Runs.{HasInstrs}
-use Rattle.vax_frames.specs.Frames.{code_items, end_code}
+use Rattle.vax_frames_law.specs.vax_frames.specs.Frames.{code_items, end_code}
 use Rattle.gg_compile_law.specs.Programs.{HasItems, IsSelected, IsBody, nothing, label, root, StandsAt}
 
 pub has_instrs : (code : List CodeItem) (place : ℕ) (is : List Instr) (rest : List CodeItem) → HasItems code place (code_items is ++ rest) → HasInstrs code place is

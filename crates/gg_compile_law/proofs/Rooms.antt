@@ -6,7 +6,7 @@ use Rattle.tree_core.specs.declared.program.TreeItem.{TreeItem}
 use Rattle.tree_core.specs.declared.program.TreeItem.TheVariants as tree_item
 use Rattle.tree_core.specs.declared.program.TreeProgram.{TreeProgram}
 use Rattle.tree_meaning.specs.State.{Activation, Extent}
-use Rattle.vax_states.specs.Stack.{Holds, Hold, nobody, caller}
+use Rattle.vax_frames_law.specs.vax_states.specs.Stack.{Holds, Hold, nobody, caller}
 use Rattle.gg_compile_law.specs.Roles.{Role, Pushes, Calls, Saves, Plain, role_of}
 use Rattle.gg_compile_law.specs.Programs.{InOrderBy, InOrder, Waits, ends_run, goes_on}
 

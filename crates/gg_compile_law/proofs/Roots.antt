@@ -23,7 +23,7 @@ use Rattle.tree_meaning.specs.State.{Activation, behind}
 use Rattle.tree_meaning.specs.State.{State as Trees}
 use Rattle.gg_base.specs.declared.run.Finish.TheVariants as finish
 use Rattle.tree_meaning.specs.Steps.{Step, Goes, Serves, GoesTo, Enters, GoesBack, Ends, without_pushed, with_label, with_call as entering_with, tree_step}
-use Rattle.vax_states.specs.Agreeing.{Agrees, HasResult}
+use Rattle.vax_frames_law.specs.vax_states.specs.Agreeing.{Agrees, HasResult}
 use Rattle.vax_machine_lists.specs.Instructions.{Course, exec, Comes, Goes as GoesAway, Calls as CallsOut, Returns, Stops}
 use Rattle.gg_compile_law.specs.Roles.{Role, Pushes, Calls, Saves, Plain, role_of, target_of}
 use Rattle.vax_machine_lists.specs.Runs.{Leads, Halts, HasInstrs, at_of, Carries}

@@ -24,15 +24,15 @@ use Rattle.tree_core.specs.declared.program.TreeProgram.{TreeProgram}
 use Rattle.tree_core.specs.Trees.{grown}
 use Rattle.tree_meaning.specs.State.{State as Trees, Extent}
 use Rattle.tree_meaning.specs.Steps.{Step, without_pushed, called_as, served, wrote, with_pushed, tree_step}
-use Rattle.vax_states.specs.Agreeing.{Agrees}
+use Rattle.vax_frames_law.specs.vax_states.specs.Agreeing.{Agrees}
 use Rattle.vax_core.specs.First.{putchar_name, imm}
 use Rattle.vax_machine_lists.specs.Instructions.{Comes, comes, course_of, followed, performed, exec}
 use Rattle.vax_machine_lists.proofs.Soundness.{conditions_sound}
 use Rattle.gg_compile_law.specs.Effects.{Does, IsReady, HasEffect}
 use Rattle.gg_compile_law.specs.Demo.{call_code}
-use Rattle.vax_frames.specs.Frames.{instr, end_code}
-use Rattle.vax_states.proofs.Standing.{kept, register_kept, push_written}
-use Rattle.vax_states.proofs.Popping.{put_acts, set_up, agrees_result, sp_high, agrees_popped, top_read}
+use Rattle.vax_frames_law.specs.vax_frames.specs.Frames.{instr, end_code}
+use Rattle.vax_frames_law.specs.vax_states.proofs.Standing.{kept, register_kept, push_written}
+use Rattle.vax_frames_law.specs.vax_states.proofs.Popping.{put_acts, set_up, agrees_result, sp_high, agrees_popped, top_read}
 use Rattle.vax_frames_law.proofs.FrameCode.{end_is, end_agrees, end_result}
 
 module _ (objects : List Object) (e : Extent) (es : List Extent) (t : Trees) (m : State) (h : Agrees objects e es t m) where

@@ -26,7 +26,7 @@ use Rattle.tree_meaning.specs.State.{begun, arrived}
 use Rattle.tree_meaning.specs.State.{State as Trees}
 use Rattle.tree_meaning.specs.Meaning.{run, runs, main_at, tree_run}
 use Rattle.tree_meaning.proofs.Law.{tree_run_unbroken}
-use Rattle.vax_states.specs.Stack.{nobody}
+use Rattle.vax_frames_law.specs.vax_states.specs.Stack.{nobody}
 use Rattle.vax_machine_lists.specs.Sound.{AllBelow, IsSound}
 use Rattle.vax_machine_lists.proofs.Beginning.{zeros_below}
 use Rattle.gg_compile_law.specs.Programs.{IsEmitted, StandsAt, Waits, ends_run, Stands, IsCompiled, CompiledFollow}

@@ -21,7 +21,7 @@ use Rattle.vax_machine_lists.specs.Sound.{AllBelow}
 use Rattle.gg_compile_law.specs.Areas.{AreBlocks}
 use Rattle.gg_compile_law.specs.Effects.{HasEffect}
 use Rattle.vax_frames_law.specs.Calling.{IsMask}
-use Rattle.vax_frames.specs.Frames.{code_items, frame_items, IsFrameCode}
+use Rattle.vax_frames_law.specs.vax_frames.specs.Frames.{code_items, frame_items, IsFrameCode}
 use Rattle.gg_compile_law.specs.Programs.{FollowsTrees}
 
 module _ (program : TreeProgram) where

@@ -16,7 +16,7 @@ use Rattle.tree_core.specs.Attributes.{end_leaf}
 use Rattle.tree_core.specs.Names.{function_label}
 use Rattle.tree_meaning.specs.Meaning.{tree_run}
 use Rattle.vax_machine_lists.specs.Sound.{AllBelow}
-use Rattle.vax_frames.specs.Frames.{instr, code_items, end_code, frame_items}
+use Rattle.vax_frames_law.specs.vax_frames.specs.Frames.{instr, code_items, end_code, frame_items}
 
 -- Push 72; Call putchar 1; Ret 0
 abbrev pub demo_main : TreeFn

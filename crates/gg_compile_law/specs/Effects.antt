@@ -13,7 +13,7 @@ use Rattle.tree_core.specs.Names.{label_name, function_label}
 use Rattle.gg_base.specs.declared.run.Finish.TheVariants as finish
 use Rattle.tree_meaning.specs.State.{State as Trees, Extent}
 use Rattle.tree_meaning.specs.Steps.{Step, Goes as GoesOn, Serves, GoesTo, Enters, GoesBack, Ends, tree_step}
-use Rattle.vax_states.specs.Agreeing.{Agrees, HasResult, HasRoom}
+use Rattle.vax_frames_law.specs.vax_states.specs.Agreeing.{Agrees, HasResult, HasRoom}
 use Rattle.vax_machine_lists.specs.Instructions.{Course, exec, Comes, Goes, Calls as CallsOut, Returns, Stops}
 use Rattle.gg_compile_law.specs.Roles.{role_of, Calls, Saves}
 

@@ -10,7 +10,7 @@ use Rattle.tree_core.specs.declared.program.TreeProgram.{TreeProgram}
 use Rattle.tree_meaning.specs.State.{Activation, Extent}
 use Rattle.tree_meaning.specs.State.{State as Trees}
 use Rattle.vax_machine_lists.specs.Runs.{Leads, Halts, Gets}
-use Rattle.vax_states.specs.Agreeing.{Agrees}
+use Rattle.vax_frames_law.specs.vax_states.specs.Agreeing.{Agrees}
 use Rattle.vax_frames_law.specs.Laws.{IsRoomy}
 use Rattle.gg_compile_law.specs.Programs.{Waits, Stands}
 

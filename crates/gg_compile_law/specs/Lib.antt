@@ -11,3 +11,5 @@ pub mod Spelling
 pub mod Names
 pub mod Loaded
 pub mod Written
+pub use Rattle.vax_machine_lists
+pub use Rattle.vax_frames_law.specs.vax_states as vax_states

@@ -25,11 +25,11 @@ use Rattle.tree_meaning.specs.Meaning.{main_of, tree_run}
 use Rattle.tree_meaning.specs.State.{Activation, behind, Extent}
 use Rattle.tree_meaning.specs.State.{State as Trees}
 use Rattle.vax_machine_lists.specs.Sound.{AllBelow}
-use Rattle.vax_states.specs.Agreeing.{Agrees, HasResult}
+use Rattle.vax_frames_law.specs.vax_states.specs.Agreeing.{Agrees, HasResult}
 use Rattle.gg_compile_law.specs.Effects.{HasEffect}
 use Rattle.gg_compile_law.specs.Roles.{Role, Pushes, Calls, Saves, Plain, role_of, target_of}
 use Rattle.vax_frames_law.specs.Calling.{HasFrame}
-use Rattle.vax_frames.specs.Frames.{code_items, room_code, end_code}
+use Rattle.vax_frames_law.specs.vax_frames.specs.Frames.{code_items, room_code, end_code}
 
 -- items stand in a code from a place on
 abbrev pub HasItems : List CodeItem → ℕ → List CodeItem → Type 0

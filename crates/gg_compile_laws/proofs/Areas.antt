@@ -13,9 +13,9 @@ use Rattle.vax_core.specs.declared.code.AreaItem.{AreaItem}
 use Rattle.vax_core.specs.declared.code.AreaItem.TheVariants as areas
 use Rattle.vax_core.specs.Valid.{is_name, is_long, is_area_item}
 use Rattle.vax_machine_lists.specs.Sound.{AllBelow}
-use Rattle.gg_compile_law.specs.Spelling.{power_of, after_zeros, by_byte, label_of, link_addr, spelled, block_of, blocks_of, area_of}
-use Rattle.gg_compile_law.proofs.Areas.{lies}
-use Rattle.gg_compile_law.proofs.Spelling.{choose, aligned_so}
+use Rattle.gg_compile_counts.specs.gg_compile_law.specs.Spelling.{power_of, after_zeros, by_byte, label_of, link_addr, spelled, block_of, blocks_of, area_of}
+use Rattle.gg_compile_counts.specs.gg_compile_law.proofs.Areas.{lies}
+use Rattle.gg_compile_counts.specs.gg_compile_law.proofs.Spelling.{choose, aligned_so}
 use Rattle.gg_compile_laws.specs.Written.{HasPlainObjects}
 
 abbrev pub Fine : AreaItem → Type 0

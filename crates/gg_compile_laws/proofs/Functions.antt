@@ -17,10 +17,10 @@ use Rattle.vax_core.specs.declared.code.CodeItem.{CodeItem}
 use Rattle.vax_core.specs.declared.code.Instr.{Instr}
 use Rattle.vax_core.specs.Valid.{is_long, is_name, is_instr, is_code_item}
 use Rattle.vax_frames.specs.Frames.{room_code, end_code, code_items}
-use Rattle.vax_target_meaning.specs.Fitting.{CanWrite}
-use Rattle.vax_target_meaning.specs.Vax.{vax}
-use Rattle.gg_compile_law.specs.Names.{AreSmall, HaveSmall}
-use Rattle.gg_compile_law.proofs.Validity.{IsIn}
+use Rattle.gg_compile_keeps.specs.vax_target_meaning.specs.Fitting.{CanWrite}
+use Rattle.gg_compile_keeps.specs.vax_target_meaning.specs.Vax.{vax}
+use Rattle.gg_compile_counts.specs.gg_compile_law.specs.Names.{AreSmall, HaveSmall}
+use Rattle.gg_compile_counts.specs.gg_compile_law.proofs.Validity.{IsIn}
 use Rattle.gg_compile_keeps.specs.gg_compile_code.specs.Selecting.{AreSelected, nothing, label, tree, IsSelectedFunction, AreSelectedFunctions, none, more}
 use Rattle.gg_compile_laws.specs.Keeping.{IsWithinLimits}
 use Rattle.gg_compile_laws.proofs.Tests.{label_spelled}

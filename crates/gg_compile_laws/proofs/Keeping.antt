@@ -1,7 +1,7 @@
 -- The code that is selected of a C program's trees keeps the program.
 use Rattle.c_program.specs.Programs.{AProgram}
 use Rattle.c_sound.specs.Sound.{IsSound}
-use Rattle.c_meaning.specs.Programs.{source}
+use Rattle.c_lower_follows.specs.c_meaning.specs.Programs.{source}
 use Rattle.c_lower_scheme.specs.Programs.{lowered}
 use Rattle.c_lower_follows.proofs.Law.{lowering_follows}
 use Rattle.c_lower_valid.proofs.Law.{lowered_is_valid}

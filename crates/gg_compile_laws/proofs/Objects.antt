@@ -17,8 +17,8 @@ use Rattle.vax_core.specs.Valid.{is_name_start, is_name}
 use Rattle.vax_core.specs.First.{putchar_name}
 use Rattle.vax_machine.specs.Labels.{getchar_name, is_service}
 use Rattle.vax_machine_lists.specs.Sound.{AllBelow}
-use Rattle.gg_compile_law.specs.Spelling.{HoldsNumbers}
-use Rattle.gg_compile_law.specs.Loaded.{AreApart}
+use Rattle.gg_compile_counts.specs.gg_compile_law.specs.Spelling.{HoldsNumbers}
+use Rattle.gg_compile_counts.specs.gg_compile_law.specs.Loaded.{AreApart}
 
 -- ---- bytes
 

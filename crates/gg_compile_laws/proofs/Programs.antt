@@ -12,8 +12,8 @@ use Rattle.c_lower_valid.proofs.Law.{lowered_is_valid}
 use Rattle.vax_core.specs.declared.code.AreaItem.{AreaItem}
 use Rattle.vax_core.specs.Valid.{is_area_item, is_code_item}
 use Rattle.vax_machine_lists.specs.Sound.{AllBelow}
-use Rattle.vax_target_meaning.specs.Fitting.{CanWrite}
-use Rattle.gg_compile_law.specs.Spelling.{HoldsNumbers}
+use Rattle.gg_compile_keeps.specs.vax_target_meaning.specs.Fitting.{CanWrite}
+use Rattle.gg_compile_counts.specs.gg_compile_law.specs.Spelling.{HoldsNumbers}
 use Rattle.gg_compile_laws.proofs.Objects.{hold_numbers, objects_named}
 use Rattle.gg_compile_laws.proofs.Limits.{typed_programs_are_within_limits}
 use Rattle.gg_compile_laws.specs.Written.{HasPlainObjects, SelectedCodesCanBeWritten, SelectedProgramsCanBeWritten, TypedCodesCanBeWritten}

@@ -10,16 +10,16 @@ use Rattle.tree_core.specs.Trees.{IsTyped}
 use Rattle.tree_core.specs.Valid.{ItemStands, ItemsStand}
 use Rattle.tree_core_forks.specs.Forks.{forks}
 use Rattle.md_reader.specs.State.{Content}
-use Rattle.lr_tables.specs.View.{TableView}
-use Rattle.lr_tables.specs.Promises.{IsNumbered}
+use Rattle.sel_parse_written.specs.lr_tables.specs.View.{TableView}
+use Rattle.sel_parse_written.specs.lr_tables.specs.Promises.{IsNumbered}
 use Rattle.sel_parse_written.specs.lr_checked.specs.Accepted.{NeverStops}
-use Rattle.sel_parse_desk.specs.Selected.{tree_of, FrameFull, Blocked}
+use Rattle.sel_parse_written.specs.sel_parse_desk.specs.Selected.{tree_of, FrameFull, Blocked}
 use Rattle.sel_parse_written.specs.sel_parse_effect.specs.Claims.{IsFit}
 use Rattle.sel_parse_written.specs.sel_parse_law.specs.Claims.{IsReady, HasCode}
 use Rattle.sel_parse_written.specs.sel_parse_law.proofs.Law.{has_room, never_blocks, trees_have_code}
-use Rattle.vax_target_meaning.specs.Vax.{vax}
+use Rattle.gg_compile_keeps.specs.vax_target_meaning.specs.Vax.{vax}
 use Rattle.gg_compile_keeps.specs.vax_target_laws.proofs.Law.{vax_is_lawful}
-use Rattle.gg_compile_law.proofs.Validity.{all_at}
+use Rattle.gg_compile_counts.specs.gg_compile_law.proofs.Validity.{all_at}
 use Rattle.gg_compile_keeps.proofs.Leaves.{root_is, tree_own}
 use Rattle.gg_compile_laws.specs.Ready.{HasReadyTrees, EachTreeHasCode}
 

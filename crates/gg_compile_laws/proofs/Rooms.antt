@@ -9,8 +9,8 @@ use Rattle.tree_core_forks.specs.Forks.{forks}
 use Rattle.c_program.specs.Need.{need_of}
 use Rattle.c_program.specs.Programs.{ARoutine}
 use Rattle.c_lower_scheme.specs.Programs.{lowered}
-use Rattle.c_lower_bounds.specs.Claim.{FitsFrame}
-use Rattle.c_lower_bounds.proofs.Law.{each_function_fits, functions_stay}
+use Rattle.gg_compile_counts.specs.c_lower_bounds.specs.Claim.{FitsFrame}
+use Rattle.gg_compile_counts.specs.c_lower_bounds.proofs.Law.{each_function_fits, functions_stay}
 use Rattle.gg_compile_laws.specs.Rooms.{LoweredProgramsHaveRooms}
 
 fits_room : (need : ℕ) (g : TreeFn) → FitsFrame need g → need ≤ 1024 → (n : ℕ) (w : List Leaf) → slice_get g.items n ≡ Some (tree_item.Root w) → g.locals + (forks w + 1) ≤ 1024

@@ -10,18 +10,18 @@ use Rattle.tree_core.specs.declared.program.TreeProgram.{TreeProgram}
 use Rattle.tree_core.specs.Trees.{IsTyped}
 use Rattle.tree_core.specs.Valid.{IsValid, ItemStands, ItemsStand}
 use Rattle.md_reader.specs.State.{Content}
-use Rattle.sel_parse_desk.specs.Selected.{tree_of, Selected}
+use Rattle.sel_parse_written.specs.sel_parse_desk.specs.Selected.{tree_of, Selected}
 use Rattle.sel_parse_written.specs.sel_parse_effect.specs.Claims.{IsFit}
 use Rattle.sel_parse_written.specs.sel_parse_law.specs.Claims.{IsReady}
 use Rattle.sel_parse_written.specs.Claims.{LinesPass}
 use Rattle.sel_parse_written.proofs.Law.{selections_pass, selections_use_low_words}
 use Rattle.vax_core.specs.declared.code.Instr.{Instr}
 use Rattle.vax_core.specs.Valid.{is_instr}
-use Rattle.vax_target_meaning.specs.Fitting.{CanWrite}
-use Rattle.vax_target_meaning.specs.Vax.{vax}
+use Rattle.gg_compile_keeps.specs.vax_target_meaning.specs.Fitting.{CanWrite}
+use Rattle.gg_compile_keeps.specs.vax_target_meaning.specs.Vax.{vax}
 use Rattle.gg_compile_keeps.specs.vax_target_writing.proofs.Spilling.{lines_are_written, spills_are_written}
 use Rattle.gg_compile_keeps.specs.vax_target_laws.proofs.Law.{vax_is_lawful}
-use Rattle.gg_compile_law.proofs.Validity.{IsIn, all_at}
+use Rattle.gg_compile_counts.specs.gg_compile_law.proofs.Validity.{IsIn, all_at}
 use Rattle.gg_compile_keeps.proofs.Leaves.{root_is, tree_own}
 use Rattle.gg_compile_laws.specs.Keeping.{IsWithinLimits}
 

@@ -9,17 +9,17 @@ use Rattle.tree_core.specs.Names.{function_label}
 use Rattle.c_program.specs.Programs.{AProgram}
 use Rattle.c_sound.specs.Fits.{AreBytes}
 use Rattle.c_sound.specs.Sound.{IsSound}
-use Rattle.c_meaning.specs.Programs.{source}
+use Rattle.c_lower_follows.specs.c_meaning.specs.Programs.{source}
 use Rattle.c_lower_scheme.specs.Programs.{lowered}
 use Rattle.md_reader.specs.State.{Content}
-use Rattle.sel_target.specs.Spelled.{TreesAreSpelled}
+use Rattle.sel_parse_written.specs.sel_target.specs.Spelled.{TreesAreSpelled}
 use Rattle.sel_parse_written.specs.sel_parse_effect.specs.Claims.{IsFit}
 use Rattle.vax_core.specs.declared.code.Code.{Code}
 use Rattle.vax_core.specs.Valid.{is_name}
 use Rattle.vax_machine.specs.Loading.{Loads}
 use Rattle.vax_machine.specs.Running.{run}
-use Rattle.vax_target_meaning.specs.Vax.{vax}
-use Rattle.gg_compile_law.specs.Names.{HaveSmall}
+use Rattle.gg_compile_keeps.specs.vax_target_meaning.specs.Vax.{vax}
+use Rattle.gg_compile_counts.specs.gg_compile_law.specs.Names.{HaveSmall}
 use Rattle.gg_compile_keeps.specs.gg_compile_code.specs.Selecting.{SelectedAll}
 
 -- The code loads, and on every input of bytes its run follows the program's.

@@ -6,15 +6,15 @@ use Rattle.tree_core.specs.declared.program.TreeFn.{TreeFn}
 use Rattle.tree_core.specs.declared.program.TreeProgram.{TreeProgram}
 use Rattle.tree_core.specs.Valid.{IsValid}
 use Rattle.md_reader.specs.State.{Content}
-use Rattle.lr_tables.specs.View.{TableView}
-use Rattle.lr_tables.specs.Promises.{IsNumbered}
+use Rattle.sel_parse_written.specs.lr_tables.specs.View.{TableView}
+use Rattle.sel_parse_written.specs.lr_tables.specs.Promises.{IsNumbered}
 use Rattle.sel_parse_written.specs.lr_checked.specs.Accepted.{NeverStops}
-use Rattle.sel_target.specs.Spelled.{TreesAreSpelled}
-use Rattle.sel_parse_desk.specs.Selected.{tree_of}
+use Rattle.sel_parse_written.specs.sel_target.specs.Spelled.{TreesAreSpelled}
+use Rattle.sel_parse_written.specs.sel_parse_desk.specs.Selected.{tree_of}
 use Rattle.sel_parse_written.specs.sel_parse_effect.specs.Claims.{IsFit}
 use Rattle.sel_parse_written.specs.sel_parse_law.specs.Claims.{HasCode}
-use Rattle.vax_target_meaning.specs.Fitting.{CanWrite}
-use Rattle.vax_target_meaning.specs.Vax.{vax}
+use Rattle.gg_compile_keeps.specs.vax_target_meaning.specs.Fitting.{CanWrite}
+use Rattle.gg_compile_keeps.specs.vax_target_meaning.specs.Vax.{vax}
 use Rattle.gg_compile_keeps.specs.gg_compile_code.specs.Going.{ProgramGoes}
 use Rattle.gg_compile_laws.specs.Rooms.{HasRooms}
 

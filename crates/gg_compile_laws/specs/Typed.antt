@@ -7,7 +7,7 @@ use Rattle.c_lower_scheme.specs.Programs.{lowered}
 use Rattle.md_reader.specs.State.{Content}
 use Rattle.sel_parse_written.specs.sel_parse_effect.specs.Claims.{IsFit}
 use Rattle.vax_core.specs.declared.code.Code.{Code}
-use Rattle.vax_target_meaning.specs.Vax.{vax}
+use Rattle.gg_compile_keeps.specs.vax_target_meaning.specs.Vax.{vax}
 use Rattle.gg_compile_keeps.specs.gg_compile_code.specs.Selecting.{SelectedAll}
 use Rattle.gg_compile_laws.specs.Keeping.{Keeps, IsWithinLimits}
 use Rattle.gg_compile_laws.specs.Ready.{HasReadyTrees}

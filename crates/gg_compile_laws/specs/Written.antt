@@ -13,7 +13,7 @@ use Rattle.sel_parse_written.specs.sel_parse_effect.specs.Claims.{IsFit}
 use Rattle.vax_core.specs.declared.code.Code.{Code}
 use Rattle.vax_core.specs.Valid.{is_name, is_code}
 use Rattle.vax_machine_lists.specs.Sound.{AllBelow}
-use Rattle.vax_target_meaning.specs.Vax.{vax}
+use Rattle.gg_compile_keeps.specs.vax_target_meaning.specs.Vax.{vax}
 use Rattle.gg_compile_keeps.specs.gg_compile_code.specs.Selecting.{SelectedAll}
 use Rattle.gg_compile_laws.specs.Keeping.{IsWithinLimits}
 use Rattle.gg_compile_laws.specs.Typed.{FitFrames}

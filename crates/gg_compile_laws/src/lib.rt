@@ -3,3 +3,5 @@
 #![tactic(auto)]
 
 pub mod laws;
+
+pub use gg_compile_keeps::assemble;

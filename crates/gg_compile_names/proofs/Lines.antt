@@ -9,8 +9,8 @@ use Rattle.tree_core.specs.declared.tree.Leaf.{Leaf}
 use Rattle.tree_core.specs.declared.program.TreeFn.{TreeFn}
 use Rattle.tree_core.specs.declared.program.TreeProgram.{TreeProgram}
 use Rattle.tree_core.specs.Names.{label_name}
-use Rattle.sel_target.specs.declared.attr.Attr.{Attr}
-use Rattle.sel_target.specs.declared.attr.Attr.TheVariants as attr
+use Rattle.vax_target_meaning.specs.sel_target.specs.declared.attr.Attr.{Attr}
+use Rattle.vax_target_meaning.specs.sel_target.specs.declared.attr.Attr.TheVariants as attr
 use Rattle.vax_core.specs.declared.op.Op.{Op}
 use Rattle.vax_core.specs.declared.op.Op.TheVariants as ops
 use Rattle.vax_core.specs.declared.operand.Operand.{Operand}
@@ -19,10 +19,10 @@ use Rattle.vax_core.specs.declared.code.CodeItem.{CodeItem}
 use Rattle.vax_core.specs.declared.code.Instr.{Instr}
 use Rattle.vax_machine.specs.Functions.{action_of}
 use Rattle.vax_machine.specs.Labels.{is_service, is_call, has_label, undefined_operand, undefined_target, undefined_in}
-use Rattle.vax_templates.specs.declared.form.Form.{Form}
-use Rattle.vax_templates.specs.Instructions.{Instruction, Relation, Jump, Calls, Ret, Operates, instruction_of}
-use Rattle.vax_templates.specs.Filled.{attr_at, filled}
-use Rattle.vax_templates.specs.FilledLines.{op_in, label_of_att, label_in, label_among, branch_to, callee_among, function_name, call_of, filled_instruction}
+use Rattle.vax_target_meaning.specs.vax_templates.specs.declared.form.Form.{Form}
+use Rattle.vax_target_meaning.specs.vax_templates.specs.Instructions.{Instruction, Relation, Jump, Calls, Ret, Operates, instruction_of}
+use Rattle.vax_target_meaning.specs.vax_templates.specs.Filled.{attr_at, filled}
+use Rattle.vax_target_meaning.specs.vax_templates.specs.FilledLines.{op_in, label_of_att, label_in, label_among, branch_to, callee_among, function_name, call_of, filled_instruction}
 use Rattle.vax_target_meaning.specs.Vax.{vax}
 use Rattle.sel_parse_lines.specs.Claims.{IsFilled}
 use Rattle.sel_parse_lines.proofs.Filling.{selections_are_filled}

@@ -10,8 +10,8 @@ use Rattle.tree_core.specs.declared.tree.Att.TheVariants as att
 use Rattle.tree_core.specs.declared.program.Object.{Object}
 use Rattle.tree_core.specs.declared.program.TreeProgram.{TreeProgram}
 use Rattle.tree_core.specs.Names.{label_name}
-use Rattle.sel_target.specs.declared.attr.Attr.{Attr}
-use Rattle.sel_target.specs.declared.attr.Attr.TheVariants as attr
+use Rattle.vax_target_meaning.specs.sel_target.specs.declared.attr.Attr.{Attr}
+use Rattle.vax_target_meaning.specs.sel_target.specs.declared.attr.Attr.TheVariants as attr
 use Rattle.vax_core.specs.declared.operand.Base.{Base}
 use Rattle.vax_core.specs.declared.operand.Operand.{Operand}
 use Rattle.vax_core.specs.declared.code.AreaItem.{AreaItem}
@@ -19,15 +19,15 @@ use Rattle.vax_core.specs.declared.code.CodeItem.{CodeItem}
 use Rattle.vax_core.specs.Homes.{home, at_home, argument_home}
 use Rattle.vax_machine.specs.Area.{has_area_label}
 use Rattle.vax_machine.specs.Labels.{name_in, undefined_name, has_label}
-use Rattle.vax_templates.specs.declared.form.Number.{Number}
-use Rattle.vax_templates.specs.declared.form.Number.TheVariants as number
-use Rattle.vax_templates.specs.declared.form.Base.TheVariants as base
-use Rattle.vax_templates.specs.declared.form.Base.{Base as FormBase}
-use Rattle.vax_templates.specs.declared.form.Form.{Form}
-use Rattle.vax_templates.specs.Instructions.{shape_of_pieces}
-use Rattle.vax_templates.specs.Filled.{spare, attr_at, label_of, addr_of_att, addr_in, number_addr, word_operand, slot_operand, argument_deferred, slot_deferred}
-use Rattle.vax_templates.specs.Filled.{leaf_operand, operand_in, leaf_deferred, deferred_in, filled_base, with_index, filled, filled_or_spare}
-use Rattle.vax_templates.specs.FilledLines.{label_of_att}
+use Rattle.vax_target_meaning.specs.vax_templates.specs.declared.form.Number.{Number}
+use Rattle.vax_target_meaning.specs.vax_templates.specs.declared.form.Number.TheVariants as number
+use Rattle.vax_target_meaning.specs.vax_templates.specs.declared.form.Base.TheVariants as base
+use Rattle.vax_target_meaning.specs.vax_templates.specs.declared.form.Base.{Base as FormBase}
+use Rattle.vax_target_meaning.specs.vax_templates.specs.declared.form.Form.{Form}
+use Rattle.vax_target_meaning.specs.vax_templates.specs.Instructions.{shape_of_pieces}
+use Rattle.vax_target_meaning.specs.vax_templates.specs.Filled.{spare, attr_at, label_of, addr_of_att, addr_in, number_addr, word_operand, slot_operand, argument_deferred, slot_deferred}
+use Rattle.vax_target_meaning.specs.vax_templates.specs.Filled.{leaf_operand, operand_in, leaf_deferred, deferred_in, filled_base, with_index, filled, filled_or_spare}
+use Rattle.vax_target_meaning.specs.vax_templates.specs.FilledLines.{label_of_att}
 use Rattle.vax_target_meaning.specs.Vax.{vax}
 use Rattle.sel_parse_lines.specs.Claims.{Lasts}
 

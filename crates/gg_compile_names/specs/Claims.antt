@@ -6,14 +6,14 @@ use Rattle.tree_core.specs.declared.program.Object.{Object}
 use Rattle.tree_core.specs.declared.program.TreeFn.{TreeFn}
 use Rattle.tree_core.specs.declared.program.TreeProgram.{TreeProgram}
 use Rattle.tree_core.specs.Names.{label_name, function_label}
-use Rattle.md_reader.specs.State.{Content}
+use Rattle.vax_target_meaning.specs.md_reader.specs.State.{Content}
 use Rattle.sel_parse_lines.specs.sel_parse_selected.specs.Selected.{Selected}
 use Rattle.vax_core.specs.declared.code.AreaItem.{AreaItem}
 use Rattle.vax_core.specs.declared.code.CodeItem.{CodeItem}
 use Rattle.vax_core.specs.declared.code.Instr.{Instr}
 use Rattle.vax_machine.specs.Area.{has_area_label}
 use Rattle.vax_machine.specs.Labels.{has_label, undefined_in}
-use Rattle.vax_templates.specs.FilledLines.{label_of_att}
+use Rattle.vax_target_meaning.specs.vax_templates.specs.FilledLines.{label_of_att}
 use Rattle.vax_target_meaning.specs.Vax.{vax}
 use Rattle.gg_compile_law.specs.Assembled.{AreFunctions}
 use Rattle.gg_compile_law.specs.Programs.{stands_in}

@@ -28,8 +28,8 @@ use Rattle.c_typed_definition.specs.Texts.{empty_text}
 use Rattle.c_typed_definition.specs.Rooms.{offset_in, is_parameter_addressed, with_parameter_in}
 use Rattle.c_typed_law.specs.Texts.{AreParameters, IsBody, IsFunction, IsExternalBy, AreExternals, IsText}
 use Rattle.c_typed_law.proofs.Declared.{declared_bodies}
-use Rattle.gg_compile_spelled.specs.Claims.{NeedAtMost}
-use Rattle.gg_compile_spelled.proofs.Locals.{locals_are_few}
+use Rattle.gg_compile_counts.specs.gg_compile_spelled.specs.Claims.{NeedAtMost}
+use Rattle.gg_compile_counts.specs.gg_compile_spelled.proofs.Locals.{locals_are_few}
 use Rattle.gg_compile_counts.proofs.Law.{typed_have_few_labels}
 use Rattle.gg_compile_counts.proofs.Stores.{AreStores, items_keep, parameters_store}
 use Rattle.gg_compile_needs.specs.Claims.{CountsFit}

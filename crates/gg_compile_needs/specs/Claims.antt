@@ -31,7 +31,7 @@ use Rattle.c_typed_law.specs.Values.{AreElements}
 use Rattle.c_typed_law.specs.Statements.{IsStatement, AreItems}
 use Rattle.c_typed_law.specs.Texts.{AreExternals, IsText}
 use Rattle.c_lower_scheme.specs.Programs.{lowered}
-use Rattle.gg_compile_spelled.specs.Claims.{label_count, NeedAtMost}
+use Rattle.gg_compile_counts.specs.gg_compile_spelled.specs.Claims.{label_count, NeedAtMost}
 
 -- how many objects the data area has, with how many literals and static locals among them
 abbrev pub Weight : Area → ℕ

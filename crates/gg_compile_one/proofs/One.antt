@@ -10,17 +10,17 @@ use Rattle.tree_core.specs.declared.program.TreeProgram.{TreeProgram}
 use Rattle.tree_core.specs.Names.{label_name, function_label}
 use Rattle.md_reader.specs.State.{Content}
 use Rattle.lr_tables.specs.Statements.{stmt_of}
-use Rattle.lr_check_parse.specs.Moves.{Ending, Accepts}
-use Rattle.lr_check_parse.specs.Attributes.{by_attributes}
-use Rattle.lr_check_parse.proofs.OneWay.{parse_one_way}
-use Rattle.sel_parse_desk.specs.Selected.{tree_of, Kept, selecting, start, Selected}
+use Rattle.gg_compile_code.specs.lr_check_parse.specs.Moves.{Ending, Accepts}
+use Rattle.gg_compile_code.specs.lr_check_parse.specs.Attributes.{by_attributes}
+use Rattle.gg_compile_code.specs.lr_check_parse.proofs.OneWay.{parse_one_way}
+use Rattle.gg_compile_code.specs.sel_parse_desk.specs.Selected.{tree_of, Kept, selecting, start, Selected}
 use Rattle.vax_core.specs.declared.operand.Operand.{Operand}
 use Rattle.vax_core.specs.declared.code.Instr.{Instr}
 use Rattle.vax_core.specs.declared.code.CodeItem.{CodeItem}
 use Rattle.vax_core.specs.declared.code.CodeItem.TheVariants as item_kind
 use Rattle.vax_core.specs.declared.code.Code.{Code}
 use Rattle.vax_frames.specs.Frames.{code_items, frame_items, is_kept, body_names}
-use Rattle.vax_target_meaning.specs.Vax.{vax}
+use Rattle.gg_compile_code.specs.vax_target_meaning.specs.Vax.{vax}
 use Rattle.gg_compile_code.specs.Selecting.{AreSelected, nothing, label, tree, IsSelectedFunction, AreSelectedFunctions, none, more, SelectedAll}
 use Rattle.gg_compile_one.specs.Claims.{SelectedCodesAreOne}
 

@@ -3,7 +3,7 @@ use Rattle.std.specs.Prelude.{◌≡◌}
 use Rattle.tree_core.specs.declared.program.TreeProgram.{TreeProgram}
 use Rattle.md_reader.specs.State.{Content}
 use Rattle.vax_core.specs.declared.code.Code.{Code}
-use Rattle.vax_target_meaning.specs.Vax.{vax}
+use Rattle.gg_compile_code.specs.vax_target_meaning.specs.Vax.{vax}
 use Rattle.gg_compile_code.specs.Selecting.{SelectedAll}
 
 -- Two codes that a description selects of the trees of a program are equal. Nothing is asked of the description or of the trees.

@@ -7,11 +7,11 @@ use Rattle.md_reader.specs.State.{Content}
 use Rattle.lr_tables.specs.View.{TableView}
 use Rattle.lr_tables.specs.Promises.{IsNumbered}
 use Rattle.c_lower_scheme.specs.Programs.{lowered}
-use Rattle.sel_parse_written.specs.lr_checked.specs.Accepted.{NeverStops}
-use Rattle.sel_parse_joined.specs.sel_parse_effect.specs.Claims.{IsFit}
+use Rattle.gg_compile_laws.specs.lr_checked.specs.Accepted.{NeverStops}
+use Rattle.gg_compile_laws.specs.sel_parse_effect.specs.Claims.{IsFit}
 use Rattle.vax_core.specs.declared.code.CodeItem.{CodeItem}
 use Rattle.vax_target_meaning.specs.Vax.{vax}
-use Rattle.gg_compile_keeps.specs.gg_compile_code.specs.Selecting as computed
+use Rattle.gg_compile_laws.specs.gg_compile_code.specs.Selecting as computed
 use Rattle.gg_compile_laws.specs.Ready.{HasReadyTrees}
 use Rattle.gg_compile_laws.proofs.Typed.{typed_programs_are_ready}
 use Rattle.gg_compile_selected.specs.Selecting.{AreSelectedFunctions, none, more}

@@ -12,22 +12,22 @@ use Rattle.tree_core.specs.Valid.{ItemStands, ItemsStand}
 use Rattle.md_reader.specs.State.{Content}
 use Rattle.lr_tables.specs.View.{TableView}
 use Rattle.lr_tables.specs.Promises.{IsNumbered}
-use Rattle.sel_parse_written.specs.lr_checked.specs.Accepted.{NeverStops}
+use Rattle.gg_compile_laws.specs.lr_checked.specs.Accepted.{NeverStops}
 use Rattle.sel_parse_desk.specs.Selected.{tree_of}
 use Rattle.sel_parse_desk.specs.Selected as desk
 use Rattle.sel_parse_selected.specs.Selected.{Selected}
 use Rattle.sel_parse_selected.proofs.Making.{has_one_code}
-use Rattle.sel_parse_joined.specs.sel_parse_effect.specs.Claims.{IsFit}
-use Rattle.sel_parse_joined.proofs.Law.{same_code}
+use Rattle.gg_compile_laws.specs.sel_parse_effect.specs.Claims.{IsFit}
+use Rattle.gg_compile_laws.specs.sel_parse_joined.proofs.Law.{same_code}
 use Rattle.vax_core.specs.declared.code.Instr.{Instr}
 use Rattle.vax_core.specs.declared.code.CodeItem.{CodeItem}
 use Rattle.vax_target_meaning.specs.Vax.{vax}
-use Rattle.gg_compile_effect.specs.vax_target_laws.proofs.Law.{vax_is_lawful}
-use Rattle.gg_compile_effect.proofs.Trees.{root_is}
-use Rattle.gg_compile_effect.proofs.Law.{all_taken}
+use Rattle.gg_compile_laws.specs.vax_target_laws.proofs.Law.{vax_is_lawful}
+use Rattle.gg_compile_laws.specs.gg_compile_effect.proofs.Trees.{root_is}
+use Rattle.gg_compile_laws.specs.gg_compile_effect.proofs.Law.{all_taken}
 use Rattle.gg_compile_law.proofs.Validity.{all_at, IsIn}
-use Rattle.gg_compile_keeps.specs.gg_compile_code.specs.Selecting as computed
-use Rattle.gg_compile_keeps.proofs.Leaves.{tree_own}
+use Rattle.gg_compile_laws.specs.gg_compile_code.specs.Selecting as computed
+use Rattle.gg_compile_laws.specs.gg_compile_keeps.proofs.Leaves.{tree_own}
 use Rattle.gg_compile_laws.specs.Ready.{HasReadyTrees}
 use Rattle.gg_compile_laws.proofs.Ready.{each_tree_has_code}
 use Rattle.gg_compile_selected.specs.Selecting.{AreSelected, nothing, label, tree}

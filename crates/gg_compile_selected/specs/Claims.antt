@@ -4,13 +4,13 @@ use Rattle.md_reader.specs.State.{Content}
 use Rattle.lr_tables.specs.View.{TableView}
 use Rattle.lr_tables.specs.Promises.{IsNumbered}
 use Rattle.c_program.specs.Programs.{AProgram}
-use Rattle.c_typed_check.specs.Typed.{IsTypedUnit}
+use Rattle.gg_compile_laws.specs.c_typed_check.specs.Typed.{IsTypedUnit}
 use Rattle.c_lower_scheme.specs.Programs.{lowered}
-use Rattle.sel_parse_written.specs.lr_checked.specs.Accepted.{NeverStops}
-use Rattle.sel_parse_joined.specs.sel_parse_effect.specs.Claims.{IsFit}
+use Rattle.gg_compile_laws.specs.lr_checked.specs.Accepted.{NeverStops}
+use Rattle.gg_compile_laws.specs.sel_parse_effect.specs.Claims.{IsFit}
 use Rattle.vax_core.specs.declared.code.Code.{Code}
 use Rattle.vax_target_meaning.specs.Vax.{vax}
-use Rattle.gg_compile_keeps.specs.gg_compile_code.specs.Selecting as computed
+use Rattle.gg_compile_laws.specs.gg_compile_code.specs.Selecting as computed
 use Rattle.gg_compile_laws.specs.Typed.{FitFrames}
 use Rattle.gg_compile_laws.specs.Ready.{HasReadyTrees}
 use Rattle.gg_compile_selected.specs.Selecting.{SelectedAll}

@@ -6,11 +6,11 @@ use Rattle.c_phrases.specs.Units.{SomeItems, AFunction, ADeclared, function, glo
 use Rattle.c_program.specs.Programs.{ARoutine, AProgram}
 use Rattle.c_typed_scope.specs.declared.entry.Entry.{Entry}
 use Rattle.c_typed_scope.specs.declared.entry.Signature.{Signature}
-use Rattle.c_typed_definition.specs.State.{State}
-use Rattle.c_typed_definition.specs.Signatures.{known}
-use Rattle.c_typed_definition.specs.Headings.{Text, with_declared}
-use Rattle.c_typed_definition.specs.Bodies.{routine_of}
-use Rattle.c_typed_definition.specs.Texts.{empty_text}
+use Rattle.c_typed_law.specs.c_typed_definition.specs.State.{State}
+use Rattle.c_typed_law.specs.c_typed_definition.specs.Signatures.{known}
+use Rattle.c_typed_law.specs.c_typed_definition.specs.Headings.{Text, with_declared}
+use Rattle.c_typed_law.specs.c_typed_definition.specs.Bodies.{routine_of}
+use Rattle.c_typed_law.specs.c_typed_definition.specs.Texts.{empty_text}
 use Rattle.c_typed_law.specs.Texts.{IsBody, IsFunction, IsExternalBy, AreExternals, IsText}
 use Rattle.c_typed_words.specs.Words.{IsName, IsToken}
 use Rattle.c_typed_words.specs.Phrases.{DeclaredOf, ExternalsOf}

@@ -4,7 +4,7 @@ use Rattle.md_reader.specs.State.{Content}
 use Rattle.c_program.specs.Programs.{AProgram}
 use Rattle.cmd_compile.specs.lr_checked.specs.declared.checking.CheckFault.{CheckFault}
 use Rattle.cmd_compile.specs.lr_checked.specs.declared.checking.CheckFault.TheVariants as check_fault
-use Rattle.sel_parse.specs.Shown.{Refusal, PoolSmall, Template, Unshown}
+use Rattle.cmd_compile.specs.sel_parse.specs.Shown.{Refusal, PoolSmall, Template, Unshown}
 use Rattle.cmd_session.specs.declared.status.Status.{Status}
 use Rattle.cmd_session.specs.declared.status.Status.TheVariants as statuses
 use Rattle.cmd_session.specs.Writing.{Change}

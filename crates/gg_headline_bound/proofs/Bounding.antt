@@ -8,13 +8,13 @@ use Rattle.gg_base.specs.declared.run.End.TheVariants as ends
 use Rattle.gg_base.specs.Runs.{Outcome, OneEnd}
 use Rattle.c_program.specs.Programs.{AProgram}
 use Rattle.c_typed_words.proofs.Tokens.{unit_has_tokens}
-use Rattle.c_typed_check.specs.Typed.{IsTypedUnit}
+use Rattle.gg_compile_bound.specs.c_typed_check.specs.Typed.{IsTypedUnit}
 use Rattle.c_meaning.specs.Programs.{source}
 use Rattle.c_lower_counts.specs.Zeros.{with_zeros}
 use Rattle.md_reader.specs.State.{Content}
-use Rattle.sel_parse.specs.Shown.{Refusal, is_shown}
-use Rattle.sel_parse.proofs.EachShown.{rules_shown, lines_shown}
-use Rattle.sel_parse_written.specs.sel_parse_effect.specs.Claims.{IsFit}
+use Rattle.gg_compile_bound.specs.sel_parse.specs.Shown.{Refusal, is_shown}
+use Rattle.gg_compile_bound.specs.sel_parse.proofs.EachShown.{rules_shown, lines_shown}
+use Rattle.gg_compile_bound.specs.sel_parse_effect.specs.Claims.{IsFit}
 use Rattle.vax_core.specs.declared.code.Code.{Code}
 use Rattle.vax_templates.specs.Found.{found, saved_found}
 use Rattle.vax_target_meaning.specs.Vax.{vax}
@@ -32,10 +32,10 @@ use Rattle.cmd_files.specs.Calls.{Call, AreBytes}
 use Rattle.cmd_files.specs.Outcome.{Halted}
 use Rattle.cmd_files.specs.Exact.{IsItem, IsAnswer}
 use Rattle.cmd_run.specs.Texts.{text_form, code_runner, fault_line}
-use Rattle.cmd_compile.specs.Keeping.{Keeps}
-use Rattle.cmd_compile.specs.Texts.{IsTextOf}
-use Rattle.cmd_compile.specs.Passing.{Passing}
-use Rattle.cmd_compile.specs.Outcome.{Files, IsCompiled}
+use Rattle.gg_headline_laws.specs.cmd_compile.specs.Keeping.{Keeps}
+use Rattle.gg_headline_laws.specs.cmd_compile.specs.Texts.{IsTextOf}
+use Rattle.gg_headline_laws.specs.cmd_compile.specs.Passing.{Passing}
+use Rattle.gg_headline_laws.specs.cmd_compile.specs.Outcome.{Files, IsCompiled}
 use Rattle.gg_headline_laws.specs.Running.{IsRunOf, Comes, IsSpentBefore, EndsFrom}
 use Rattle.gg_headline_laws.proofs.Running.{ended_texts_end, trapping_texts_trap}
 use Rattle.gg_headline_bound.specs.Bounded.{EndsWithin, IsPlain, EndedTextsEndWithin, TrappingTextsTrapWithin, NoPassesChangeNothing}

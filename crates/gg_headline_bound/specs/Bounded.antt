@@ -8,8 +8,8 @@ use Rattle.c_lower_counts.specs.Zeros.{with_zeros}
 use Rattle.vax_core.specs.declared.code.Code.{Code}
 use Rattle.vax_bound.specs.Bound.{bound}
 use Rattle.cmd_files.specs.Outsides.{Outside}
-use Rattle.cmd_compile.specs.Passing.{Passing, passing}
-use Rattle.cmd_compile.specs.Outcome.{Files, IsCompiled}
+use Rattle.gg_headline_laws.specs.cmd_compile.specs.Passing.{Passing, passing}
+use Rattle.gg_headline_laws.specs.cmd_compile.specs.Outcome.{Files, IsCompiled}
 use Rattle.gg_headline_laws.specs.Running.{EndsFrom}
 
 -- the passes of a call lead from each code to that code alone

@@ -1,9 +1,9 @@
 // The laws. The functions do nothing; their clauses are the laws. Where one speaks of passes, these are the list before a call and
 // behind it.
-ghost use Rattle.cmd_compile.specs.Passing.{passing};
+ghost use Rattle.gg_headline_laws.specs.cmd_compile.specs.Passing.{passing};
 ghost use Rattle.gg_headline_bound.specs.Bounded.{EndedTextsEndWithin, TrappingTextsTrapWithin, NoPassesChangeNothing};
 
-use cmd_compile::Pass;
+use gg_headline_laws::Pass;
 
 /// The law: where the source ends with a value, with n counted turns and calls, `run` of its text, whose code no pass changed, answers 0
 /// with that output and that value, with each number of steps from a least one on, which is at most K times (m + 1). K is one more than

@@ -10,17 +10,17 @@ use Rattle.cmd_files.specs.Forms.{Holds}
 use Rattle.cmd_files.specs.Outsides.{Outside, IsUnfailed, Fails}
 use Rattle.cmd_files.specs.Stages.{FileRefused, Unread, LongFile, WrongFile, StarvedFile, OutputRefused, CutOutput, StarvedOutput}
 use Rattle.cmd_files.specs.Exact.{IsAnswer}
-use Rattle.cmd_compile.specs.cmd_check.specs.Descriptions.{NotRead, NotBuilt, NotAccepted, NoTables, Stopped, NoRules}
-use Rattle.cmd_compile.specs.cmd_check.proofs.Exactly.{IsNot, of_description, not_refused}
-use Rattle.cmd_compile.specs.cmd_meaning.specs.Sources.{source_form}
-use Rattle.cmd_compile.specs.Lines.{name_at, frame_line}
-use Rattle.cmd_compile.specs.Passing.{Passing}
-use Rattle.cmd_compile.specs.Texts.{HasNoText, LinesRefused}
-use Rattle.cmd_compile.specs.Texts as texts
-use Rattle.cmd_compile.specs.Outcome.{Files, Leaves}
-use Rattle.cmd_compile.specs.Outcome as outcome
-use Rattle.cmd_compile.specs.Exact.{Works}
-use Rattle.gg_compile.specs.Needs.{IsFirstOver}
+use Rattle.gg_headline.specs.cmd_check.specs.Descriptions.{NotRead, NotBuilt, NotAccepted, NoTables, Stopped, NoRules}
+use Rattle.gg_headline.specs.cmd_check.proofs.Exactly.{IsNot, of_description, not_refused}
+use Rattle.gg_headline.specs.cmd_meaning.specs.Sources.{source_form}
+use Rattle.gg_headline.specs.cmd_compile.specs.Lines.{name_at, frame_line}
+use Rattle.gg_headline.specs.cmd_compile.specs.Passing.{Passing}
+use Rattle.gg_headline.specs.cmd_compile.specs.Texts.{HasNoText, LinesRefused}
+use Rattle.gg_headline.specs.cmd_compile.specs.Texts as texts
+use Rattle.gg_headline.specs.cmd_compile.specs.Outcome.{Files, Leaves}
+use Rattle.gg_headline.specs.cmd_compile.specs.Outcome as outcome
+use Rattle.gg_headline.specs.cmd_compile.specs.Exact.{Works}
+use Rattle.gg_headline.specs.gg_compile.specs.Needs.{IsFirstOver}
 use Rattle.gg_headline_laws.specs.Compiling.{ComesTo, Compiled, Starved, SourceTooLong, FrameIsFull, CompileComesTo, RefusesDescription, AcceptedIsNotRefused}
 use Rattle.gg_headline_laws.specs.Compiling as comes
 

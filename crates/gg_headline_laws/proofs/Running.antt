@@ -23,8 +23,8 @@ use Rattle.cmd_files.specs.Calls.{Call, AreBytes}
 use Rattle.cmd_files.specs.Outcome.{RanTo, IsRefusedAs, Leaves}
 use Rattle.cmd_files.specs.Exact.{IsItem, IsAnswer}
 use Rattle.cmd_run.specs.Texts.{text_limit, text_form, code_runner, fault_line}
-use Rattle.cmd_compile.specs.Keeping.{Keeps}
-use Rattle.cmd_compile.specs.Texts.{IsTextOf}
+use Rattle.gg_headline.specs.cmd_compile.specs.Keeping.{Keeps}
+use Rattle.gg_headline.specs.cmd_compile.specs.Texts.{IsTextOf}
 use Rattle.gg_headline.specs.Claims.{HoldsText}
 use Rattle.gg_headline.proofs.Running.{texts_are_taken, runs_tell}
 use Rattle.gg_headline_laws.specs.Running.{RunComesTo, Starved, FileNotRead, InputNotRead, NotWritten, TextTooLong, InputTooLong, RunsComeTo}

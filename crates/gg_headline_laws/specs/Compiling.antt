@@ -9,11 +9,11 @@ use Rattle.cmd_session.specs.Writing.{Rises}
 use Rattle.cmd_files.specs.Forms.{Holds, HoldsNone}
 use Rattle.cmd_files.specs.Outsides.{Outside, Fails}
 use Rattle.cmd_files.specs.Stages.{input_limit}
-use Rattle.cmd_compile.specs.cmd_meaning.specs.Sources.{source_form}
-use Rattle.cmd_compile.specs.Passing.{Passing}
-use Rattle.cmd_compile.specs.Outcome.{Files, IsCompiled, Leaves}
-use Rattle.cmd_compile.specs.Exact.{Works}
-use Rattle.gg_compile.specs.Needs.{IsFirstOver}
+use Rattle.gg_headline.specs.cmd_meaning.specs.Sources.{source_form}
+use Rattle.gg_headline.specs.cmd_compile.specs.Passing.{Passing}
+use Rattle.gg_headline.specs.cmd_compile.specs.Outcome.{Files, IsCompiled, Leaves}
+use Rattle.gg_headline.specs.cmd_compile.specs.Exact.{Works}
+use Rattle.gg_headline.specs.gg_compile.specs.Needs.{IsFirstOver}
 
 -- The eight ends of such a call, with passes in it. No refusal of a description is among them, and none for a tree.
 pub data ComesTo (by : Passing) (result : Status) (names : Files) (at : Outside) : Type 0 where

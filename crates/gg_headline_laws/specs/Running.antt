@@ -17,7 +17,7 @@ use Rattle.cmd_files.specs.Calls.{Call}
 use Rattle.cmd_files.specs.Outcome.{RanTo, Leaves}
 use Rattle.cmd_files.specs.Exact.{LeavesBytes, IsExact}
 use Rattle.cmd_run.specs.Texts.{text_limit, text_form, code_runner}
-use Rattle.cmd_compile.specs.Texts.{IsTextOf}
+use Rattle.gg_headline.specs.cmd_compile.specs.Texts.{IsTextOf}
 use Rattle.gg_headline.specs.Claims.{HoldsText}
 
 -- The seven ends of a call of `run` whose file is this text. Its refusal for what it holds is none of them.

@@ -4,13 +4,13 @@ use Rattle.tree_core.specs.declared.program.TreeProgram.{TreeProgram}
 use Rattle.md_reader.specs.State.{Content}
 use Rattle.c_program.specs.Programs.{AProgram}
 use Rattle.c_sound.specs.Fits.{AreBytes}
-use Rattle.c_typed.specs.Sources.{Reads}
+use Rattle.c_lowered.specs.c_typed.specs.Sources.{Reads}
 use Rattle.c_lowered.specs.Lowered.{Lowered}
 use Rattle.vax_core.specs.declared.code.Code.{Code}
-use Rattle.vax_target_meaning.specs.Vax.{vax}
-use Rattle.cmd_compile.specs.Selecting.{SelectedAll}
-use Rattle.cmd_compile.specs.Passing.{Passing, passing}
-use Rattle.cmd_compile.specs.Texts.{IsTextOf, IsTextBy}
+use Rattle.gg_compile_one.specs.vax_target_meaning.specs.Vax.{vax}
+use Rattle.gg_headline.specs.cmd_compile.specs.Selecting.{SelectedAll}
+use Rattle.gg_headline.specs.cmd_compile.specs.Passing.{Passing, passing}
+use Rattle.gg_headline.specs.cmd_compile.specs.Texts.{IsTextOf, IsTextBy}
 
 -- Each of these passes makes one code of a code. `wrote p n c d` says that the pass p makes d of c and has made n changes then, `made p` how
 -- many it has made so far.

@@ -1,12 +1,12 @@
 // The laws. The functions do nothing; their clauses are the laws. Where one speaks of passes, these are the list before a call and
 // behind it.
-ghost use Rattle.cmd_compile.specs.Passing.{passing};
+ghost use Rattle.gg_headline.specs.cmd_compile.specs.Passing.{passing};
 ghost use Rattle.gg_headline_laws.specs.Compiling.{CompileComesTo, AcceptedIsNotRefused};
 ghost use Rattle.gg_headline_laws.specs.Running.{RunsComeTo, RunsTellAll};
 ghost use Rattle.gg_headline_laws.specs.Running.{EndedTextsEnd, TrappingTextsTrap, EndlessTextsGoOn, EndlessTextsWrite};
 ghost use Rattle.gg_headline_laws.specs.Texts.{TextsAreOne, TextsAreOfTrees};
 
-use cmd_compile::Pass;
+use gg_headline::Pass;
 
 /// The law: by a description that is told and accepted `compile` comes to the text of the source's program, to want of memory, to a counted
 /// fault, to a source over its limit or with a fault, or to a function that needs more than `NEED_LIMIT` words of its frame.

@@ -3,7 +3,7 @@
 
 ghost use Rattle.std.specs.Prelude.{◌≤◌, ℕ};
 ghost use Rattle.gg_base.specs.declared.limits.TheConstants.{NEED_LIMIT};
-ghost use Rattle.c_typed_check.specs.Typed.{need_at};
+ghost use Rattle.c_typed.specs.c_typed_check.specs.Typed.{need_at};
 ghost use Rattle.c_typed.specs.Sources.{Reads};
 ghost use Rattle.gg_load.specs.Source.{source_text};
 ghost use Rattle.gg_load_program.specs.Program.{source_program};

@@ -3,11 +3,10 @@
 use crate::fronts::stops_of;
 use crate::passes::PassName;
 use crate::world::{SOURCE, TEXT, folder_of, put_file, ran, refusal};
-use cmd_check::{Accepted, read_accepted};
-use cmd_compile::text::text_of;
 use cmd_files::read_file;
 use cmd_meaning::SourceText;
 use cmd_session::Status;
+use cmd_top::{Accepted, read_accepted, text_of};
 use gg_outside::{MemFolder, MemSink};
 use gg_texts::VAX_GG;
 use std::alloc::{AllocError, Global};

@@ -11,17 +11,17 @@ use Rattle.md_reader.specs.declared.types.Sym.TheVariants as grammar_symbol
 use Rattle.lr_tables.specs.View.{RowView, TableView}
 use Rattle.lr_tables.specs.Leads.{target_in, target_at}
 use Rattle.lr_tables.specs.Symbols.{symbol_number}
-use Rattle.lr_check_sets.specs.Trees.{May}
-use Rattle.lr_check_sets.specs.Automaton.{Automaton, walk, reduced, Free, Outside}
-use Rattle.lr_check_sets.specs.Table.{automaton_of}
-use Rattle.lr_check_sets.specs.Closed.{IsClosed}
+use Rattle.lr_check_found.specs.lr_check_sets.specs.Trees.{May}
+use Rattle.lr_check_found.specs.lr_check_sets.specs.Automaton.{Automaton, walk, reduced, Free, Outside}
+use Rattle.lr_check_found.specs.lr_check_sets.specs.Table.{automaton_of}
+use Rattle.lr_check_found.specs.lr_check_sets.specs.Closed.{IsClosed}
 use Rattle.lr_check_found.specs.declared.places.Place.{Place}
 use Rattle.lr_check_found.specs.Found.{FoundView, place_of, IsPlaceAt, Settles}
 use Rattle.lr_check_found.specs.Sound.{IsSoundSettling, IsFound}
 use Rattle.lr_check_found.specs.Count.{Tuple, HasMore}
 use Rattle.lr_check_found.proofs.Deriving.{walk_from, whole_left}
 use Rattle.lr_check_found.proofs.Counting.{IsSumOf, no_more}
-use Rattle.lr_check_sets.proofs.Closing.{sum_in}
+use Rattle.lr_check_found.specs.lr_check_sets.proofs.Closing.{sum_in}
 use Rattle.lr_check_complete.specs.Sets.{HasPlace, HasSettling, HasSum, IsComplete}
 use Rattle.lr_check_complete.specs.Kids.{KidsIn, FrameIn, ReducesIn}
 

@@ -6,9 +6,9 @@ use Rattle.tree_core.specs.declared.token.Tok.{Tok}
 use Rattle.tree_core.specs.declared.token.Sort.{Sort}
 use Rattle.md_reader.specs.declared.types.Sym.{Sym}
 use Rattle.md_reader.specs.declared.types.Sym.TheVariants as grammar_symbol
-use Rattle.lr_check_sets.specs.Trees.{May}
-use Rattle.lr_check_sets.specs.Automaton.{Automaton}
-use Rattle.lr_check_sets.proofs.Whole_ends.{sum_walk}
+use Rattle.lr_check_found.specs.lr_check_sets.specs.Trees.{May}
+use Rattle.lr_check_found.specs.lr_check_sets.specs.Automaton.{Automaton}
+use Rattle.lr_check_found.specs.lr_check_sets.proofs.Whole_ends.{sum_walk}
 use Rattle.lr_check_found.specs.declared.places.Place.{Place}
 use Rattle.lr_check_found.specs.declared.places.Origin.TheVariants as origin
 use Rattle.lr_check_found.specs.declared.settlings.How.TheVariants as how

@@ -11,9 +11,9 @@ use Rattle.lr_tables.specs.declared.types.Choice.{Choice}
 use Rattle.lr_tables.specs.declared.types.Choice.TheVariants as choice
 use Rattle.lr_tables.specs.View.{TableView}
 use Rattle.lr_tables.specs.Leads.{actions_at}
-use Rattle.lr_check_sets.specs.Automaton.{Automaton, Production, Candidate, reduce, size_of, Free}
-use Rattle.lr_check_sets.specs.Table.{production, candidates_of, automaton_of}
-use Rattle.lr_check_sets.proofs.Tables.{reduce_same, shift_reduce}
+use Rattle.lr_check_found.specs.lr_check_sets.specs.Automaton.{Automaton, Production, Candidate, reduce, size_of, Free}
+use Rattle.lr_check_found.specs.lr_check_sets.specs.Table.{production, candidates_of, automaton_of}
+use Rattle.lr_check_found.specs.lr_check_sets.proofs.Tables.{reduce_same, shift_reduce}
 use Rattle.lr_check_found.specs.declared.choices.Leads.{Leads}
 use Rattle.lr_check_found.specs.declared.choices.Leads.TheVariants.{Out, Whole, Inside}
 use Rattle.lr_check_found.specs.declared.places.Place.{Place}

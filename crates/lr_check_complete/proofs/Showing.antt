@@ -5,9 +5,9 @@ use Rattle.tree_core.specs.declared.token.Tok.{Tok}
 use Rattle.tree_core.specs.declared.token.Sort.{Sort}
 use Rattle.md_reader.specs.declared.types.Sym.{Sym}
 use Rattle.md_reader.specs.declared.types.Sym.TheVariants as grammar_symbol
-use Rattle.lr_check_sets.specs.Trees.{May}
-use Rattle.lr_check_sets.specs.Automaton.{Automaton, walk}
-use Rattle.lr_check_sets.proofs.Rows.{at_contains}
+use Rattle.lr_check_found.specs.lr_check_sets.specs.Trees.{May}
+use Rattle.lr_check_found.specs.lr_check_sets.specs.Automaton.{Automaton, walk}
+use Rattle.lr_check_found.specs.lr_check_sets.proofs.Rows.{at_contains}
 use Rattle.lr_check_found.specs.declared.places.Place.{Place}
 use Rattle.lr_check_found.specs.declared.settlings.Settling.{Settling}
 use Rattle.lr_check_found.specs.Lists.{IsList, IsBehindToken}

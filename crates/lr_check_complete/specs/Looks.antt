@@ -1,7 +1,7 @@
 -- A look at what was found: what follows and isn't there is listed.
 use Rattle.std.specs.Prelude.{◌≡◌, ◌≤◌, List, Contains, IfSome, length}
-use Rattle.lr_check_sets.specs.Automaton.{Automaton}
-use Rattle.lr_check_sets.specs.Table.{automaton_of}
+use Rattle.lr_check_found.specs.lr_check_sets.specs.Automaton.{Automaton}
+use Rattle.lr_check_found.specs.lr_check_sets.specs.Table.{automaton_of}
 use Rattle.lr_check_found.specs.declared.settlings.Item.{Item}
 use Rattle.lr_check_found.specs.Sound.{IsFound}
 use Rattle.lr_check_found.specs.Items.{IsItem}

@@ -2,7 +2,7 @@
 use Rattle.std.specs.Prelude.{◌≡◌, ℕ, List, Some, Contains}
 use Rattle.tree_core.specs.declared.token.Tok.{Tok}
 use Rattle.tree_core.specs.declared.token.Sort.{Sort}
-use Rattle.lr_check_sets.specs.Trees.{May}
+use Rattle.lr_check_found.specs.lr_check_sets.specs.Trees.{May}
 use Rattle.lr_check_found.specs.Found.{FoundView}
 use Rattle.lr_check_complete.specs.declared.sheet.Line.{Line}
 use Rattle.lr_check_complete.specs.declared.sheet.Row.{Row}

@@ -2,8 +2,8 @@
 use Rattle.std.specs.Prelude.{ℕ, List}
 use Rattle.tree_core.specs.declared.token.Tok.{Tok}
 use Rattle.md_reader.specs.declared.types.Sym.{Sym}
-use Rattle.lr_check_sets.specs.Automaton.{Automaton}
-use Rattle.lr_check_sets.specs.Closed.{IsClosed}
+use Rattle.lr_check_found.specs.lr_check_sets.specs.Automaton.{Automaton}
+use Rattle.lr_check_found.specs.lr_check_sets.specs.Closed.{IsClosed}
 use Rattle.lr_check_found.specs.Found.{FoundView, place_of, IsPlaceAt, SumAt, Settles}
 use Rattle.lr_check_found.specs.Sound.{IsFound}
 

@@ -1,7 +1,7 @@
 // The sums of the first of two kids, one for each list.
 ghost use Rattle.std.specs.Prelude.{◌≡◌, ◌⊎◌, ℕ, [], ◌∷◌, OnOk, IfOk, IsTrue, Contains};
 ghost use Rattle.tree_core.specs.declared.token.Sort.{Sort};
-ghost use Rattle.lr_check_sets.specs.Trees.{May};
+ghost use Rattle.lr_check_found.specs.lr_check_sets.specs.Trees.{May};
 ghost use Rattle.lr_check_found.specs.declared.places.Place.{Place};
 ghost use Rattle.lr_check_found.specs.Adding.{list_number};
 ghost use Rattle.lr_check_found.specs.Found.{IsPlaceAt};

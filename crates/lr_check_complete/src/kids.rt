@@ -1,6 +1,6 @@
 // What follows from the kid of a token that has one.
 ghost use Rattle.std.specs.Prelude.{◌≡◌, ℕ, OnOk, Contains};
-ghost use Rattle.lr_check_sets.specs.Trees.{May};
+ghost use Rattle.lr_check_found.specs.lr_check_sets.specs.Trees.{May};
 ghost use Rattle.lr_check_found.specs.declared.places.Place.{Place};
 ghost use Rattle.lr_check_found.specs.declared.settlings.How.TheVariants as how;
 ghost use Rattle.lr_check_found.specs.Found.{IsPlaceAt};

@@ -3,9 +3,9 @@ ghost use Rattle.std.specs.Prelude.{◌≡◌, ℕ, ◌<◌, OnOk, IfOk, IfSome,
 ghost use Rattle.tree_core.specs.declared.token.Tok.{Tok};
 ghost use Rattle.tree_core.specs.declared.token.Tok.TheVariants as tok;
 ghost use Rattle.tree_core.specs.declared.token.Sort.TheVariants as sort;
-ghost use Rattle.lr_check_sets.specs.Trees.{May};
-ghost use Rattle.lr_check_sets.specs.Table.{automaton_of};
-ghost use Rattle.lr_check_sets.specs.Closed.{IsClosed};
+ghost use Rattle.lr_check_found.specs.lr_check_sets.specs.Trees.{May};
+ghost use Rattle.lr_check_found.specs.lr_check_sets.specs.Table.{automaton_of};
+ghost use Rattle.lr_check_found.specs.lr_check_sets.specs.Closed.{IsClosed};
 ghost use Rattle.lr_check_found.specs.declared.settlings.Item.{Item};
 ghost use Rattle.lr_check_found.specs.Sound.{IsFound};
 ghost use Rattle.lr_check_found.specs.Items.{IsItem};

@@ -1,7 +1,7 @@
 // The two kids of places, as far as a sheet shows what follows from them.
 ghost use Rattle.std.specs.Prelude.{IsTrue, IfOk, Contains};
 ghost use Rattle.tree_core.specs.declared.token.Tok.{Tok};
-ghost use Rattle.lr_check_sets.specs.Trees.{May};
+ghost use Rattle.lr_check_found.specs.lr_check_sets.specs.Trees.{May};
 ghost use Rattle.lr_check_complete.specs.declared.sheet.Line.{Line};
 ghost use Rattle.lr_check_complete.specs.Looks.{automaton, WasFound, IsShownRight};
 ghost use Rattle.lr_check_complete.specs.Kids.{BothIn, AtPlaces};

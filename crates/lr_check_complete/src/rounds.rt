@@ -1,7 +1,7 @@
 // Rounds add what follows, until nothing does.
 ghost use Rattle.std.specs.Prelude.{◌≡◌, ◌≤◌, IfOk, OnOk, IfErr, IsTrue};
 ghost use Rattle.gg_base.specs.declared.limits.TheConstants.{SUMMARY_LIMIT};
-ghost use Rattle.lr_check_sets.specs.Table.{automaton_of};
+ghost use Rattle.lr_check_found.specs.lr_check_sets.specs.Table.{automaton_of};
 ghost use Rattle.lr_check_found.specs.declared.adding.Stop.TheVariants.{Full};
 ghost use Rattle.lr_check_found.specs.Count.{HasMore};
 ghost use Rattle.lr_check_found.specs.Items.{IsItem};

@@ -4,7 +4,7 @@ ghost use Rattle.tree_core.specs.declared.token.Tok.{Tok};
 ghost use Rattle.lr_tables.specs.Symbols.{number};
 ghost use Rattle.md_reader.specs.declared.types.Sym.{Sym};
 ghost use Rattle.lr_check_found.specs.Lists.{IsList};
-ghost use Rattle.lr_check_sets.specs.Table.{automaton_of};
+ghost use Rattle.lr_check_found.specs.lr_check_sets.specs.Table.{automaton_of};
 ghost use Rattle.lr_check_found.specs.declared.settlings.Settling.{Settling};
 ghost use Rattle.lr_check_found.specs.Sound.{IsFound};
 ghost use Rattle.lr_check_complete.specs.declared.sheet.Line.{Line};

@@ -2,7 +2,7 @@
 ghost use Rattle.std.specs.Prelude.{◌≡◌, ℕ, [], ◌∷◌, Some, OnOk, IfSome, Contains};
 ghost use Rattle.tree_core.specs.declared.token.Tok.{Tok};
 ghost use Rattle.tree_core.specs.Grammar.{kids};
-ghost use Rattle.lr_check_sets.specs.Trees.{May};
+ghost use Rattle.lr_check_found.specs.lr_check_sets.specs.Trees.{May};
 ghost use Rattle.lr_check_found.specs.declared.places.Place.{Place};
 ghost use Rattle.lr_check_found.specs.declared.settlings.How.TheVariants as how;
 ghost use Rattle.lr_check_found.specs.declared.settlings.Settling.{Settling};

@@ -10,9 +10,9 @@ use Rattle.lr_tables.specs.declared.types.Choice.{Choice}
 use Rattle.lr_tables.specs.View.{TableView}
 use Rattle.lr_tables.proofs.Members.{In-Contains, Contains-In}
 use Rattle.lr_tables.specs.Leads.{actions_at}
-use Rattle.lr_check_sets.specs.Table.{automaton_of, candidates_at}
+use Rattle.lr_check_found.specs.lr_check_sets.specs.Table.{automaton_of, candidates_at}
 use Rattle.md_reader.specs.declared.types.Sym.{Sym}
-use Rattle.lr_check_sets.specs.Automaton.{Automaton}
+use Rattle.lr_check_found.specs.lr_check_sets.specs.Automaton.{Automaton}
 use Rattle.lr_check_found.specs.declared.places.Place.{Place}
 use Rattle.lr_check_found.specs.declared.settlings.How.{How}
 use Rattle.lr_check_found.specs.declared.settlings.How.TheVariants as how

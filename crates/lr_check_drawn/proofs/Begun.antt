@@ -4,8 +4,8 @@ use Rattle.tree_core.specs.declared.token.Tok.{Tok}
 use Rattle.tree_core.specs.declared.token.Sort.{Sort}
 use Rattle.tree_core.specs.Grammar.{kids}
 use Rattle.md_reader.specs.declared.types.Sym.{Sym}
-use Rattle.lr_check_sets.specs.Automaton.{Automaton}
-use Rattle.lr_check_sets.specs.Trees.{May}
+use Rattle.lr_check_found.specs.lr_check_sets.specs.Automaton.{Automaton}
+use Rattle.lr_check_found.specs.lr_check_sets.specs.Trees.{May}
 use Rattle.lr_check.specs.Tree.{Node, Token}
 use Rattle.lr_check.specs.Statement.{KidsFit}
 use Rattle.lr_check_found.specs.declared.places.Place.{Place}

@@ -3,9 +3,9 @@ use Rattle.std.proofs.Common.{◌≡◌, ℕ, ◌<◌, List, Some, Bool, Contain
 use Rattle.std.proofs.lemmas.Option.{slice_get_within, same_Some}
 use Rattle.gg_base.proofs.Facts.{slice_some}
 use Rattle.tree_core.specs.Grammar.{kids}
-use Rattle.lr_check_sets.specs.Trees.{May}
+use Rattle.lr_check_found.specs.lr_check_sets.specs.Trees.{May}
 use Rattle.md_reader.specs.declared.types.Sym.{Sym}
-use Rattle.lr_check_sets.specs.Automaton.{Automaton}
+use Rattle.lr_check_found.specs.lr_check_sets.specs.Automaton.{Automaton}
 use Rattle.lr_check.specs.Tree.{Node}
 use Rattle.lr_check.specs.Statement.{KidsFit}
 use Rattle.lr_check.proofs.Typed.{fit_none, fit_one, fit_two}

@@ -2,7 +2,7 @@
 use Rattle.std.proofs.Common.{◌≡◌, ◌⊎◌, ℕ, zero, suc, ◌+◌, List, [], ◌∷◌, ◌++◌, Some, length, slice_get, refl, sym, ap, ◌∙◌, subst, inl, inr, ⊎_elim, length-append}
 use Rattle.gg_base.proofs.Facts.{slice_last}
 use Rattle.tree_core.specs.declared.token.Tok.{Tok}
-use Rattle.lr_check_sets.specs.Automaton.{Automaton}
+use Rattle.lr_check_found.specs.lr_check_sets.specs.Automaton.{Automaton}
 use Rattle.lr_check.specs.Tree.{Node}
 use Rattle.lr_check_found.specs.declared.settlings.How.{How}
 use Rattle.lr_check_found.specs.Found.{FoundView}

@@ -5,10 +5,10 @@ use Rattle.tree_core.specs.declared.token.Tok.{Tok}
 use Rattle.tree_core.specs.declared.token.Sort.{Sort}
 use Rattle.tree_core.specs.Grammar.{kids}
 use Rattle.lr_tables.proofs.Members.{In, In-Contains}
-use Rattle.lr_check_sets.specs.Trees.{May}
+use Rattle.lr_check_found.specs.lr_check_sets.specs.Trees.{May}
 use Rattle.lr_check.specs.Tree.{Node, Token}
 use Rattle.lr_check.specs.Statement.{fits_at, KidsFit}
-use Rattle.lr_check_parse.specs.Typed as parse
+use Rattle.lr_check_samples.specs.lr_check_parse.specs.Typed as parse
 use Rattle.lr_check_samples.specs.Fixed.{leaf}
 use Rattle.lr_check_samples.specs.Nodes.{Stands}
 use Rattle.lr_check_samples.specs.Stops.{tokens}

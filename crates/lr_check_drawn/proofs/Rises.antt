@@ -5,7 +5,7 @@ use Rattle.std.proofs.lemmas.Option.{same_Some}
 use Rattle.tree_core.specs.declared.token.Tok.{Tok}
 use Rattle.tree_core.specs.declared.token.Sort.TheVariants as sort
 use Rattle.tree_core.specs.Grammar.{kids}
-use Rattle.lr_check_sets.specs.Trees.{May}
+use Rattle.lr_check_found.specs.lr_check_sets.specs.Trees.{May}
 use Rattle.lr_check.specs.Tree.{Node}
 use Rattle.lr_check.specs.Statement.{fits_at, KidsFit}
 use Rattle.lr_check.proofs.Typed.{fit_two}

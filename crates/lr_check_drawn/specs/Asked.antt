@@ -2,7 +2,7 @@
 use Rattle.std.specs.Prelude.{ℕ, ◌-◌, ◌==◌, List, [], ◌∷◌, ◌++◌, Bool, true, false, if◌then◌else◌}
 use Rattle.md_reader.specs.declared.types.Rule.{Rule}
 use Rattle.lr_tables.specs.declared.types.Choice.{Choice}
-use Rattle.lr_check_sets.specs.Table.{candidates_of}
+use Rattle.lr_check_found.specs.lr_check_sets.specs.Table.{candidates_of}
 use Rattle.lr_check_found.specs.declared.choices.Seen.{Seen}
 use Rattle.lr_check_found.specs.declared.choices.Leads.{Leads}
 use Rattle.lr_check_found.specs.declared.choices.Leads.TheVariants.{Out, Whole, Inside}

@@ -4,7 +4,7 @@ use Rattle.tree_core.specs.declared.token.Tok.{Tok}
 use Rattle.lr_tables.specs.declared.types.Choice.{Choice}
 use Rattle.lr_tables.specs.View.{TableView}
 use Rattle.lr_tables.specs.Leads.{actions_at}
-use Rattle.lr_check_sets.specs.Automaton.{Automaton}
+use Rattle.lr_check_found.specs.lr_check_sets.specs.Automaton.{Automaton}
 use Rattle.lr_check.specs.Tree.{Node}
 use Rattle.lr_check.specs.Questions.{answers_of}
 use Rattle.lr_check_found.specs.declared.places.Place.{Place}

@@ -3,7 +3,7 @@ use Rattle.std.specs.Prelude.{ℕ, List, [], ◌∷◌, Bool}
 use Rattle.md_reader.specs.declared.types.Sym.{Sym}
 use Rattle.md_reader.specs.declared.types.Sym.TheVariants as grammar_symbol
 use Rattle.md_reader.specs.State.{Content}
-use Rattle.lr_check_sets.specs.Automaton.{Automaton}
+use Rattle.lr_check_found.specs.lr_check_sets.specs.Automaton.{Automaton}
 use Rattle.lr_check.specs.Tree.{Node}
 use Rattle.lr_check.specs.Statement.{IsStatement}
 use Rattle.lr_check_found.specs.declared.places.Place.{Place}

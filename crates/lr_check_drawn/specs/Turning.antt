@@ -1,7 +1,7 @@
 -- What a node is asked while reductions of a class alone turn round.
 use Rattle.std.specs.Prelude.{◌≡◌, ℕ, ◌≤◌, List, [], ◌∷◌, zero, suc, length, slice_index_or}
 use Rattle.md_reader.specs.declared.types.Sym.TheVariants as grammar_symbol
-use Rattle.lr_check_sets.specs.Automaton.{Automaton}
+use Rattle.lr_check_found.specs.lr_check_sets.specs.Automaton.{Automaton}
 use Rattle.lr_check_found.specs.declared.places.Place.{Place}
 use Rattle.lr_check_samples.specs.Samples.{Turning}
 use Rattle.lr_check_flaws.specs.Flaws.{Along}

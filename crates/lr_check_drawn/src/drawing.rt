@@ -1,6 +1,6 @@
 // Nodes for the settlings that were found, each with the number of its settling.
 ghost use Rattle.std.specs.Prelude.{◌≡◌, ◌++◌, ◌+◌, [], ◌∷◌, Some, OnOk, IfOk, length, slice_get, slice_index_or};
-ghost use Rattle.lr_check_sets.specs.Table.{automaton_of};
+ghost use Rattle.lr_check_found.specs.lr_check_sets.specs.Table.{automaton_of};
 ghost use Rattle.lr_check_found.specs.Adding.{list_number};
 ghost use Rattle.lr_check_found.specs.Sound.{IsFound};
 ghost use Rattle.lr_check_nodes.specs.Growing.{AreWhole};

@@ -1,7 +1,7 @@
 // What a node is asked while reductions of a class alone turn round.
 ghost use Rattle.std.specs.Prelude.{◌≡◌, ◌++◌, ◌<◌, ◌-◌, ℕ, Some, OnOk, IfOk, length, slice_index_or};
 ghost use Rattle.md_reader.specs.declared.types.Sym.TheVariants as grammar_symbol;
-ghost use Rattle.lr_check_sets.specs.Table.{automaton_of};
+ghost use Rattle.lr_check_found.specs.lr_check_sets.specs.Table.{automaton_of};
 ghost use Rattle.lr_check_samples.specs.Answering.{answers_to, depths_to};
 ghost use Rattle.lr_check_flaws.specs.Flaws.{Along};
 ghost use Rattle.lr_check_drawn.specs.Turning.{HasTurned, LeadsOn, IsRound};

@@ -1,12 +1,12 @@
 -- Flaws of what was found are faults of the sets.
 use Rattle.std.proofs.Common.{◌≡◌, ℕ, List, [], ◌∷◌, Some, drop, sym, ap, ◌∙◌, subst}
 use Rattle.std.proofs.lemmas.Option.{same_Some}
-use Rattle.tree_core.specs.declared.token.Tok.{Tok}
-use Rattle.md_reader.specs.declared.types.Sym.{Sym}
-use Rattle.md_reader.specs.declared.types.Sym.TheVariants as grammar_symbol
-use Rattle.lr_check_sets.specs.Automaton.{Automaton, walk, reduced}
-use Rattle.lr_check_sets.specs.Sums as sets
-use Rattle.lr_check_sets.specs.Faults.{Fault, gap, dead, circle, Circles}
+use Rattle.lr_check_found.specs.tree_core.specs.declared.token.Tok.{Tok}
+use Rattle.lr_check_found.specs.md_reader.specs.declared.types.Sym.{Sym}
+use Rattle.lr_check_found.specs.md_reader.specs.declared.types.Sym.TheVariants as grammar_symbol
+use Rattle.lr_check_found.specs.lr_check_sets.specs.Automaton.{Automaton, walk, reduced}
+use Rattle.lr_check_found.specs.lr_check_sets.specs.Sums as sets
+use Rattle.lr_check_found.specs.lr_check_sets.specs.Faults.{Fault, gap, dead, circle, Circles}
 use Rattle.lr_check_found.specs.declared.places.Place.{Place}
 use Rattle.lr_check_found.specs.Found.{FoundView, SettlesAt}
 use Rattle.lr_check_found.specs.Sound.{IsSoundSettling, IsFound}

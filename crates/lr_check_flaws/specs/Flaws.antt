@@ -1,10 +1,10 @@
 -- What is wrong with what was found, and where.
 use Rattle.std.specs.Prelude.{◌≡◌, ℕ, List, [], ◌∷◌, ◌++◌, Some}
-use Rattle.tree_core.specs.declared.token.Tok.{Tok}
-use Rattle.md_reader.specs.declared.types.Sym.{Sym}
-use Rattle.md_reader.specs.declared.types.Sym.TheVariants as grammar_symbol
-use Rattle.lr_check_sets.specs.Automaton.{Automaton, Production, reduce, size_of, Free, CanBlock}
-use Rattle.lr_check_sets.specs.Faults.{Circles, Fault}
+use Rattle.lr_check_found.specs.tree_core.specs.declared.token.Tok.{Tok}
+use Rattle.lr_check_found.specs.md_reader.specs.declared.types.Sym.{Sym}
+use Rattle.lr_check_found.specs.md_reader.specs.declared.types.Sym.TheVariants as grammar_symbol
+use Rattle.lr_check_found.specs.lr_check_sets.specs.Automaton.{Automaton, Production, reduce, size_of, Free, CanBlock}
+use Rattle.lr_check_found.specs.lr_check_sets.specs.Faults.{Circles, Fault}
 use Rattle.lr_check_found.specs.declared.places.Place.{Place}
 use Rattle.lr_check_found.specs.Found.{FoundView, IsPlaceAt, SettlesAt}
 use Rattle.lr_check_found.specs.Sound.{IsFound}

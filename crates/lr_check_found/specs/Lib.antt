@@ -6,3 +6,6 @@ pub mod Items
 pub mod Sound
 pub mod Adding
 pub mod Count
+pub use Rattle.tree_core
+pub use Rattle.md_reader
+pub use Rattle.lr_check_sets

@@ -6,19 +6,19 @@ use Rattle.std.proofs.lemmas.Option.{same_Some}
 use Rattle.gg_base.proofs.Facts.{some_none, head_same, tail_same}
 use Rattle.tree_core.specs.declared.token.Tok.{Tok}
 use Rattle.tree_core.specs.declared.token.Tok.TheVariants as tok
-use Rattle.md_reader.specs.declared.types.Rule.{Rule}
-use Rattle.md_reader.specs.declared.types.Sym.{Sym}
-use Rattle.md_reader.specs.declared.types.Sym.TheVariants as grammar_symbol
-use Rattle.md_reader.specs.Valid.{IsValid}
-use Rattle.lr_tables.specs.declared.types.Choice.{Choice}
-use Rattle.lr_tables.specs.View.{TableView}
-use Rattle.lr_tables.specs.Statements.{stmt_of}
-use Rattle.lr_tables.specs.Promises.{IsNumbered}
-use Rattle.lr_tables.specs.Leads.{actions_at}
-use Rattle.lr_tables.specs.Candidates.{StandsBefore, AreReductions, Candidates, accepts, shifts, reduces}
-use Rattle.lr_tables.proofs.Members.{In, In-Contains, Contains-In}
-use Rattle.lr_tables.proofs.Law.{candidates}
-use Rattle.lr_tables.proofs.Validity.{is_grammar}
+use Rattle.lr_check_sets.specs.md_reader.specs.declared.types.Rule.{Rule}
+use Rattle.lr_check_sets.specs.md_reader.specs.declared.types.Sym.{Sym}
+use Rattle.lr_check_sets.specs.md_reader.specs.declared.types.Sym.TheVariants as grammar_symbol
+use Rattle.lr_check_sets.specs.md_reader.specs.Valid.{IsValid}
+use Rattle.lr_check_sets.specs.lr_tables.specs.declared.types.Choice.{Choice}
+use Rattle.lr_check_sets.specs.lr_tables.specs.View.{TableView}
+use Rattle.lr_check_sets.specs.lr_tables.specs.Statements.{stmt_of}
+use Rattle.lr_check_sets.specs.lr_tables.specs.Promises.{IsNumbered}
+use Rattle.lr_check_sets.specs.lr_tables.specs.Leads.{actions_at}
+use Rattle.lr_check_sets.specs.lr_tables.specs.Candidates.{StandsBefore, AreReductions, Candidates, accepts, shifts, reduces}
+use Rattle.lr_check_sets.specs.lr_tables.proofs.Members.{In, In-Contains, Contains-In}
+use Rattle.lr_check_sets.specs.lr_tables.proofs.Law.{candidates}
+use Rattle.lr_check_sets.specs.lr_tables.proofs.Validity.{is_grammar}
 use Rattle.lr_check_sets.specs.Automaton as model
 use Rattle.lr_check_sets.specs.Automaton.{Production, Candidate, shift, reduce, walk, Free, CanBlock, IsTable}
 use Rattle.lr_check_sets.specs.Table.{production, candidates_of, candidates_at, automaton_of, productions}
@@ -34,12 +34,12 @@ use Rattle.lr_check_sets.specs.Trees.{Tree, Trees, node, no_trees, more_trees, m
 use Rattle.lr_check_sets.specs.Answers.{leaves, leaves_all}
 use Rattle.tree_core.specs.declared.token.Sort.{Sort}
 use Rattle.lr_check_law.specs.Accepting.{EveryTreeIsAccepted}
-use Rattle.lr_check.specs.declared.sample.Outcome.TheVariants as outcome
-use Rattle.lr_check.specs.Tree.{Token}
-use Rattle.lr_check.specs.Parse as parse
-use Rattle.lr_check.specs.Parse.{Part, symbols, coming, answer, owner_answers, asked, Takes, reduced, Reduction, Ends}
-use Rattle.lr_check.proofs.Parts.{symbols_used}
-use Rattle.lr_check.proofs.Contained.{nowhere_in}
+use Rattle.lr_check_sets.specs.lr_check.specs.declared.sample.Outcome.TheVariants as outcome
+use Rattle.lr_check_sets.specs.lr_check.specs.Tree.{Token}
+use Rattle.lr_check_sets.specs.lr_check.specs.Parse as parse
+use Rattle.lr_check_sets.specs.lr_check.specs.Parse.{Part, symbols, coming, answer, owner_answers, asked, Takes, reduced, Reduction, Ends}
+use Rattle.lr_check_sets.specs.lr_check.proofs.Parts.{symbols_used}
+use Rattle.lr_check_sets.specs.lr_check.proofs.Contained.{nowhere_in}
 
 -- the tokens to come, the end included
 abbrev pub toks : List Token → List Tok

@@ -5,3 +5,5 @@ pub mod Attributes
 pub mod Lists
 pub mod Typed
 pub mod Claims
+pub use Rattle.lr_tables
+pub use Rattle.lr_check

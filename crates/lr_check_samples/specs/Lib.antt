@@ -6,3 +6,4 @@ pub mod Samples
 pub mod Stops
 pub mod Drawn
 pub mod Claims
+pub use Rattle.lr_check_parse

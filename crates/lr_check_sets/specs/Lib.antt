@@ -13,3 +13,6 @@ pub mod Samples
 pub mod Table
 pub mod Exact
 pub mod Closed
+pub use Rattle.md_reader
+pub use Rattle.lr_tables
+pub use Rattle.lr_check

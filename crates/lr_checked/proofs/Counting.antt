@@ -17,14 +17,14 @@ use Rattle.lr_tables.specs.Leads.{actions_at}
 use Rattle.lr_tables.specs.Candidates.{StandsBefore, AreReductions, Candidates, accepts, shifts, reduces}
 use Rattle.lr_tables.proofs.Law.{candidates, leads_on}
 use Rattle.lr_tables.proofs.Validity.{is_grammar}
-use Rattle.lr_check_sets.specs.Automaton as model
-use Rattle.lr_check_sets.specs.Automaton.{shift, reduce, walk, Free, IsTable}
-use Rattle.lr_check_sets.specs.Bound.{Within, accepted, steps}
-use Rattle.lr_check_sets.specs.Table.{production, productions, candidates_of, candidates_at, automaton_of}
-use Rattle.lr_check_sets.specs.Exact.{MeetsLaws}
-use Rattle.lr_check_sets.proofs.Rows.{rules_of, candidates_are, leads, is_first, asks_more}
-use Rattle.lr_check_sets.proofs.Tables.{table_of_items}
-use Rattle.lr_check_sets.proofs.Meeting.{tables_meet_laws}
+use Rattle.lr_check_found.specs.lr_check_sets.specs.Automaton as model
+use Rattle.lr_check_found.specs.lr_check_sets.specs.Automaton.{shift, reduce, walk, Free, IsTable}
+use Rattle.lr_check_found.specs.lr_check_sets.specs.Bound.{Within, accepted, steps}
+use Rattle.lr_check_found.specs.lr_check_sets.specs.Table.{production, productions, candidates_of, candidates_at, automaton_of}
+use Rattle.lr_check_found.specs.lr_check_sets.specs.Exact.{MeetsLaws}
+use Rattle.lr_check_found.specs.lr_check_sets.proofs.Rows.{rules_of, candidates_are, leads, is_first, asks_more}
+use Rattle.lr_check_found.specs.lr_check_sets.proofs.Tables.{table_of_items}
+use Rattle.lr_check_found.specs.lr_check_sets.proofs.Meeting.{tables_meet_laws}
 use Rattle.lr_check.specs.declared.sample.Outcome.{Outcome}
 use Rattle.lr_check.specs.Tree.{Token}
 use Rattle.lr_check.specs.Parse as parse

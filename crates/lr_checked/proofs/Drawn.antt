@@ -10,9 +10,9 @@ use Rattle.lr_check.specs.Tree.{Node}
 use Rattle.lr_check.specs.Parse.{Replays, is_parsed}
 use Rattle.lr_check.specs.Statement.{IsStatement}
 use Rattle.lr_check.proofs.Only.{replays_same}
-use Rattle.lr_check_samples.specs.Stops.{EndsAt, ends_blocked, ends_turning, EndsTurning}
-use Rattle.lr_check_samples.specs.Drawn.{BlockingNodes, LoopingNodes}
-use Rattle.lr_check_samples.proofs.Replaying.{stops_end}
+use Rattle.lr_check_drawn.specs.lr_check_samples.specs.Stops.{EndsAt, ends_blocked, ends_turning, EndsTurning}
+use Rattle.lr_check_drawn.specs.lr_check_samples.specs.Drawn.{BlockingNodes, LoopingNodes}
+use Rattle.lr_check_drawn.specs.lr_check_samples.proofs.Replaying.{stops_end}
 use Rattle.lr_check_drawn.specs.Sampled.{IsSampleOf}
 use Rattle.lr_check_flaws.specs.declared.flaws.Flaw.{Flaw}
 use Rattle.lr_check_flaws.specs.declared.flaws.Flaw.TheVariants.{Gap, Dead, Circle}

@@ -3,11 +3,11 @@ use Rattle.std.proofs.Common.{◌≡◌, ◌⊎◌, ℕ, suc, ◌+◌, ◌*◌, 
 use Rattle.tree_core.specs.declared.token.Tok.{Tok}
 use Rattle.tree_core.specs.declared.token.Tok.TheVariants as tok
 use Rattle.lr_tables.specs.Statements.{stmt_of}
-use Rattle.lr_check_sets.specs.Trees.{onto}
-use Rattle.lr_check_sets.specs.Exact.{MeetsLaws}
-use Rattle.lr_check_sets.specs.Table.{productions, automaton_of}
-use Rattle.lr_check_sets.proofs.Meeting.{tables_meet_laws}
-use Rattle.lr_check_sets.proofs.Ends_within.{every_tree_ends_within}
+use Rattle.lr_check_found.specs.lr_check_sets.specs.Trees.{onto}
+use Rattle.lr_check_found.specs.lr_check_sets.specs.Exact.{MeetsLaws}
+use Rattle.lr_check_found.specs.lr_check_sets.specs.Table.{productions, automaton_of}
+use Rattle.lr_check_found.specs.lr_check_sets.proofs.Meeting.{tables_meet_laws}
+use Rattle.lr_check_found.specs.lr_check_sets.proofs.Ends_within.{every_tree_ends_within}
 use Rattle.lr_check.specs.declared.sample.Outcome.{Outcome}
 use Rattle.lr_check.specs.declared.sample.Outcome.TheVariants as outcome
 use Rattle.lr_check.specs.Tree.{Token}
@@ -19,7 +19,7 @@ use Rattle.lr_check_parse.specs.Lists.{EndsSo}
 use Rattle.lr_check_parse.specs.Claims.{questioned}
 use Rattle.lr_check_parse.specs.Typed.{IsStatement}
 use Rattle.lr_check_parse.proofs.Sources.{parse_answered}
-use Rattle.lr_check_samples.specs.Stops.{tokens}
+use Rattle.lr_check_drawn.specs.lr_check_samples.specs.Stops.{tokens}
 use Rattle.lr_checked.specs.Accepted.{moves}
 use Rattle.lr_checked.specs.Claims.{NoFaultIsEnough, ParsesAccept}
 use Rattle.lr_checked.proofs.Trees.{statement_tree}

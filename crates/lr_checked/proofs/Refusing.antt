@@ -7,7 +7,7 @@ use Rattle.lr_check.specs.declared.sample.Outcome.TheVariants as outcome
 use Rattle.lr_check.specs.Tree.{Node, Token}
 use Rattle.lr_check.specs.Parse.{Ends, Replays, is_long, is_parsed}
 use Rattle.lr_check.specs.Statement.{IsStatement}
-use Rattle.lr_check_samples.specs.Stops.{at_once, Blocks, Loops, EndsAt, ends_blocked, ends_turning}
+use Rattle.lr_check_drawn.specs.lr_check_samples.specs.Stops.{at_once, Blocks, Loops, EndsAt, ends_blocked, ends_turning}
 use Rattle.lr_check.proofs.Contained.{nowhere_in}
 use Rattle.lr_checked.specs.declared.checking.CheckFault.{CheckFault}
 use Rattle.lr_checked.specs.declared.checking.CheckFault.TheVariants as check_fault

@@ -6,7 +6,7 @@ use Rattle.lr_check.specs.declared.sample.Outcome.{Outcome}
 use Rattle.lr_check.specs.declared.sample.Outcome.TheVariants as outcome
 use Rattle.lr_check.specs.Tree.{Token}
 use Rattle.lr_check.specs.Parse.{Part, symbols, Reduction, Ends, loops, accepts, shifts, reduces, blocks}
-use Rattle.lr_check_samples.specs.Stops.{Moves, by_shift, by_rule, Comes, at_once, by_move, Turns, one_turn, more_turns}
+use Rattle.lr_check_drawn.specs.lr_check_samples.specs.Stops.{Moves, by_shift, by_rule, Comes, at_once, by_move, Turns, one_turn, more_turns}
 use Rattle.lr_check.proofs.Contained.{nowhere_in, cons_cases}
 
 module _ (rules : List Rule) (stmt : ℕ) where

@@ -11,7 +11,7 @@ use Rattle.lr_tables.specs.Rows.{row_of}
 use Rattle.lr_tables.specs.Built.{IsRows}
 use Rattle.lr_tables.specs.Statements.{stmt_of}
 use Rattle.lr_tables.specs.Promises.{IsNumbered}
-use Rattle.lr_check_sets.specs.Table.{automaton_of}
+use Rattle.lr_check_found.specs.lr_check_sets.specs.Table.{automaton_of}
 use Rattle.lr_check_found.specs.Count.{HasMore}
 use Rattle.lr_checked.specs.declared.checking.CheckFault.{CheckFault}
 use Rattle.lr_checked.specs.declared.checking.CheckFault.TheVariants as check_fault

@@ -5,11 +5,11 @@ use Rattle.tree_core.specs.declared.token.Tok.{Tok}
 use Rattle.tree_core.specs.declared.token.Sort.{Sort}
 use Rattle.tree_core.specs.declared.token.Sort.TheVariants as sort
 use Rattle.tree_core.specs.Grammar.{kids}
-use Rattle.lr_check_sets.specs.Trees.{Tree, Trees, node, no_trees, more_trees, May}
-use Rattle.lr_check_sets.specs.Answers.{leaves, leaves_all}
+use Rattle.lr_check_found.specs.lr_check_sets.specs.Trees.{Tree, Trees, node, no_trees, more_trees, May}
+use Rattle.lr_check_found.specs.lr_check_sets.specs.Answers.{leaves, leaves_all}
 use Rattle.lr_check.specs.Tree.{Token}
 use Rattle.lr_check_parse.specs.Typed.{AreTyped, ends, begins, IsStatement}
-use Rattle.lr_check_samples.specs.Stops.{tokens}
+use Rattle.lr_check_drawn.specs.lr_check_samples.specs.Stops.{tokens}
 
 -- trees of the first sorts, and those of the others behind them
 record Parted (xs ys : List Sort) (vs : Trees (xs ++ ys)) (w : List Token) : Type 0 where

@@ -7,7 +7,7 @@ use Rattle.lr_check.specs.Tree.{Node, Token, Unfolds, ends, goes_on, IsTree}
 use Rattle.lr_check.specs.Statement.{fits_at, KidsFit, AreTyped, IsStatement}
 use Rattle.lr_check_parse.specs.Typed.{AreTyped as AreTrees, begins}
 use Rattle.lr_check_parse.specs.Typed as typed
-use Rattle.lr_check_samples.specs.Stops.{tokens}
+use Rattle.lr_check_drawn.specs.lr_check_samples.specs.Stops.{tokens}
 
 module _ (nodes : List Node) where
   -- each numbered node may stand where its sort is wanted

@@ -9,7 +9,7 @@ use Rattle.lr_check.specs.declared.sample.Outcome.TheVariants as outcome
 use Rattle.lr_check.specs.Tree.{Token}
 use Rattle.lr_check.specs.Parse.{Part, Ends, loops, accepts, shifts, reduces, blocks}
 use Rattle.lr_check_parse.specs.Typed.{IsStatement}
-use Rattle.lr_check_samples.specs.Stops.{tokens}
+use Rattle.lr_check_drawn.specs.lr_check_samples.specs.Stops.{tokens}
 
 -- how many shifts and reductions a parse makes
 abbrev pub moves : {rules : List Rule} {stmt at : ℕ} {before : List (List Sym)} {ws : List Token} {s : List Part} {o : Outcome} →

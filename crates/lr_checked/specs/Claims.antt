@@ -5,8 +5,8 @@ use Rattle.md_reader.specs.Valid.{IsValid}
 use Rattle.lr_tables.specs.Statements.{stmt_of}
 use Rattle.lr_tables.specs.View.{TableView}
 use Rattle.lr_tables.specs.Promises.{IsNumbered}
-use Rattle.lr_check_sets.specs.Faults.{NoFault}
-use Rattle.lr_check_sets.specs.Table.{automaton_of}
+use Rattle.lr_check_found.specs.lr_check_sets.specs.Faults.{NoFault}
+use Rattle.lr_check_found.specs.lr_check_sets.specs.Table.{automaton_of}
 use Rattle.lr_check_parse.specs.Moves.{Answering, Move, Ending, Accepts, Refuses, Parses}
 use Rattle.lr_check_parse.specs.Typed.{IsStatement}
 use Rattle.lr_checked.specs.Accepted.{NeverStops}

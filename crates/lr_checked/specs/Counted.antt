@@ -4,7 +4,7 @@ use Rattle.gg_base.specs.declared.limits.TheConstants.{SUMMARY_LIMIT}
 use Rattle.md_reader.specs.State.{Content}
 use Rattle.lr_tables.specs.View.{TableView}
 use Rattle.lr_tables.specs.Promises.{IsNumbered}
-use Rattle.lr_check_sets.specs.Table.{automaton_of}
+use Rattle.lr_check_found.specs.lr_check_sets.specs.Table.{automaton_of}
 use Rattle.lr_check_found.specs.Count.{HasMore}
 use Rattle.lr_check_decided.specs.Decided.{HasSums}
 

@@ -4,3 +4,6 @@ pub mod Refusals
 pub mod Claims
 pub mod Lines
 pub mod Samples
+pub use Rattle.lr_check
+pub use Rattle.lr_check_parse
+pub use Rattle.lr_tables

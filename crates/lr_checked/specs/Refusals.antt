@@ -8,9 +8,9 @@ use Rattle.lr_check.specs.Tree.{Node, Token, IsTree}
 use Rattle.lr_check.specs.Parse.{Ends, Replays}
 use Rattle.lr_check.specs.Statement.{IsStatement}
 use Rattle.lr_check_parse.specs.Typed as typed
-use Rattle.lr_check_sets.specs.Automaton.{Automaton}
+use Rattle.lr_check_found.specs.lr_check_sets.specs.Automaton.{Automaton}
 use Rattle.lr_check_found.specs.Count.{HasMore}
-use Rattle.lr_check_samples.specs.Stops.{tokens, Blocks, Loops, EndsAt, EndsTurning}
+use Rattle.lr_check_drawn.specs.lr_check_samples.specs.Stops.{tokens, Blocks, Loops, EndsAt, EndsTurning}
 use Rattle.lr_checked.specs.declared.checking.CheckFault.{CheckFault}
 use Rattle.lr_checked.specs.declared.checking.CheckFault.TheVariants as check_fault
 use Rattle.lr_checked.specs.Counted.{HasTooManySums}

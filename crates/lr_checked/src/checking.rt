@@ -1,7 +1,7 @@
 // Whether some tree blocks the parser or makes it turn for ever.
 ghost use Rattle.std.specs.Prelude.{◌≡◌, IfOk, IfErr, MatchResult};
 ghost use Rattle.gg_base.specs.declared.limits.TheConstants.{SUMMARY_LIMIT};
-ghost use Rattle.lr_check_sets.specs.Table.{automaton_of};
+ghost use Rattle.lr_check_found.specs.lr_check_sets.specs.Table.{automaton_of};
 ghost use Rattle.lr_check_found.specs.Count.{HasMore};
 ghost use Rattle.lr_check_found.specs.Sound.{IsFound};
 ghost use Rattle.lr_check_flaws.specs.Flaws.{IsFlaw};

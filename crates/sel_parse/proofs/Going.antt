@@ -26,13 +26,13 @@ use Rattle.lr_tables.proofs.Validity.{is_grammar}
 use Rattle.lr_check.proofs.Covered.{covers, opened, statement_alone}
 use Rattle.lr_check.proofs.Seen.{Seen, seen_start, seen_shift}
 use Rattle.lr_check.proofs.Contained.{nowhere_in}
-use Rattle.lr_check_parse.specs.Moves.{Answering, Move, Shift, Reduce, Ending, Accepts, Blocks, Loops, Refuses, Taken, taken, coming, decided_at, Parses}
-use Rattle.lr_check_parse.specs.Moves as parse
-use Rattle.lr_check_parse.specs.Attributes.{by_attributes, answered}
-use Rattle.lr_check_parse.proofs.Asked.{keeps, kept_so}
-use Rattle.lr_check_parse.proofs.Choosing.{taken_among}
-use Rattle.lr_check_parse.proofs.Bounds.{left, Marks}
-use Rattle.lr_check_parse.proofs.Existence.{shift_falls, from_here}
+use Rattle.sel_parse_desk.specs.lr_check_parse.specs.Moves.{Answering, Move, Shift, Reduce, Ending, Accepts, Blocks, Loops, Refuses, Taken, taken, coming, decided_at, Parses}
+use Rattle.sel_parse_desk.specs.lr_check_parse.specs.Moves as parse
+use Rattle.sel_parse_desk.specs.lr_check_parse.specs.Attributes.{by_attributes, answered}
+use Rattle.sel_parse_desk.specs.lr_check_parse.proofs.Asked.{keeps, kept_so}
+use Rattle.sel_parse_desk.specs.lr_check_parse.proofs.Choosing.{taken_among}
+use Rattle.sel_parse_desk.specs.lr_check_parse.proofs.Bounds.{left, Marks}
+use Rattle.sel_parse_desk.specs.lr_check_parse.proofs.Existence.{shift_falls, from_here}
 use Rattle.sel_target.specs.Meaning.{Meaning}
 use Rattle.sel_parse_desk.specs.Desk.{Stack, Outcome, Full, Stuck, Done}
 use Rattle.sel_parse_desk.specs.Reductions.{reduced}

@@ -4,9 +4,9 @@ use Rattle.tree_core.specs.declared.tree.Leaf.{Leaf}
 use Rattle.tree_core.specs.declared.program.TreeProgram.{TreeProgram}
 use Rattle.md_reader.specs.State.{Content}
 use Rattle.lr_tables.specs.Statements.{stmt_of}
-use Rattle.lr_check_parse.specs.Moves.{Move, Ending, Accepts, Blocks, Loops, Refuses}
-use Rattle.lr_check_parse.specs.Attributes.{by_attributes}
-use Rattle.lr_check_parse.proofs.OneWay.{parse_one_way}
+use Rattle.sel_parse_desk.specs.lr_check_parse.specs.Moves.{Move, Ending, Accepts, Blocks, Loops, Refuses}
+use Rattle.sel_parse_desk.specs.lr_check_parse.specs.Attributes.{by_attributes}
+use Rattle.sel_parse_desk.specs.lr_check_parse.proofs.OneWay.{parse_one_way}
 use Rattle.sel_target.specs.Meaning.{Meaning}
 use Rattle.sel_parse_desk.specs.Selected.{Kept, selecting, start, Parsed, Selected, FrameFull, Blocked, blocks, circles, lacks}
 use Rattle.sel_parse.specs.Exclusive.{HasOneCode, IsNotFull, IsNotBlocked, IsOneRefusal}

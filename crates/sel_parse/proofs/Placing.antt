@@ -10,9 +10,9 @@ use Rattle.md_reader.specs.declared.types.Sym.TheVariants as grammar_symbol
 use Rattle.lr_tables.specs.Grammar.{IsGrammar}
 use Rattle.lr_check.proofs.Seen.{seen_unit, seen_long, none_marked}
 use Rattle.lr_check.proofs.Falling.{mark_count}
-use Rattle.lr_check_parse.specs.Moves.{Answering}
-use Rattle.lr_check_parse.proofs.Bounds.{left, Marks, one_or_more, length-drop}
-use Rattle.lr_check_parse.proofs.Existence.{unit_falls, long_falls}
+use Rattle.sel_parse_desk.specs.lr_check_parse.specs.Moves.{Answering}
+use Rattle.sel_parse_desk.specs.lr_check_parse.proofs.Bounds.{left, Marks, one_or_more, length-drop}
+use Rattle.sel_parse_desk.specs.lr_check_parse.proofs.Existence.{unit_falls, long_falls}
 use Rattle.sel_parse.specs.Steps.{seen_before}
 
 more_than_one : (k : ℕ) → 2 ≤ k → nat_lt 1 k ≡ true

@@ -1,7 +1,7 @@
 -- What a test of two effects says of what is refused.
 use Rattle.std.proofs.Common.{◌≡◌, ℕ, Bool, true, false, refl, sym, ap, subst, ◌∙◌, List, Option, Some, None, cond}
 use Rattle.std.specs.Prelude.{◌↔◌, IsTrue, Result, Ok}
-use Rattle.term_core.specs.declared.facts.Fact.{Fact}
+use Rattle.sel_terms.specs.term_core.specs.declared.facts.Fact.{Fact}
 use Rattle.sel_terms.specs.Effects.{EffectShape, norm_effect}
 use Rattle.sel_terms.specs.Same.{same_effect}
 use Rattle.sel_terms.proofs.Alike.{same_effect_tells}

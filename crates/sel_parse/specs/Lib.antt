@@ -4,3 +4,5 @@ pub mod Answers
 pub mod Steps
 pub mod Faults
 pub mod Exclusive
+pub use Rattle.sel_parse_desk
+pub use Rattle.sel_parse_desk.specs.lr_check_parse as lr_check_parse

@@ -4,14 +4,14 @@ use Rattle.std.specs.Prelude.{Result, Ok, Err, if◌then◌else◌}
 use Rattle.std.specs.List.{AllByRecursion}
 use Rattle.std.specs.Option.{option_or}
 use Rattle.gg_base.specs.declared.size.Size.TheVariants.{Byte, Word, Long}
-use Rattle.md_reader_pieces.specs.declared.piece.Line.{Line}
+use Rattle.sel_target.specs.md_reader_pieces.specs.declared.piece.Line.{Line}
 use Rattle.md_reader.specs.declared.types.Kind.{Kind}
 use Rattle.md_reader.specs.declared.types.Kind.TheVariants as kind
 use Rattle.md_reader.specs.declared.types.Class.{Class}
 use Rattle.md_reader.specs.declared.types.Rule.{Rule}
 use Rattle.md_reader.specs.State.{Content}
-use Rattle.term_core.specs.declared.facts.Fact.{Fact}
-use Rattle.term_core.specs.Shape.{Symbol}
+use Rattle.sel_terms.specs.term_core.specs.declared.facts.Fact.{Fact}
+use Rattle.sel_terms.specs.term_core.specs.Shape.{Symbol}
 use Rattle.sel_terms.specs.Effects.{EffectShape, Value, StoreHome, norm_effect}
 use Rattle.sel_terms.specs.Same.{same_effect}
 use Rattle.sel_terms.specs.RuleFacts.{facts_of, saved_facts}

@@ -13,8 +13,8 @@ use Rattle.lr_tables.specs.declared.types.Choice.{Choice}
 use Rattle.lr_tables.specs.declared.types.Choice.TheVariants as choice
 use Rattle.lr_tables.specs.View.{TableView}
 use Rattle.lr_tables.specs.Leads.{target_at, actions_at}
-use Rattle.lr_check_parse.specs.Moves.{Move, Accepts}
-use Rattle.lr_check_parse.specs.Attributes.{answered}
+use Rattle.sel_parse_desk.specs.lr_check_parse.specs.Moves.{Move, Accepts}
+use Rattle.sel_parse_desk.specs.lr_check_parse.specs.Attributes.{answered}
 use Rattle.sel_target.specs.declared.attr.Attr.TheVariants as attr
 use Rattle.sel_target.specs.Meaning.{Meaning}
 use Rattle.sel_parse_desk.specs.Desk.{Stack, Outcome, Full, Stuck, Done}

@@ -8,3 +8,4 @@ pub mod Selected
 pub mod Joined
 pub mod Tallied
 pub mod Mirror
+pub use Rattle.lr_check_parse

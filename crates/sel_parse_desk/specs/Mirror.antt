@@ -2,7 +2,7 @@
 use Rattle.std.specs.Prelude.{◌≡◌, ℕ, ◌≤◌, List, map, reverse, Result, MatchResult}
 use Rattle.gg_base.specs.declared.limits.TheConstants.{NEED_LIMIT}
 use Rattle.tree_core.specs.declared.program.TreeProgram.{TreeProgram}
-use Rattle.md_reader_pieces.specs.declared.piece.Line.{Line}
+use Rattle.sel_target.specs.md_reader_pieces.specs.declared.piece.Line.{Line}
 use Rattle.md_reader.specs.State.{Content}
 use Rattle.sel_target.specs.declared.attr.Attr.{Attr}
 use Rattle.sel_target.specs.declared.attr.Attr.TheVariants as attr

@@ -5,7 +5,7 @@ use Rattle.tree_core.specs.declared.tree.Leaf.{Leaf}
 use Rattle.tree_core.specs.declared.program.TreeProgram.{TreeProgram}
 use Rattle.md_reader.specs.declared.types.Rule.{Rule}
 use Rattle.md_reader.specs.State.{Content}
-use Rattle.lr_tables.specs.Statements.{stmt_of}
+use Rattle.lr_check_parse.specs.lr_tables.specs.Statements.{stmt_of}
 use Rattle.sel_regs.specs.Slots.{Frame}
 use Rattle.lr_check_parse.specs.Moves.{Move, Ending, Accepts, Blocks, Loops, Refuses, Parses}
 use Rattle.lr_check_parse.specs.Attributes.{Selecting, by_attributes}

@@ -33,12 +33,12 @@ use Rattle.md_reader.specs.Patterns.{kind_at}
 use Rattle.md_reader.specs.State.{Content}
 use Rattle.md_reader.specs.Valid.{IsRule}
 use Rattle.term_core.specs.Shape.{Shape}
-use Rattle.sel_terms.specs.Effects.{ActShape, Value, Number, Address, PlaceHome, PlaceAt, StoreHome, StoreAt, Branch, Push, Call, Save, Return, Jump}
-use Rattle.sel_terms.specs.Parts.{PartShape, SubtreeShape, Worth, Home, At, Does as Acts, role_of, store, value_of}
-use Rattle.sel_terms.specs.Wanted.{whole, first_part}
-use Rattle.sel_terms.specs.Reading.{below, step, stack_from, effect_read}
-use Rattle.sel_terms.specs.RuleFacts.{facts_of}
-use Rattle.sel_terms_meaning.specs.Alike.{ActsAlike}
+use Rattle.sel_target.specs.sel_terms.specs.Effects.{ActShape, Value, Number, Address, PlaceHome, PlaceAt, StoreHome, StoreAt, Branch, Push, Call, Save, Return, Jump}
+use Rattle.sel_target.specs.sel_terms.specs.Parts.{PartShape, SubtreeShape, Worth, Home, At, Does as Acts, role_of, store, value_of}
+use Rattle.sel_target.specs.sel_terms.specs.Wanted.{whole, first_part}
+use Rattle.sel_target.specs.sel_terms.specs.Reading.{below, step, stack_from, effect_read}
+use Rattle.sel_target.specs.sel_terms.specs.RuleFacts.{facts_of}
+use Rattle.sel_target.specs.sel_terms_meaning.specs.Alike.{ActsAlike}
 use Rattle.sel_parse_moves.specs.sel_terms_trees.specs.Senses.{Sense, OfLeaf, OfNumber, OfPlace, IsPlace, unknown, sense_at, means_at, att_of as att_in}
 use Rattle.sel_parse_moves.specs.sel_terms_trees.specs.Effects.{Does, DoesBy}
 use Rattle.sel_target.specs.declared.attr.Attr.{Attr}
@@ -73,7 +73,7 @@ store_no_save (Home z j) u i e = cc
 store_no_save (At z a) u i e = cc
 store_no_save (Acts a) u i e = cc
 
-class_no_save : (k : Option Kind) (i : ℕ) → Rattle.sel_terms.specs.Parts.leaf_part 1 (Rattle.sel_terms.specs.Parts.role_of_kind k) ≡ Acts (Save i) → ⊥
+class_no_save : (k : Option Kind) (i : ℕ) → Rattle.sel_target.specs.sel_terms.specs.Parts.leaf_part 1 (Rattle.sel_target.specs.sel_terms.specs.Parts.role_of_kind k) ≡ Acts (Save i) → ⊥
 class_no_save None i e = cc
 class_no_save (Some kind.Reg) i e = cc
 class_no_save (Some (kind.Value z)) i e = cc

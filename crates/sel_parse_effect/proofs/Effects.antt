@@ -22,27 +22,27 @@ use Rattle.md_reader.specs.Restrictions.{same_size}
 use Rattle.term_core.specs.Shape.{Shape, Constant, Symbol, LastResult, Memory, Unary, Binary}
 use Rattle.term_core.specs.Value as term
 use Rattle.term_core.specs.Facts.{same_as}
-use Rattle.sel_terms.specs.Effects.{ActShape, EffectShape, Value, Number, Address, PlaceHome, PlaceAt, StoreHome, StoreAt, Branch, Push, Call, Save, Return, Jump, norm_effect}
-use Rattle.sel_terms.specs.Reading.{effect_read}
-use Rattle.sel_terms.specs.RuleFacts.{size_of_some, size_of_kind, size_of_symbol, size_at, facts_of}
-use Rattle.sel_terms.proofs.Facts.{size_behind}
+use Rattle.sel_target.specs.sel_terms.specs.Effects.{ActShape, EffectShape, Value, Number, Address, PlaceHome, PlaceAt, StoreHome, StoreAt, Branch, Push, Call, Save, Return, Jump, norm_effect}
+use Rattle.sel_target.specs.sel_terms.specs.Reading.{effect_read}
+use Rattle.sel_target.specs.sel_terms.specs.RuleFacts.{size_of_some, size_of_kind, size_of_symbol, size_at, facts_of}
+use Rattle.sel_target.specs.sel_terms.proofs.Facts.{size_behind}
 use Rattle.sel_target.specs.declared.attr.Attr.{Attr}
 use Rattle.sel_target.specs.declared.attr.Attr.TheVariants as attr
 use Rattle.sel_target.specs.Meaning.{Meaning}
 use Rattle.sel_target.specs.Values.{View, term_state, value, IsReadWhere, worth, token_worth, token_operand, read_of}
 use Rattle.sel_target.specs.Laws.{IsLawful}
-use Rattle.sel_terms_meaning.specs.Meaning.{terms_of_act}
+use Rattle.sel_target.specs.sel_terms_meaning.specs.Meaning.{terms_of_act}
 use Rattle.sel_target.specs.EffectTerms.{terms_of, DividesByNone}
 use Rattle.sel_target.specs.Symbols.{token_number, constant_of, size_of_entry}
 use Rattle.sel_parse_moves.specs.sel_terms_trees.specs.Senses.{Sense}
 use Rattle.sel_parse_moves.specs.lr_check_parse.specs.Attributes.{attribute_at, all_hold}
-use Rattle.term_core_accesses.specs.Accesses.{Safe}
-use Rattle.sel_terms_meaning.specs.Meaning.{AllSafe, SafeAct, divides_by_zero}
-use Rattle.sel_terms_meaning.specs.Alike.{TermsAlike, AllAlike, ActsAlike, EffectsAlike}
+use Rattle.sel_target.specs.term_core_accesses.specs.Accesses.{Safe}
+use Rattle.sel_target.specs.sel_terms_meaning.specs.Meaning.{AllSafe, SafeAct, divides_by_zero}
+use Rattle.sel_target.specs.sel_terms_meaning.specs.Alike.{TermsAlike, AllAlike, ActsAlike, EffectsAlike}
 use Rattle.sel_parse_moves.specs.Told.{SameForAlike, Tells}
 use Rattle.sel_parse_moves.proofs.Told.{restrictions_tell, facts_join}
-use Rattle.sel_terms_meaning.proofs.Alike.{shown_is_alike}
-use Rattle.sel_terms_meaning.proofs.Narrow.{wanted_is_narrow}
+use Rattle.sel_target.specs.sel_terms_meaning.proofs.Alike.{shown_is_alike}
+use Rattle.sel_target.specs.sel_terms_meaning.proofs.Narrow.{wanted_is_narrow}
 use Rattle.sel_parse_stands.specs.sel_parse_selected.specs.Entries.{Entry}
 use Rattle.sel_parse_stands.specs.sel_parse_selected.specs.Selected.{selecting}
 use Rattle.sel_parse_stands.specs.sel_parse_selected.specs.Entries.{spelled, same_operands}

@@ -28,10 +28,10 @@ use Rattle.md_reader.specs.Rows.{shape_fits}
 use Rattle.md_reader.specs.State.{Content}
 use Rattle.md_reader.specs.Valid.{IsRule, MayGive}
 use Rattle.term_core.specs.Value as term
-use Rattle.sel_terms.specs.Effects.{EffectShape}
-use Rattle.sel_terms.specs.Reading.{effect_read, stack_from}
-use Rattle.sel_terms.specs.Wanted.{first_part}
-use Rattle.sel_terms_meaning.specs.Meaning.{divides_by_zero}
+use Rattle.sel_target.specs.sel_terms.specs.Effects.{EffectShape}
+use Rattle.sel_target.specs.sel_terms.specs.Reading.{effect_read, stack_from}
+use Rattle.sel_target.specs.sel_terms.specs.Wanted.{first_part}
+use Rattle.sel_target.specs.sel_terms_meaning.specs.Meaning.{divides_by_zero}
 use Rattle.sel_parse_moves.specs.sel_terms_trees.specs.Senses.{Sense, OfLeaf, OfNumber, OfPlace, IsPlace, piled, StandsFor}
 use Rattle.sel_parse_moves.specs.sel_terms_trees.specs.Effects.{GivesBy, TrapsBy}
 use Rattle.sel_target.specs.declared.attr.Attr.{Attr}

@@ -28,11 +28,11 @@ use Rattle.md_reader.specs.State.{Content}
 use Rattle.md_reader.specs.Valid.{IsRule}
 use Rattle.term_core.specs.Shape.{Shape}
 use Rattle.term_core.specs.Value as term
-use Rattle.sel_terms.specs.Effects.{ActShape, EffectShape, Value, Number, Address, PlaceHome, PlaceAt, StoreHome, StoreAt, Branch, Push, Call, Save, Return, Jump}
-use Rattle.sel_terms.specs.Parts.{value_of}
-use Rattle.sel_terms.specs.Wanted.{whole, first_part}
-use Rattle.sel_terms.specs.Reading.{effect_read, stack_from}
-use Rattle.sel_terms.specs.RuleFacts.{facts_of}
+use Rattle.sel_target.specs.sel_terms.specs.Effects.{ActShape, EffectShape, Value, Number, Address, PlaceHome, PlaceAt, StoreHome, StoreAt, Branch, Push, Call, Save, Return, Jump}
+use Rattle.sel_target.specs.sel_terms.specs.Parts.{value_of}
+use Rattle.sel_target.specs.sel_terms.specs.Wanted.{whole, first_part}
+use Rattle.sel_target.specs.sel_terms.specs.Reading.{effect_read, stack_from}
+use Rattle.sel_target.specs.sel_terms.specs.RuleFacts.{facts_of}
 use Rattle.sel_target.specs.declared.attr.Attr.{Attr}
 use Rattle.sel_target.specs.declared.attr.Attr.TheVariants as attr
 use Rattle.sel_target.specs.Meaning.{Meaning, RegAt}
@@ -45,9 +45,9 @@ use Rattle.sel_target.specs.EffectTerms.{begins_with_save, DividesByNone}
 use Rattle.sel_target.specs.Courses.{traps, comes}
 use Rattle.sel_parse_moves.specs.sel_terms_trees.specs.Senses.{Sense, OfLeaf, OfNumber, OfPlace, StandsFor}
 use Rattle.sel_parse_moves.specs.lr_check_parse.specs.Attributes.{all_hold}
-use Rattle.sel_terms_meaning.specs.Meaning.{divides_by_zero, AllSafe, SafeAct}
+use Rattle.sel_target.specs.sel_terms_meaning.specs.Meaning.{divides_by_zero, AllSafe, SafeAct}
 use Rattle.sel_parse_moves.specs.sel_terms_trees.specs.Effects.{GivesBy, TrapsBy, Gives, IsKnown}
-use Rattle.sel_terms_meaning.specs.Alike.{EffectsAlike, ActsAlike}
+use Rattle.sel_target.specs.sel_terms_meaning.specs.Alike.{EffectsAlike, ActsAlike}
 use Rattle.sel_parse_stands.specs.sel_parse_selected.specs.Entries.{Entry, attrs}
 use Rattle.sel_parse_stands.specs.sel_parse_selected.specs.Selected.{selecting}
 use Rattle.sel_parse_stands.specs.Stands.{Sees, IsFrame, Holds, ClassIs, value as value_is, address as address_is, place as place_is}

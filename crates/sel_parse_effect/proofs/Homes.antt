@@ -24,7 +24,7 @@ use Rattle.md_reader.specs.Patterns.{kind_at}
 use Rattle.md_reader.specs.Restrictions.{same_size}
 use Rattle.md_reader.specs.State.{Content}
 use Rattle.term_core.specs.Facts.{same_as}
-use Rattle.sel_terms.specs.RuleFacts.{size_of_symbol, size_of_some, facts_of}
+use Rattle.sel_target.specs.sel_terms.specs.RuleFacts.{size_of_symbol, size_of_some, facts_of}
 use Rattle.sel_parse_moves.specs.sel_terms_trees.specs.Senses.{Sense, IsPlace, unknown, means, means_at}
 use Rattle.sel_target.specs.declared.attr.Attr.{Attr}
 use Rattle.sel_target.specs.declared.attr.Attr.TheVariants as attr
@@ -123,7 +123,7 @@ module _ {O I S F : Type 0} (of : Meaning O I S F) (law : IsLawful of) (q : Tree
   symbol_place m x k a v z g (stands.class c a' v' is) e h = class_place m (kind_at d.classes c) a v z g is e h
 
   class_sized : (m : S) (c : ℕ) (k : Option Kind) (a : Attr O) (v : Sense) (z : Size) → ClassIs of q d first f fs t s m0 m k a v → size_of_entry k ≡ Some z
-      → Rattle.sel_terms.specs.RuleFacts.size_of_kind k ≡ z
+      → Rattle.sel_target.specs.sel_terms.specs.RuleFacts.size_of_kind k ≡ z
   class_sized m c k a v z (stands.value y o n fits is) e = same_Some y z e
   class_sized m c k a v z (stands.place y o p fits is) e = same_Some y z e
   class_sized m c k a v z _ e = absurd (none-some z e)

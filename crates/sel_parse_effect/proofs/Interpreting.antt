@@ -31,7 +31,7 @@ use Rattle.md_reader.specs.Rows.{shape_fits}
 use Rattle.md_reader.specs.State.{Content}
 use Rattle.md_reader.specs.Valid.{IsRule, MayGive}
 use Rattle.term_core.specs.Value as term
-use Rattle.sel_terms.specs.Reading.{effect_read}
+use Rattle.sel_target.specs.sel_terms.specs.Reading.{effect_read}
 use Rattle.sel_parse_moves.specs.sel_terms_trees.specs.Senses.{Sense, OfLeaf, piled, StandsFor}
 use Rattle.sel_parse_moves.specs.sel_terms_trees.specs.Effects.{GivesBy, DoesBy, TrapsBy}
 use Rattle.sel_target.specs.declared.attr.Attr.{Attr}

@@ -26,8 +26,8 @@ use Rattle.tree_meaning.specs.Deeds.{Deed, Puts, Branches, Pushes, Returns, Call
 use Rattle.tree_meaning.specs.declared.value.Value.TheVariants as values
 use Rattle.tree_meaning.specs.Values.{Sight, there}
 use Rattle.tree_meaning.specs.Values as meant
-use Rattle.tree_meaning_tame.specs.Tame.{IsThere, AllThere}
-use Rattle.tree_meaning_tame.specs.Sights.{Completes}
+use Rattle.sel_parse_moves.specs.tree_meaning_tame.specs.Tame.{IsThere, AllThere}
+use Rattle.sel_parse_moves.specs.tree_meaning_tame.specs.Sights.{Completes}
 use Rattle.md_reader_pieces.specs.declared.piece.Line.{Line}
 use Rattle.md_reader.specs.declared.types.Kind.{Kind}
 use Rattle.md_reader.specs.declared.types.Kind.TheVariants as kind
@@ -37,8 +37,8 @@ use Rattle.term_core.specs.Shape.{Shape, Symbol}
 use Rattle.term_core.specs.Facts.{same_as}
 use Rattle.term_core.specs.Norm.{norm}
 use Rattle.term_core.specs.declared.facts.Fact.{Fact}
-use Rattle.sel_terms.specs.Effects.{ActShape, EffectShape, Value, Number, Address, PlaceHome, PlaceAt, StoreHome, StoreAt, Branch, Push, Call, Save, Return, Jump, norm_act, norm_effect}
-use Rattle.sel_terms.specs.RuleFacts.{saved_facts, size_of_saved}
+use Rattle.sel_target.specs.sel_terms.specs.Effects.{ActShape, EffectShape, Value, Number, Address, PlaceHome, PlaceAt, StoreHome, StoreAt, Branch, Push, Call, Save, Return, Jump, norm_act, norm_effect}
+use Rattle.sel_target.specs.sel_terms.specs.RuleFacts.{saved_facts, size_of_saved}
 use Rattle.sel_target.specs.Meaning.{Meaning}
 use Rattle.sel_target.specs.Values.{address_of}
 use Rattle.sel_target.specs.Laws.{IsLawful}

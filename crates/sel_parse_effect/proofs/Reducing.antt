@@ -18,7 +18,7 @@ use Rattle.md_reader.specs.Restrictions.{is_reg, is_nothing}
 use Rattle.md_reader.specs.State.{Content}
 use Rattle.md_reader.specs.Valid.{IsRule}
 use Rattle.term_core.specs.Value as term
-use Rattle.sel_terms.specs.Reading.{effect_read}
+use Rattle.sel_target.specs.sel_terms.specs.Reading.{effect_read}
 use Rattle.sel_parse_moves.specs.sel_terms_trees.specs.Senses.{Sense, OfNumber, piled, StandsFor}
 use Rattle.sel_parse_moves.specs.sel_terms_trees.specs.Effects.{GivesBy, TrapsBy}
 use Rattle.sel_target.specs.declared.attr.Attr.{Attr}

@@ -34,12 +34,12 @@ use Rattle.md_reader.specs.State.{Content}
 use Rattle.md_reader.specs.Valid.{IsRule}
 use Rattle.term_core.specs.Shape.{Shape, Symbol}
 use Rattle.term_core.proofs.Values.{low_same}
-use Rattle.sel_terms.specs.Effects.{ActShape, Value, Number, Address, PlaceHome, PlaceAt, StoreHome, StoreAt, Branch, Push, Call, Save, Return, Jump}
-use Rattle.sel_terms.specs.Reading.{effect_read, stack_from}
-use Rattle.sel_terms.specs.Wanted.{whole, first_part}
-use Rattle.sel_terms.specs.RuleFacts.{facts_of}
-use Rattle.sel_terms.proofs.Facts.{same_Value}
-use Rattle.sel_terms_meaning.specs.Alike.{ActsAlike}
+use Rattle.sel_target.specs.sel_terms.specs.Effects.{ActShape, Value, Number, Address, PlaceHome, PlaceAt, StoreHome, StoreAt, Branch, Push, Call, Save, Return, Jump}
+use Rattle.sel_target.specs.sel_terms.specs.Reading.{effect_read, stack_from}
+use Rattle.sel_target.specs.sel_terms.specs.Wanted.{whole, first_part}
+use Rattle.sel_target.specs.sel_terms.specs.RuleFacts.{facts_of}
+use Rattle.sel_target.specs.sel_terms.proofs.Facts.{same_Value}
+use Rattle.sel_target.specs.sel_terms_meaning.specs.Alike.{ActsAlike}
 use Rattle.sel_parse_moves.specs.sel_terms_trees.specs.Senses.{Sense, OfNumber, OfPlace, IsPlace, unknown, means_at}
 use Rattle.sel_parse_moves.specs.sel_terms_trees.specs.Effects.{Gives, GivesBy}
 use Rattle.sel_target.specs.declared.attr.Attr.{Attr}

@@ -4,7 +4,7 @@ use Rattle.gg_base.specs.declared.size.Size.{Size}
 use Rattle.md_reader.specs.declared.types.Class.{Class}
 use Rattle.md_reader.specs.declared.types.Rule.{Rule}
 use Rattle.term_core.specs.Shape.{Shape}
-use Rattle.sel_terms.specs.Effects.{EffectShape, StoreHome}
+use Rattle.sel_target.specs.sel_terms.specs.Effects.{EffectShape, StoreHome}
 use Rattle.sel_target.specs.declared.attr.Attr.{Attr}
 use Rattle.sel_target.specs.Meaning.{Meaning}
 use Rattle.sel_target.specs.Values.{own_operand}

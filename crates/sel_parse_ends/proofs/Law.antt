@@ -6,16 +6,16 @@ use Rattle.tree_core.specs.declared.program.TreeProgram.{TreeProgram}
 use Rattle.tree_core.specs.Trees.{IsTyped}
 use Rattle.md_reader.specs.State.{Content}
 use Rattle.md_reader.specs.Valid.{IsValid}
-use Rattle.lr_check.specs.declared.sample.Outcome.{Outcome}
-use Rattle.lr_check.specs.declared.sample.Outcome.TheVariants as outcome
-use Rattle.lr_check_parse.specs.Moves.{Move, Ending, Accepts, Blocks, Loops, Refuses}
-use Rattle.lr_check_parse.specs.Attributes.{by_attributes}
-use Rattle.lr_check_parse.specs.Lists.{EndsSo}
-use Rattle.lr_check_parse.specs.Claims.{questioned}
-use Rattle.lr_check_parse.specs.Typed.{IsStatement}
-use Rattle.lr_check_parse.proofs.Sources.{parse_answered}
-use Rattle.lr_check_parse.proofs.Typing.{leaves_are_tokens}
-use Rattle.lr_check_parse.proofs.Existence.{parse_has_end}
+use Rattle.lr_checked.specs.lr_check.specs.declared.sample.Outcome.{Outcome}
+use Rattle.lr_checked.specs.lr_check.specs.declared.sample.Outcome.TheVariants as outcome
+use Rattle.lr_checked.specs.lr_check_parse.specs.Moves.{Move, Ending, Accepts, Blocks, Loops, Refuses}
+use Rattle.lr_checked.specs.lr_check_parse.specs.Attributes.{by_attributes}
+use Rattle.lr_checked.specs.lr_check_parse.specs.Lists.{EndsSo}
+use Rattle.lr_checked.specs.lr_check_parse.specs.Claims.{questioned}
+use Rattle.lr_checked.specs.lr_check_parse.specs.Typed.{IsStatement}
+use Rattle.lr_checked.specs.lr_check_parse.proofs.Sources.{parse_answered}
+use Rattle.lr_checked.specs.lr_check_parse.proofs.Typing.{leaves_are_tokens}
+use Rattle.lr_checked.specs.lr_check_parse.proofs.Existence.{parse_has_end}
 use Rattle.lr_checked.specs.Accepted.{NeverStops}
 use Rattle.lr_checked.proofs.Drawn.{block_done, loop_done}
 use Rattle.lr_checked.proofs.Law.{tokens_questioned}

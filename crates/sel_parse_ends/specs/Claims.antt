@@ -9,9 +9,9 @@ use Rattle.tree_core.specs.Trees.{IsTyped}
 use Rattle.tree_core_forks.specs.Forks.{forks}
 use Rattle.md_reader.specs.State.{Content}
 use Rattle.md_reader.specs.Valid.{IsValid}
-use Rattle.lr_tables.specs.View.{TableView}
-use Rattle.lr_tables.specs.Promises.{IsNumbered}
-use Rattle.lr_check_parse.specs.Moves.{Move, Accepts}
+use Rattle.lr_checked.specs.lr_tables.specs.View.{TableView}
+use Rattle.lr_checked.specs.lr_tables.specs.Promises.{IsNumbered}
+use Rattle.lr_checked.specs.lr_check_parse.specs.Moves.{Move, Accepts}
 use Rattle.lr_checked.specs.Accepted.{NeverStops}
 use Rattle.sel_target.specs.Meaning.{Meaning}
 use Rattle.sel_parse_slots.specs.sel_parse_moves.specs.Claims.{root}

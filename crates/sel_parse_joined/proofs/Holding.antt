@@ -26,8 +26,8 @@ use Rattle.sel_target.specs.Values.{token_operand}
 use Rattle.sel_target.specs.Laws.{IsLawful}
 use Rattle.sel_target.specs.Instances.{some_touches, attr_touches, KindFits}
 use Rattle.sel_target.specs.Symbols.{size_of_entry}
-use Rattle.sel_parse_selected.specs.Entries as selected_entries
-use Rattle.sel_parse_desk.specs.Entries as computed_entries
+use Rattle.sel_parse_slots.specs.sel_parse_selected.specs.Entries as selected_entries
+use Rattle.sel_parse_slots.specs.sel_parse_desk.specs.Entries as computed_entries
 use Rattle.sel_parse_slots.specs.sel_parse_stands.proofs.Saving.{bits_none}
 use Rattle.sel_parse_slots.specs.Claims.{IsOwn}
 use Rattle.sel_parse_slots.proofs.Fine as fine

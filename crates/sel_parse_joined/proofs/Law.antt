@@ -14,23 +14,23 @@ use Rattle.md_reader.specs.declared.types.Rule.{Rule}
 use Rattle.md_reader.specs.declared.types.Sym.{Sym}
 use Rattle.md_reader.specs.declared.types.Sym.TheVariants as grammar_symbol
 use Rattle.md_reader.specs.State.{Content}
-use Rattle.lr_tables.specs.Candidates.{StandsBefore, AreReductions}
-use Rattle.lr_tables.specs.Statements.{stmt_of}
-use Rattle.lr_check_parse.specs.Moves.{Move, Ending, Accepts, Blocks, Loops, Refuses, Taken, coming, decided_at, taken, Choice, Parses}
-use Rattle.lr_check_parse.specs.Moves as parse
-use Rattle.lr_check_parse.specs.Attributes.{Selecting, by_attributes, answered, attribute_at, same_spelling, constant_at, relation_at, in_range, is_signed, holds, all_hold}
+use Rattle.sel_parse_slots.specs.lr_tables.specs.Candidates.{StandsBefore, AreReductions}
+use Rattle.sel_parse_slots.specs.lr_tables.specs.Statements.{stmt_of}
+use Rattle.sel_parse_slots.specs.lr_check_parse.specs.Moves.{Move, Ending, Accepts, Blocks, Loops, Refuses, Taken, coming, decided_at, taken, Choice, Parses}
+use Rattle.sel_parse_slots.specs.lr_check_parse.specs.Moves as parse
+use Rattle.sel_parse_slots.specs.lr_check_parse.specs.Attributes.{Selecting, by_attributes, answered, attribute_at, same_spelling, constant_at, relation_at, in_range, is_signed, holds, all_hold}
 use Rattle.sel_parse_slots.specs.sel_terms_trees.specs.Senses.{piled}
 use Rattle.sel_target.specs.Meaning.{Meaning}
 use Rattle.sel_target.specs.Laws.{IsLawful}
 use Rattle.sel_parse_slots.specs.sel_parse_moves.proofs.Covering.{known}
-use Rattle.sel_parse_selected.specs.Entries.{Entry}
-use Rattle.sel_parse_selected.specs.Desk.{Stack}
-use Rattle.sel_parse_selected.specs.Desk as selected_desk
-use Rattle.sel_parse_selected.specs.Reductions.{reduced}
-use Rattle.sel_parse_selected.specs.Selected as selected
-use Rattle.sel_parse_desk.specs.Entries as computed_entries
-use Rattle.sel_parse_desk.specs.Desk as computed_desk
-use Rattle.sel_parse_desk.specs.Selected as computed
+use Rattle.sel_parse_slots.specs.sel_parse_selected.specs.Entries.{Entry}
+use Rattle.sel_parse_slots.specs.sel_parse_selected.specs.Desk.{Stack}
+use Rattle.sel_parse_slots.specs.sel_parse_selected.specs.Desk as selected_desk
+use Rattle.sel_parse_slots.specs.sel_parse_selected.specs.Reductions.{reduced}
+use Rattle.sel_parse_slots.specs.sel_parse_selected.specs.Selected as selected
+use Rattle.sel_parse_slots.specs.sel_parse_desk.specs.Entries as computed_entries
+use Rattle.sel_parse_slots.specs.sel_parse_desk.specs.Desk as computed_desk
+use Rattle.sel_parse_slots.specs.sel_parse_desk.specs.Selected as computed
 use Rattle.sel_parse_slots.specs.Claims.{IsTaken}
 use Rattle.sel_parse_slots.proofs.Law as walk
 use Rattle.sel_parse_slots.proofs.Prefixes.{gamma}

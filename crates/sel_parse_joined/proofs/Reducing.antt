@@ -24,14 +24,14 @@ use Rattle.sel_target.specs.Laws.{IsLawful}
 use Rattle.sel_target.specs.Instances.{hole, lines_of}
 use Rattle.sel_target.specs.SavingLaws.{reloading}
 use Rattle.sel_target.specs.Symbols.{token_number, first_hole, reload_line}
-use Rattle.sel_parse_selected.specs.Entries as selected_entries
-use Rattle.sel_parse_selected.specs.Desk as selected_desks
-use Rattle.sel_parse_selected.specs.Spills as selected_spills
-use Rattle.sel_parse_selected.specs.Reductions as selected_reductions
-use Rattle.sel_parse_desk.specs.Entries as computed_entries
-use Rattle.sel_parse_desk.specs.Desk as computed_desks
-use Rattle.sel_parse_desk.specs.Spills as computed_spills
-use Rattle.sel_parse_desk.specs.Reductions as computed_reductions
+use Rattle.sel_parse_slots.specs.sel_parse_selected.specs.Entries as selected_entries
+use Rattle.sel_parse_slots.specs.sel_parse_selected.specs.Desk as selected_desks
+use Rattle.sel_parse_slots.specs.sel_parse_selected.specs.Spills as selected_spills
+use Rattle.sel_parse_slots.specs.sel_parse_selected.specs.Reductions as selected_reductions
+use Rattle.sel_parse_slots.specs.sel_parse_desk.specs.Entries as computed_entries
+use Rattle.sel_parse_slots.specs.sel_parse_desk.specs.Desk as computed_desks
+use Rattle.sel_parse_slots.specs.sel_parse_desk.specs.Spills as computed_spills
+use Rattle.sel_parse_slots.specs.sel_parse_desk.specs.Reductions as computed_reductions
 use Rattle.sel_parse_slots.proofs.Counting.{Good, Counted, After, IsDue, due_good, spilled_good, one_good}
 use Rattle.sel_parse_joined.proofs.Turning.{map_turned, map_set}
 use Rattle.sel_parse_joined.proofs.Holding.{entry, Agrees, AllAgree, all_agree}

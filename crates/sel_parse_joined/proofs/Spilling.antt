@@ -17,12 +17,12 @@ use Rattle.sel_target.specs.Laws.{IsLawful}
 use Rattle.sel_target.specs.Instances.{attr_touches}
 use Rattle.sel_target.specs.SavingLaws.{saving}
 use Rattle.sel_target.specs.Symbols.{behind_one, first_that, saving_line, is_register}
-use Rattle.sel_parse_selected.specs.Entries as selected_entries
-use Rattle.sel_parse_selected.specs.Desk as selected_desks
-use Rattle.sel_parse_selected.specs.Spills as selected_spills
-use Rattle.sel_parse_desk.specs.Entries as computed_entries
-use Rattle.sel_parse_desk.specs.Desk as computed_desks
-use Rattle.sel_parse_desk.specs.Spills as computed_spills
+use Rattle.sel_parse_slots.specs.sel_parse_selected.specs.Entries as selected_entries
+use Rattle.sel_parse_slots.specs.sel_parse_selected.specs.Desk as selected_desks
+use Rattle.sel_parse_slots.specs.sel_parse_selected.specs.Spills as selected_spills
+use Rattle.sel_parse_slots.specs.sel_parse_desk.specs.Entries as computed_entries
+use Rattle.sel_parse_slots.specs.sel_parse_desk.specs.Desk as computed_desks
+use Rattle.sel_parse_slots.specs.sel_parse_desk.specs.Spills as computed_spills
 use Rattle.sel_parse_joined.proofs.Turning.{turned_get, turned_set, any_turned, map_turned, map_set, map_any, map_first}
 use Rattle.sel_parse_joined.proofs.Turning.{attributes_any, counted_back, last_turned, last_in, lowest_same}
 use Rattle.sel_parse_joined.proofs.Holding.{entry, Agrees, AllAgree}

@@ -8,7 +8,7 @@ use Rattle.std.proofs.lemmas.List.Folds.{list_any-append}
 use Rattle.std.proofs.lemmas.Option.{none-some, same_Some}
 use Rattle.gg_base.proofs.Facts.{slice_seam}
 use Rattle.sel_target.specs.Symbols.{lowest, behind_one, first_that}
-use Rattle.sel_parse_selected.specs.Spills as selected_spills
+use Rattle.sel_parse_slots.specs.sel_parse_selected.specs.Spills as selected_spills
 
 module _ {X : Type 0} where
   pub turned_cons : (x : X) (xs : List X) → reverse (x ∷ xs) ≡ reverse xs ++ x ∷ []

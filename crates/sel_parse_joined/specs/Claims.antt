@@ -9,8 +9,8 @@ use Rattle.tree_core.specs.Trees.{IsTyped}
 use Rattle.md_reader.specs.State.{Content}
 use Rattle.sel_target.specs.Meaning.{Meaning}
 use Rattle.sel_parse_slots.specs.sel_parse_moves.specs.Claims.{root}
-use Rattle.sel_parse_selected.specs.Selected as selected
-use Rattle.sel_parse_desk.specs.Selected as desk
+use Rattle.sel_parse_slots.specs.sel_parse_selected.specs.Selected as selected
+use Rattle.sel_parse_slots.specs.sel_parse_desk.specs.Selected as desk
 use Rattle.sel_parse_slots.specs.Claims.{IsOwn, IsTaken}
 
 module _ {O I S F : Type 0} (of : Meaning O I S F) where

@@ -16,21 +16,21 @@ use Rattle.tree_meaning.specs.State.{State, Extent}
 use Rattle.md_reader.specs.declared.types.Rule.{Rule}
 use Rattle.md_reader.specs.declared.types.Sym.TheVariants as grammar_symbol
 use Rattle.md_reader.specs.State.{Content}
-use Rattle.lr_check_parse.specs.Moves.{Move, Ending, Accepts, Blocks, Loops, Refuses}
-use Rattle.lr_check_parse.specs.Attributes.{by_attributes}
-use Rattle.lr_check_parse.proofs.Existence.{parse_has_end}
+use Rattle.sel_parse_registers.specs.lr_check_parse.specs.Moves.{Move, Ending, Accepts, Blocks, Loops, Refuses}
+use Rattle.sel_parse_registers.specs.lr_check_parse.specs.Attributes.{by_attributes}
+use Rattle.sel_parse_registers.specs.lr_check_parse.proofs.Existence.{parse_has_end}
 use Rattle.sel_parse_ends.specs.lr_checked.specs.Accepted.{NeverStops}
-use Rattle.sel_regs.specs.Need.{need}
-use Rattle.sel_terms.specs.Effects.{EffectShape}
-use Rattle.sel_parse_moves.specs.sel_terms_trees.specs.Senses.{OfLeaf}
+use Rattle.sel_parse_registers.specs.sel_regs.specs.Need.{need}
+use Rattle.sel_target.specs.sel_terms.specs.Effects.{EffectShape}
+use Rattle.sel_parse_registers.specs.sel_terms_trees.specs.Senses.{OfLeaf}
 use Rattle.sel_target.specs.declared.attr.Attr.TheVariants as attr
 use Rattle.sel_target.specs.Meaning.{Meaning}
 use Rattle.sel_target.specs.Laws.{IsLawful}
 use Rattle.sel_parse_registers.specs.sel_parse.specs.Shown.{IsShown}
-use Rattle.sel_parse_moves.specs.Claims.{root}
-use Rattle.sel_parse_moves.proofs.Covering.{AreLeaves}
-use Rattle.sel_parse_moves.proofs.Moves.{leaves_of}
-use Rattle.sel_parse_moves.proofs.Piles.{leaves_before}
+use Rattle.sel_parse_registers.specs.sel_parse_moves.specs.Claims.{root}
+use Rattle.sel_parse_registers.specs.sel_parse_moves.proofs.Covering.{AreLeaves}
+use Rattle.sel_parse_registers.specs.sel_parse_moves.proofs.Moves.{leaves_of}
+use Rattle.sel_parse_registers.specs.sel_parse_moves.proofs.Piles.{leaves_before}
 use Rattle.sel_parse_registers.specs.sel_parse_selected.specs.Selected as selected
 use Rattle.sel_parse_registers.specs.sel_parse_stands.specs.Stands as stands
 use Rattle.sel_parse_registers.specs.sel_parse_stands.specs.Stands.{NamedBy, Names, Sees}

@@ -11,12 +11,12 @@ use Rattle.tree_core_forks.specs.Forks.{forks}
 use Rattle.tree_meaning.specs.State.{State, sight, Extent}
 use Rattle.tree_meaning.specs.Deeds.{Traps}
 use Rattle.md_reader.specs.State.{Content}
-use Rattle.lr_tables.specs.View.{TableView}
-use Rattle.lr_tables.specs.Promises.{IsNumbered}
+use Rattle.sel_parse_registers.specs.lr_tables.specs.View.{TableView}
+use Rattle.sel_parse_registers.specs.lr_tables.specs.Promises.{IsNumbered}
 use Rattle.sel_parse_ends.specs.lr_checked.specs.Accepted.{NeverStops}
 use Rattle.sel_target.specs.Meaning.{Meaning}
-use Rattle.sel_parse_moves.specs.Claims.{root, deed}
-use Rattle.sel_parse_moves.specs.Possible.{IsPossible}
+use Rattle.sel_parse_registers.specs.sel_parse_moves.specs.Claims.{root, deed}
+use Rattle.sel_parse_registers.specs.sel_parse_moves.specs.Possible.{IsPossible}
 use Rattle.sel_parse_registers.specs.sel_parse_stands.specs.Stands.{Names}
 use Rattle.sel_parse_registers.specs.sel_parse_effect.specs.Claims.{frame_sight, IsFit, Begins, HasEffect}
 use Rattle.sel_parse_registers.specs.sel_parse_effect.specs.Places.{StoresToPlaces}

@@ -18,10 +18,10 @@ use Rattle.md_reader.specs.declared.types.Sym.{Sym}
 use Rattle.md_reader.specs.declared.types.Sym.TheVariants as grammar_symbol
 use Rattle.md_reader.specs.Patterns.{Trees, no_tree, sorted_test}
 use Rattle.md_reader.specs.Valid.{IsRule}
-use Rattle.lr_tables.specs.declared.item.Item.{Item}
-use Rattle.lr_tables.specs.Items.{right_of, right_at, next, advanced, Items, starts, opens, moves}
-use Rattle.lr_tables.specs.Candidates.{MayReduce}
-use Rattle.lr_check.proofs.Contained.{here}
+use Rattle.lr_check_parse.specs.lr_tables.specs.declared.item.Item.{Item}
+use Rattle.lr_check_parse.specs.lr_tables.specs.Items.{right_of, right_at, next, advanced, Items, starts, opens, moves}
+use Rattle.lr_check_parse.specs.lr_tables.specs.Candidates.{MayReduce}
+use Rattle.lr_check_parse.specs.lr_check.proofs.Contained.{here}
 use Rattle.sel_parse_moves.specs.Made.{Made}
 use Rattle.lr_check_parse.specs.Moves.{Move, Shift, Reduce, Ending, Accepts, coming, Taken as TakenRule, decided_at, taken, Choice, Parses}
 use Rattle.lr_check_parse.specs.Moves as parse

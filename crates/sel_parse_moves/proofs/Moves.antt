@@ -9,22 +9,22 @@ use Rattle.tree_core.specs.Attributes.{end_leaf}
 use Rattle.tree_core.specs.Trees.{Forest, none, tree, leaves_onto, Typed, IsTyped, grown}
 use Rattle.tree_core.specs.Calm.{CalmBefore}
 use Rattle.tree_core.proofs.Law.{grows_back}
-use Rattle.tree_meaning.specs.Values.{Sight, meanings}
+use Rattle.sel_terms_trees.specs.tree_meaning.specs.Values.{Sight, meanings}
 use Rattle.md_reader.specs.State.{Content}
 use Rattle.md_reader.specs.Valid.{IsValid}
-use Rattle.lr_tables.specs.Statements.{stmt_of}
-use Rattle.lr_tables.proofs.Validity.{rule_at}
-use Rattle.lr_check.specs.declared.sample.Outcome.{Outcome}
-use Rattle.lr_check.specs.declared.sample.Outcome.TheVariants as outcome
+use Rattle.lr_check_parse.specs.lr_tables.specs.Statements.{stmt_of}
+use Rattle.lr_check_parse.specs.lr_tables.proofs.Validity.{rule_at}
+use Rattle.lr_check_parse.specs.lr_check.specs.declared.sample.Outcome.{Outcome}
+use Rattle.lr_check_parse.specs.lr_check.specs.declared.sample.Outcome.TheVariants as outcome
 use Rattle.lr_check_parse.specs.Moves.{Move, Ending, Accepts, Blocks, Loops, Refuses}
 use Rattle.lr_check_parse.specs.Attributes.{Selecting, by_attributes}
 use Rattle.sel_parse_moves.specs.Made.{Made}
 use Rattle.sel_parse_moves.specs.Covers.{Covers}
 use Rattle.sel_parse_moves.specs.Covers as cover
-use Rattle.tree_meaning.specs.Deeds.{Deed, Puts, Branches, Pushes, Returns, Calls, Saves, Jumps, Traps, Strays, deed_of, tree_deed}
+use Rattle.sel_terms_trees.specs.tree_meaning.specs.Deeds.{Deed, Puts, Branches, Pushes, Returns, Calls, Saves, Jumps, Traps, Strays, deed_of, tree_deed}
 use Rattle.sel_parse_moves.specs.Possible.{IsPossible}
-use Rattle.tree_meaning_tame.specs.Tame.{Tame, Undivided, AllThere}
-use Rattle.tree_meaning_tame.specs.Sights.{Completes}
+use Rattle.sel_terms_trees.specs.tree_meaning_tame.specs.Tame.{Tame, Undivided, AllThere}
+use Rattle.sel_terms_trees.specs.tree_meaning_tame.specs.Sights.{Completes}
 use Rattle.sel_parse_moves.specs.Interprets.{Interprets, Ran}
 use Rattle.lr_check_parse.specs.Lists.{EndsSo}
 use Rattle.sel_parse_moves.specs.Claims.{root, IsParsed, IsFair, MovesMeanTree, AlwaysAccepts}
@@ -33,10 +33,10 @@ use Rattle.lr_check_parse.proofs.Typing.{snoc_same}
 use Rattle.sel_parse_moves.proofs.Covering.{AreLeaves, covers_whole}
 use Rattle.sel_parse_moves.proofs.Piles.{leaves_before}
 use Rattle.sel_parse_moves.proofs.Performs.{named, statement}
-use Rattle.tree_meaning_tame.specs.Claims.{IsDeed}
-use Rattle.tree_meaning_tame.proofs.Strict.{deed_settled}
-use Rattle.tree_meaning_tame.proofs.Calm.{trap_tame}
-use Rattle.tree_meaning_tame.proofs.Sights.{tree_deed_grows}
+use Rattle.sel_terms_trees.specs.tree_meaning_tame.specs.Claims.{IsDeed}
+use Rattle.sel_terms_trees.specs.tree_meaning_tame.proofs.Strict.{deed_settled}
+use Rattle.sel_terms_trees.specs.tree_meaning_tame.proofs.Calm.{trap_tame}
+use Rattle.sel_terms_trees.specs.tree_meaning_tame.proofs.Sights.{tree_deed_grows}
 use Rattle.sel_parse_moves.proofs.Typing.{covers_typed, typed_leaves, stmt_kind}
 
 -- the leaves of a typed tree

@@ -13,8 +13,8 @@ use Rattle.tree_core.specs.Attributes.{leaf_fits}
 use Rattle.tree_core.specs.Grammar.{kids, sort_of, fits}
 use Rattle.tree_core.specs.Trees.{Forest, none, tree, leaves_onto, sort_fits}
 use Rattle.tree_core.proofs.Sorts.{fits_stmt}
-use Rattle.tree_meaning.specs.declared.value.Meaning.{Meaning}
-use Rattle.tree_meaning.specs.Values.{Sight, meanings}
+use Rattle.sel_terms_trees.specs.tree_meaning.specs.declared.value.Meaning.{Meaning}
+use Rattle.sel_terms_trees.specs.tree_meaning.specs.Values.{Sight, meanings}
 use Rattle.md_reader.specs.declared.types.Kind.{Kind}
 use Rattle.md_reader.specs.declared.types.Kind.TheVariants as kind
 use Rattle.md_reader.specs.declared.types.Class.{Class}
@@ -26,25 +26,25 @@ use Rattle.md_reader.specs.Rows.{is_bare}
 use Rattle.md_reader.specs.Restrictions.{is_nothing}
 use Rattle.md_reader.specs.Valid.{IsRule}
 use Rattle.term_core.specs.Value.{State}
-use Rattle.sel_terms.specs.Effects.{EffectShape}
-use Rattle.sel_terms.specs.Wanted.{first_part}
-use Rattle.sel_terms.specs.Reading.{stack_from}
+use Rattle.sel_terms_trees.specs.sel_terms.specs.Effects.{EffectShape}
+use Rattle.sel_terms_trees.specs.sel_terms.specs.Wanted.{first_part}
+use Rattle.sel_terms_trees.specs.sel_terms.specs.Reading.{stack_from}
 use Rattle.lr_check_parse.specs.Moves.{Move, Shift, Reduce}
 use Rattle.lr_check_parse.specs.Attributes.{Selecting, answered}
 use Rattle.sel_parse_moves.specs.Made.{Made}
 use Rattle.sel_parse_moves.specs.Made as moved
 use Rattle.sel_parse_moves.specs.Covers.{Covers, Fills}
 use Rattle.sel_parse_moves.specs.Covers as cover
-use Rattle.tree_meaning.specs.Deeds.{Deed, Puts, Branches, Pushes, Returns, Calls, Saves, Jumps, Traps, Strays, deed_of}
+use Rattle.sel_terms_trees.specs.tree_meaning.specs.Deeds.{Deed, Puts, Branches, Pushes, Returns, Calls, Saves, Jumps, Traps, Strays, deed_of}
 use Rattle.sel_parse_moves.specs.Possible.{IsPossible}
 use Rattle.sel_terms_trees.specs.Senses.{Sense, OfLeaf, IsSense, piled, Sensed, StandsFor}
-use Rattle.tree_meaning_tame.specs.Tame.{tree_means}
+use Rattle.sel_terms_trees.specs.tree_meaning_tame.specs.Tame.{tree_means}
 use Rattle.sel_terms_trees.specs.Senses as sense
-use Rattle.tree_meaning_tame.specs.Tame.{Tame, Undivided}
+use Rattle.sel_terms_trees.specs.tree_meaning_tame.specs.Tame.{Tame, Undivided}
 use Rattle.sel_terms_trees.specs.Effects.{GivesBy, DoesBy, TrapsBy}
 use Rattle.sel_parse_moves.specs.Interprets.{SenseFits, Interprets, Ran}
-use Rattle.tree_meaning_tame.proofs.Strict.{NoStmt, kids_no_stmt}
-use Rattle.tree_meaning_tame.proofs.Sorts.{sort_tame}
+use Rattle.sel_terms_trees.specs.tree_meaning_tame.proofs.Strict.{NoStmt, kids_no_stmt}
+use Rattle.sel_terms_trees.specs.tree_meaning_tame.proofs.Sorts.{sort_tame}
 use Rattle.sel_terms_trees.proofs.Patterns.{numbered, pattern_law}
 use Rattle.sel_terms_trees.proofs.Rules.{effect_by, zero_there, sort_undivided, Comes, Fails, IsZeroAt, decided}
 use Rattle.sel_terms_trees.proofs.Statements.{ActIs, act_law}

@@ -15,8 +15,8 @@ use Rattle.md_reader.specs.declared.types.Rule.{Rule}
 use Rattle.term_core.specs.declared.facts.Fact.{Fact}
 use Rattle.term_core.specs.Value.{State, Respects}
 use Rattle.term_core.proofs.Ordered.{size_same}
-use Rattle.sel_terms.specs.RuleFacts.{size_at, is_small_range, is_ranged, alike_once, repeated, fact_of, facts_below, facts_of}
-use Rattle.sel_terms.proofs.Settled.{facts_count}
+use Rattle.sel_terms_trees.specs.sel_terms.specs.RuleFacts.{size_at, is_small_range, is_ranged, alike_once, repeated, fact_of, facts_below, facts_of}
+use Rattle.sel_terms_trees.specs.sel_terms.proofs.Settled.{facts_count}
 use Rattle.lr_check_parse.specs.Attributes.{Selecting, attribute_at, signed, in_range, same_spelling, constant_at, holds, all_hold}
 use Rattle.term_core.specs.Facts.{same_as}
 use Rattle.sel_parse_moves.specs.Told.{SameForAlike, FactsJoin, Tells, RestrictionsTell}

@@ -22,7 +22,7 @@ use Rattle.md_reader.specs.Restrictions.{is_nothing}
 use Rattle.md_reader.specs.HeadSteps.{is_stmt, has_stmt}
 use Rattle.md_reader.specs.Valid.{Away, Apart}
 use Rattle.md_reader.proofs.Inversion.{same_true}
-use Rattle.lr_tables.specs.Statements.{stmt_from, stmt_of}
+use Rattle.lr_check_parse.specs.lr_tables.specs.Statements.{stmt_from, stmt_of}
 use Rattle.lr_check_parse.specs.Moves.{Move}
 use Rattle.sel_parse_moves.specs.Covers.{Covers, Fills}
 use Rattle.sel_parse_moves.specs.Covers as cover

@@ -7,16 +7,16 @@ use Rattle.tree_core.specs.declared.program.Object.{Object}
 use Rattle.tree_core.specs.Attributes.{end_leaf}
 use Rattle.tree_core.specs.Trees.{grown, IsTyped}
 use Rattle.tree_core.specs.Calm.{Calm}
-use Rattle.tree_meaning.specs.Values.{Sight}
-use Rattle.tree_meaning.specs.Deeds.{Deed, Traps, tree_deed}
-use Rattle.tree_meaning_tame.specs.Tame.{AllThere}
-use Rattle.tree_meaning_tame.specs.Sights.{Completes}
+use Rattle.sel_terms_trees.specs.tree_meaning.specs.Values.{Sight}
+use Rattle.sel_terms_trees.specs.tree_meaning.specs.Deeds.{Deed, Traps, tree_deed}
+use Rattle.sel_terms_trees.specs.tree_meaning_tame.specs.Tame.{AllThere}
+use Rattle.sel_terms_trees.specs.tree_meaning_tame.specs.Sights.{Completes}
 use Rattle.md_reader.specs.State.{Content}
 use Rattle.md_reader.specs.Valid.{IsValid}
-use Rattle.lr_tables.specs.Statements.{stmt_of}
-use Rattle.lr_check.specs.declared.sample.Outcome.{Outcome}
-use Rattle.lr_check.specs.declared.sample.Outcome.TheVariants as outcome
-use Rattle.lr_check.specs.Parse.{Ends}
+use Rattle.lr_check_parse.specs.lr_tables.specs.Statements.{stmt_of}
+use Rattle.lr_check_parse.specs.lr_check.specs.declared.sample.Outcome.{Outcome}
+use Rattle.lr_check_parse.specs.lr_check.specs.declared.sample.Outcome.TheVariants as outcome
+use Rattle.lr_check_parse.specs.lr_check.specs.Parse.{Ends}
 use Rattle.lr_check_parse.specs.Moves.{Move, Ending, Accepts, Refuses, Parses}
 use Rattle.lr_check_parse.specs.Attributes.{Selecting, by_attributes}
 use Rattle.lr_check_parse.specs.Claims.{questioned}

@@ -3,8 +3,8 @@ use Rattle.std.specs.Prelude.{◌≡◌, ℕ, List, [], ◌∷◌, Option, Some,
 use Rattle.tree_core.specs.declared.tree.Leaf.{Leaf}
 use Rattle.tree_core.specs.declared.program.Object.{Object}
 use Rattle.tree_core.specs.Attributes.{leaf_fits}
-use Rattle.tree_meaning.specs.Values.{Sight}
-use Rattle.tree_meaning.specs.Deeds.{Deed, Traps}
+use Rattle.sel_terms_trees.specs.tree_meaning.specs.Values.{Sight}
+use Rattle.sel_terms_trees.specs.tree_meaning.specs.Deeds.{Deed, Traps}
 use Rattle.md_reader.specs.declared.types.Kind.{Kind}
 use Rattle.md_reader.specs.declared.types.Kind.TheVariants as kind
 use Rattle.md_reader.specs.declared.types.Class.{Class}
@@ -13,7 +13,7 @@ use Rattle.md_reader.specs.declared.types.Sym.{Sym}
 use Rattle.md_reader.specs.declared.types.Sym.TheVariants as grammar_symbol
 use Rattle.md_reader.specs.Patterns.{kind_at}
 use Rattle.term_core.specs.Value.{State}
-use Rattle.sel_terms.specs.Reading.{effect_read}
+use Rattle.sel_terms_trees.specs.sel_terms.specs.Reading.{effect_read}
 use Rattle.lr_check_parse.specs.Attributes.{Selecting, answered}
 use Rattle.sel_terms_trees.specs.Senses.{Sense, OfLeaf, OfNumber, OfPlace, IsPlace, piled, StandsFor}
 use Rattle.sel_terms_trees.specs.Effects.{GivesBy, DoesBy, TrapsBy}

@@ -1,8 +1,8 @@
 -- Deeds that a run of trees does.
 use Rattle.std.specs.Prelude.{ℕ, List, Option, Some, None}
 use Rattle.tree_core.specs.Area.{stored}
-use Rattle.tree_meaning.specs.declared.value.Meaning.TheVariants.{Memory}
-use Rattle.tree_meaning.specs.Deeds.{Deed, Puts, Strays}
+use Rattle.sel_terms_trees.specs.tree_meaning.specs.declared.value.Meaning.TheVariants.{Memory}
+use Rattle.sel_terms_trees.specs.tree_meaning.specs.Deeds.{Deed, Puts, Strays}
 
 -- the memory to be written lies in the data area
 abbrev pub FitsArea : Option (List ℕ) → Type 0

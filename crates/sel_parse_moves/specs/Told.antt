@@ -5,7 +5,7 @@ use Rattle.md_reader.specs.declared.types.Class.{Class}
 use Rattle.md_reader.specs.declared.types.Rule.{Rule}
 use Rattle.term_core.specs.Facts.{same_as}
 use Rattle.term_core.specs.Value.{State, Respects}
-use Rattle.sel_terms.specs.RuleFacts.{size_at, facts_of}
+use Rattle.sel_terms_trees.specs.sel_terms.specs.RuleFacts.{size_at, facts_of}
 use Rattle.lr_check_parse.specs.Attributes.{Selecting, attribute_at, all_hold}
 
 module _ {X A : Type 0} (of : Selecting X A) where

@@ -9,18 +9,18 @@ use Rattle.tree_core_forks.specs.Forks.{forks}
 use Rattle.md_reader.specs.declared.types.Rule.{Rule}
 use Rattle.md_reader.specs.declared.types.Sym.{Sym}
 use Rattle.md_reader.specs.State.{Content}
-use Rattle.lr_tables.specs.Statements.{stmt_of}
-use Rattle.lr_check_parse.specs.Moves.{Move, Ending, Accepts, Blocks, Loops, Refuses, Parses}
-use Rattle.lr_check_parse.specs.Moves as parse
-use Rattle.lr_check_parse.specs.Attributes.{by_attributes}
+use Rattle.sel_parse_slots.specs.lr_tables.specs.Statements.{stmt_of}
+use Rattle.sel_parse_slots.specs.lr_check_parse.specs.Moves.{Move, Ending, Accepts, Blocks, Loops, Refuses, Parses}
+use Rattle.sel_parse_slots.specs.lr_check_parse.specs.Moves as parse
+use Rattle.sel_parse_slots.specs.lr_check_parse.specs.Attributes.{by_attributes}
 use Rattle.sel_regs.specs.Need.{need}
 use Rattle.sel_parse_slots.specs.sel_terms_trees.specs.Senses.{piled}
 use Rattle.sel_target.specs.Meaning.{Meaning}
 use Rattle.sel_target.specs.Laws.{IsLawful}
 use Rattle.sel_parse_slots.specs.sel_parse_moves.proofs.Covering.{known}
-use Rattle.sel_parse_selected.specs.Desk.{Stack, desk_of, Outcome, Full, Stuck, Done}
-use Rattle.sel_parse_selected.specs.Reductions.{reduced}
-use Rattle.sel_parse_selected.specs.Selected.{Kept, shifted, kept_of, reduced_by, selecting}
+use Rattle.sel_parse_slots.specs.sel_parse_selected.specs.Desk.{Stack, desk_of, Outcome, Full, Stuck, Done}
+use Rattle.sel_parse_slots.specs.sel_parse_selected.specs.Reductions.{reduced}
+use Rattle.sel_parse_slots.specs.sel_parse_selected.specs.Selected.{Kept, shifted, kept_of, reduced_by, selecting}
 use Rattle.sel_parse_slots.specs.sel_parse_stands.proofs.Saving.{token_none}
 use Rattle.sel_parse_slots.specs.Claims.{IsTaken}
 use Rattle.sel_parse_slots.proofs.Counts.{tick}

@@ -22,10 +22,10 @@ use Rattle.sel_target.specs.Meaning.{Meaning, RegAt}
 use Rattle.sel_target.specs.Laws.{IsLawful}
 use Rattle.sel_target.specs.Instances.{attr_touches, KindFits}
 use Rattle.sel_target.specs.Symbols.{lowest, first_that, is_register}
-use Rattle.sel_parse_selected.specs.Entries.{Entry}
-use Rattle.sel_parse_selected.specs.Desk.{Desk, Outcome, Full, Stuck, Done, bind, held, is_free_register, free_register, is_free_word, free_slot}
-use Rattle.sel_parse_selected.specs.Spills.{Where, Below, Among, last_that, holds_register, may_go, deepest, victim, in_slot, entry_in_slot, saved, saved_in, spilled}
-use Rattle.sel_parse_selected.specs.Spills.{with_free, due_by, due}
+use Rattle.sel_parse_slots.specs.sel_parse_selected.specs.Entries.{Entry}
+use Rattle.sel_parse_slots.specs.sel_parse_selected.specs.Desk.{Desk, Outcome, Full, Stuck, Done, bind, held, is_free_register, free_register, is_free_word, free_slot}
+use Rattle.sel_parse_slots.specs.sel_parse_selected.specs.Spills.{Where, Below, Among, last_that, holds_register, may_go, deepest, victim, in_slot, entry_in_slot, saved, saved_in, spilled}
+use Rattle.sel_parse_slots.specs.sel_parse_selected.specs.Spills.{with_free, due_by, due}
 use Rattle.sel_parse_slots.specs.sel_parse_stands.proofs.Desks as desks
 use Rattle.sel_parse_slots.specs.sel_parse_stands.proofs.Desks.{MayMove, may_victim}
 use Rattle.sel_parse_slots.specs.sel_parse_stands.proofs.Saving.{lowest_found, bits_none, token_none}

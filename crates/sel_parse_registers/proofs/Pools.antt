@@ -12,7 +12,7 @@ use Rattle.std.proofs.lemmas.Nat.Bits.{bit_at-suc, bit_at_lowest}
 use Rattle.std.proofs.lemmas.Bool.{eqb-true, true≢false}
 use Rattle.std.proofs.lemmas.Option.{none-some, same_Some}
 use Rattle.sel_target.specs.Symbols.{lowest, behind_one, first_that}
-use Rattle.sel_parse_selected.specs.Spills.{later_of, last_that}
+use Rattle.sel_parse_slots.specs.sel_parse_selected.specs.Spills.{later_of, last_that}
 use Rattle.sel_parse_slots.proofs.Counts.{tick, tick_or, count, total, total_append}
 
 pub tick_true : (b : Bool) → 1 ≤ tick b → b ≡ true

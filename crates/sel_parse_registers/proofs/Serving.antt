@@ -15,17 +15,17 @@ use Rattle.md_reader.specs.Patterns.{kind_at}
 use Rattle.md_reader.specs.State.{Content}
 use Rattle.md_reader.specs.Valid.{IsPool, IsRule}
 use Rattle.sel_regs.specs.Need.{registers_among, need_of, need}
-use Rattle.sel_terms.specs.Effects.{EffectShape}
+use Rattle.sel_target.specs.sel_terms.specs.Effects.{EffectShape}
 use Rattle.sel_target.specs.declared.attr.Attr.{Attr}
 use Rattle.sel_target.specs.declared.attr.Attr.TheVariants as attr
 use Rattle.sel_target.specs.Meaning.{Meaning, RegAt, touches}
 use Rattle.sel_target.specs.Laws.{IsLawful}
 use Rattle.sel_target.specs.Instances.{hole, attr_touches}
 use Rattle.sel_target.specs.Symbols.{token_number, first_hole}
-use Rattle.sel_parse_selected.specs.Entries.{Entry, attrs}
-use Rattle.sel_parse_selected.specs.Desk.{Stack, Desk, desk_of, held}
-use Rattle.sel_parse_selected.specs.Spills.{due}
-use Rattle.sel_parse_selected.specs.Reductions.{own_register, own_number, shaped, finished, with_result, with_scratch, given_by, loaded, reloaded_by, reloaded_at, reloaded, reduced}
+use Rattle.sel_parse_slots.specs.sel_parse_selected.specs.Entries.{Entry, attrs}
+use Rattle.sel_parse_slots.specs.sel_parse_selected.specs.Desk.{Stack, Desk, desk_of, held}
+use Rattle.sel_parse_slots.specs.sel_parse_selected.specs.Spills.{due}
+use Rattle.sel_parse_slots.specs.sel_parse_selected.specs.Reductions.{own_register, own_number, shaped, finished, with_result, with_scratch, given_by, loaded, reloaded_by, reloaded_at, reloaded, reduced}
 use Rattle.sel_parse_slots.specs.sel_parse_stands.proofs.Loaded.{AllLoaded, all_loaded}
 use Rattle.sel_parse_slots.proofs.Counts.{tick, total_set, tick_small, tick_implied}
 use Rattle.sel_parse_slots.proofs.Counting.{Counted, IsDue, due_good, one_good, fine_at, slot_kind, fine_length}

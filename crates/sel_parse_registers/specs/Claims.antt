@@ -7,11 +7,11 @@ use Rattle.tree_core.specs.declared.program.TreeProgram.{TreeProgram}
 use Rattle.tree_core.specs.Trees.{IsTyped}
 use Rattle.md_reader.specs.declared.types.Rule.{Rule}
 use Rattle.md_reader.specs.State.{Content}
-use Rattle.lr_check_parse.specs.Moves.{Move, Accepts}
+use Rattle.sel_parse_slots.specs.lr_check_parse.specs.Moves.{Move, Accepts}
 use Rattle.sel_regs.specs.Need.{need}
 use Rattle.sel_target.specs.Meaning.{Meaning}
 use Rattle.sel_parse_slots.specs.sel_parse_moves.specs.Claims.{root}
-use Rattle.sel_parse_selected.specs.Selected.{Parsed}
+use Rattle.sel_parse_slots.specs.sel_parse_selected.specs.Selected.{Parsed}
 use Rattle.sel_parse_slots.specs.Claims.{IsOwn, IsTaken}
 
 -- no rule needs more registers than the pool has

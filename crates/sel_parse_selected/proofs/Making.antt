@@ -5,10 +5,10 @@ use Rattle.std.proofs.lemmas.Bool.{true≢false}
 use Rattle.gg_base.proofs.Facts.{some_none}
 use Rattle.tree_core.specs.declared.tree.Leaf.{Leaf}
 use Rattle.tree_core.specs.declared.program.TreeProgram.{TreeProgram}
-use Rattle.md_reader.specs.declared.types.Rule.{Rule}
-use Rattle.md_reader.specs.declared.types.Sym.{Sym}
-use Rattle.md_reader.specs.State.{Content}
-use Rattle.lr_tables.specs.Statements.{stmt_of}
+use Rattle.sel_target.specs.md_reader.specs.declared.types.Rule.{Rule}
+use Rattle.sel_target.specs.md_reader.specs.declared.types.Sym.{Sym}
+use Rattle.sel_target.specs.md_reader.specs.State.{Content}
+use Rattle.lr_check_parse.specs.lr_tables.specs.Statements.{stmt_of}
 use Rattle.lr_check_parse.specs.Moves.{Move, Shift, Reduce, Ending, Accepts, Blocks, Loops, Refuses, Parses, loops, accepts, shifts, reduces, refuses, blocks}
 use Rattle.lr_check_parse.specs.Attributes.{by_attributes}
 use Rattle.lr_check_parse.proofs.Asked.{kept_so}

@@ -2,8 +2,8 @@
 use Rattle.std.specs.Prelude.{◌≡◌, ℕ, List, Option, Some, None, slice_get}
 use Rattle.tree_core.specs.declared.tree.Leaf.{Leaf}
 use Rattle.tree_core.specs.declared.program.TreeProgram.{TreeProgram}
-use Rattle.md_reader.specs.declared.types.Rule.{Rule}
-use Rattle.md_reader.specs.State.{Content}
+use Rattle.sel_target.specs.md_reader.specs.declared.types.Rule.{Rule}
+use Rattle.sel_target.specs.md_reader.specs.State.{Content}
 use Rattle.lr_check_parse.specs.Moves.{Move, Ending, Accepts}
 use Rattle.sel_target.specs.Meaning.{Meaning}
 use Rattle.sel_parse_selected.specs.Desk.{Stack, Full}

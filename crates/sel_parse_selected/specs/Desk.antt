@@ -4,7 +4,7 @@ use Rattle.std.specs.Prelude.{Bool, not}
 use Rattle.std.specs.List.{list_any}
 use Rattle.std.specs.Int.{bit_at}
 use Rattle.gg_base.specs.declared.limits.TheConstants.{NEED_LIMIT}
-use Rattle.md_reader.specs.State.{Content}
+use Rattle.sel_target.specs.md_reader.specs.State.{Content}
 use Rattle.sel_target.specs.Meaning.{Meaning, Spot, RegAt, WordAt}
 use Rattle.sel_target.specs.Instances.{attr_touches}
 use Rattle.sel_target.specs.Symbols.{lowest}

@@ -1,7 +1,7 @@
 -- What stands beside a symbol of the parse stack, and what the restrictions of a rule ask of it.
 use Rattle.std.specs.Prelude.{◌&&◌, List, map, Option, Some, None, Bool, false}
-use Rattle.md_reader.specs.declared.types.Kind.{Kind}
-use Rattle.md_reader.specs.Restrictions.{same_size}
+use Rattle.sel_target.specs.md_reader.specs.declared.types.Kind.{Kind}
+use Rattle.sel_target.specs.md_reader.specs.Restrictions.{same_size}
 use Rattle.sel_target.specs.declared.attr.Attr.{Attr}
 use Rattle.sel_target.specs.declared.attr.Attr.TheVariants as attr
 use Rattle.sel_target.specs.Meaning.{Meaning}

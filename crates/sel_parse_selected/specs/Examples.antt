@@ -5,15 +5,15 @@ use Rattle.gg_base.specs.declared.size.Size.TheVariants.{Byte, Long}
 use Rattle.tree_core.specs.declared.token.Tok.TheVariants as tok
 use Rattle.tree_core.specs.declared.tree.Att.TheVariants as att
 use Rattle.tree_core.specs.declared.tree.Leaf.{Leaf}
-use Rattle.md_reader_pieces.specs.declared.piece.Line.{Line}
-use Rattle.md_reader_pieces.specs.declared.piece.Piece.{Piece}
-use Rattle.md_reader_pieces.specs.declared.piece.Piece.TheVariants.{Bytes, Hole}
-use Rattle.md_reader.specs.declared.types.Kind.{Kind}
-use Rattle.md_reader.specs.declared.types.Kind.TheVariants as kind
-use Rattle.md_reader.specs.declared.types.Sym.TheVariants as grammar_symbol
-use Rattle.md_reader.specs.declared.types.Give.TheVariants as give
-use Rattle.md_reader.specs.declared.types.Rule.{Rule}
-use Rattle.md_reader.specs.State.{Content}
+use Rattle.sel_target.specs.md_reader_pieces.specs.declared.piece.Line.{Line}
+use Rattle.sel_target.specs.md_reader_pieces.specs.declared.piece.Piece.{Piece}
+use Rattle.sel_target.specs.md_reader_pieces.specs.declared.piece.Piece.TheVariants.{Bytes, Hole}
+use Rattle.sel_target.specs.md_reader.specs.declared.types.Kind.{Kind}
+use Rattle.sel_target.specs.md_reader.specs.declared.types.Kind.TheVariants as kind
+use Rattle.sel_target.specs.md_reader.specs.declared.types.Sym.TheVariants as grammar_symbol
+use Rattle.sel_target.specs.md_reader.specs.declared.types.Give.TheVariants as give
+use Rattle.sel_target.specs.md_reader.specs.declared.types.Rule.{Rule}
+use Rattle.sel_target.specs.md_reader.specs.State.{Content}
 use Rattle.lr_check_parse.specs.Moves.{Move, Shift, Reduce}
 use Rattle.sel_target.specs.declared.attr.Attr.{Attr}
 use Rattle.sel_target.specs.declared.attr.Attr.TheVariants as attr

@@ -1,14 +1,14 @@
 -- What happens at a reduction, in order.
 use Rattle.std.specs.Prelude.{ℕ, zero, suc, ◌+◌, List, [], ◌∷◌, ◌++◌, length, Option, Some, None, true, false, slice_get, slice_set}
 use Rattle.tree_core.specs.declared.program.TreeProgram.{TreeProgram}
-use Rattle.md_reader_pieces.specs.declared.piece.Line.{Line}
-use Rattle.md_reader.specs.declared.types.Kind.{Kind}
-use Rattle.md_reader.specs.declared.types.Kind.TheVariants as kind
-use Rattle.md_reader.specs.declared.types.Rule.{Rule}
-use Rattle.md_reader.specs.declared.types.Give.{Give}
-use Rattle.md_reader.specs.declared.types.Give.TheVariants as give
-use Rattle.md_reader.specs.Patterns.{kind_at}
-use Rattle.md_reader.specs.State.{Content}
+use Rattle.sel_target.specs.md_reader_pieces.specs.declared.piece.Line.{Line}
+use Rattle.sel_target.specs.md_reader.specs.declared.types.Kind.{Kind}
+use Rattle.sel_target.specs.md_reader.specs.declared.types.Kind.TheVariants as kind
+use Rattle.sel_target.specs.md_reader.specs.declared.types.Rule.{Rule}
+use Rattle.sel_target.specs.md_reader.specs.declared.types.Give.{Give}
+use Rattle.sel_target.specs.md_reader.specs.declared.types.Give.TheVariants as give
+use Rattle.sel_target.specs.md_reader.specs.Patterns.{kind_at}
+use Rattle.sel_target.specs.md_reader.specs.State.{Content}
 use Rattle.sel_target.specs.declared.attr.Attr.{Attr}
 use Rattle.sel_target.specs.declared.attr.Attr.TheVariants as attr
 use Rattle.sel_target.specs.Meaning.{Meaning}

@@ -2,8 +2,8 @@
 use Rattle.std.specs.Prelude.{◌≡◌, pos, negsuc, [], ◌∷◌, Some, None, true, false}
 use Rattle.gg_base.specs.declared.limits.TheConstants.{NEED_LIMIT}
 use Rattle.gg_base.specs.declared.size.Size.TheVariants.{Byte, Long}
-use Rattle.md_reader.specs.declared.types.Kind.TheVariants as kind
-use Rattle.md_reader.specs.declared.types.Restriction.TheVariants.{Same, Range, Signed}
+use Rattle.sel_target.specs.md_reader.specs.declared.types.Kind.TheVariants as kind
+use Rattle.sel_target.specs.md_reader.specs.declared.types.Restriction.TheVariants.{Same, Range, Signed}
 use Rattle.lr_check_parse.specs.Attributes.{holds}
 use Rattle.sel_target.specs.declared.attr.Attr.TheVariants as attr
 use Rattle.sel_toy_machine.specs.declared.operand.Operand.TheVariants as operand

@@ -2,9 +2,9 @@
 use Rattle.std.specs.Prelude.{ℕ, List, [], ◌∷◌, Option, Some, None, option_and_then, slice_get}
 use Rattle.tree_core.specs.declared.tree.Leaf.{Leaf}
 use Rattle.tree_core.specs.declared.program.TreeProgram.{TreeProgram}
-use Rattle.md_reader.specs.declared.types.Rule.{Rule}
-use Rattle.md_reader.specs.State.{Content}
-use Rattle.lr_tables.specs.Statements.{stmt_of}
+use Rattle.sel_target.specs.md_reader.specs.declared.types.Rule.{Rule}
+use Rattle.sel_target.specs.md_reader.specs.State.{Content}
+use Rattle.lr_check_parse.specs.lr_tables.specs.Statements.{stmt_of}
 use Rattle.lr_check_parse.specs.Moves.{Move, Shift, Reduce, Ending, Accepts, Blocks, Loops, Refuses, Parses}
 use Rattle.lr_check_parse.specs.Attributes.{Selecting, by_attributes}
 use Rattle.sel_target.specs.declared.attr.Attr.TheVariants as attr

@@ -14,7 +14,7 @@ use Rattle.tree_core.specs.Attributes.{attribute_of, is_of_kind}
 use Rattle.tree_core.specs.Grammar.{fits}
 use Rattle.tree_core.specs.Trees.{sort_fits}
 use Rattle.tree_core.proofs.Sorts.{fits_stmt}
-use Rattle.tree_meaning_tame.proofs.Strict.{NoStmt, kids_no_stmt}
+use Rattle.sel_parse_effect.specs.tree_meaning_tame.proofs.Strict.{NoStmt, kids_no_stmt}
 use Rattle.md_reader_pieces.specs.declared.piece.Line.{Line}
 use Rattle.md_reader.specs.declared.types.Kind.{Kind}
 use Rattle.md_reader.specs.declared.types.Kind.TheVariants as kind
@@ -28,7 +28,7 @@ use Rattle.md_reader.specs.Patterns.{kind_at, sort_of_kind, kids_of, Trees, no_t
 use Rattle.md_reader.specs.Rows.{shape_fits}
 use Rattle.md_reader.specs.State.{Content}
 use Rattle.md_reader.specs.Valid.{IsRule, MayGive}
-use Rattle.sel_terms.specs.Effects.{EffectShape}
+use Rattle.sel_target.specs.sel_terms.specs.Effects.{EffectShape}
 use Rattle.sel_target.specs.declared.attr.Attr.{Attr}
 use Rattle.sel_target.specs.declared.attr.Attr.TheVariants as attr
 use Rattle.sel_target.specs.Meaning.{Meaning, Spot, RegAt, WordAt, touches}

@@ -21,14 +21,14 @@ use Rattle.md_reader.specs.declared.types.Sym.TheVariants as grammar_symbol
 use Rattle.md_reader.specs.Rows.{shape_fits}
 use Rattle.md_reader.specs.State.{Content}
 use Rattle.md_reader.specs.Valid.{IsRule}
-use Rattle.lr_tables.specs.Statements.{stmt_of}
-use Rattle.lr_tables.proofs.Validity.{rule_at}
+use Rattle.sel_parse_effect.specs.lr_tables.specs.Statements.{stmt_of}
+use Rattle.sel_parse_effect.specs.lr_tables.proofs.Validity.{rule_at}
 use Rattle.sel_parse_effect.specs.lr_check_parse.specs.Moves.{Move, Ending, Accepts, Blocks, Loops, Refuses, Parses}
 use Rattle.sel_parse_effect.specs.lr_check_parse.specs.Moves as parse
 use Rattle.sel_parse_effect.specs.lr_check_parse.specs.Attributes.{by_attributes}
 use Rattle.sel_parse_effect.specs.lr_check_parse.specs.Typed.{AreTyped, begins}
 use Rattle.sel_parse_effect.specs.lr_check_parse.proofs.Typing.{leaves_are_tokens}
-use Rattle.sel_terms.specs.Effects.{EffectShape}
+use Rattle.sel_target.specs.sel_terms.specs.Effects.{EffectShape}
 use Rattle.sel_parse_effect.specs.sel_terms_trees.specs.Senses.{piled}
 use Rattle.sel_target.specs.declared.attr.Attr.TheVariants as attr
 use Rattle.sel_target.specs.Meaning.{Meaning}

@@ -14,7 +14,7 @@ use Rattle.tree_core_forks.specs.Forks.{forks}
 use Rattle.md_reader.specs.declared.types.Rule.{Rule}
 use Rattle.md_reader.specs.State.{Content}
 use Rattle.md_reader.specs.Valid.{IsValid}
-use Rattle.sel_terms.specs.Effects.{EffectShape}
+use Rattle.sel_target.specs.sel_terms.specs.Effects.{EffectShape}
 use Rattle.sel_target.specs.Meaning.{Meaning}
 use Rattle.sel_target.specs.Instances.{InFrame}
 use Rattle.sel_target.specs.Spelled.{IsSpelled}

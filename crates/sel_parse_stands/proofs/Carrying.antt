@@ -12,7 +12,7 @@ use Rattle.tree_meaning.specs.State.{State, Extent}
 use Rattle.tree_meaning.specs.declared.value.Meaning.{Meaning as Place}
 use Rattle.md_reader.specs.declared.types.Sym.{Sym}
 use Rattle.md_reader.specs.State.{Content}
-use Rattle.sel_terms.specs.RuleFacts.{size_of_symbol, size_of_some}
+use Rattle.sel_target.specs.sel_terms.specs.RuleFacts.{size_of_symbol, size_of_some}
 use Rattle.sel_target.specs.declared.attr.Attr.{Attr}
 use Rattle.sel_target.specs.declared.attr.Attr.TheVariants as attr
 use Rattle.sel_target.specs.Meaning.{Meaning, Spot, touches}

@@ -16,7 +16,7 @@ use Rattle.md_reader.specs.declared.types.Sym.{Sym}
 use Rattle.md_reader.specs.declared.types.Sym.TheVariants as grammar_symbol
 use Rattle.md_reader.specs.Patterns.{kind_at}
 use Rattle.md_reader.specs.State.{Content}
-use Rattle.sel_terms.specs.RuleFacts.{size_of_kind, size_of_symbol}
+use Rattle.sel_target.specs.sel_terms.specs.RuleFacts.{size_of_kind, size_of_symbol}
 use Rattle.sel_terms_trees.specs.Senses.{Sense, OfNumber}
 use Rattle.sel_target.specs.declared.attr.Attr.{Attr}
 use Rattle.sel_target.specs.declared.attr.Attr.TheVariants as attr

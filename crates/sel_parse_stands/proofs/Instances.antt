@@ -16,9 +16,9 @@ use Rattle.md_reader.specs.declared.types.Rule.{Rule}
 use Rattle.md_reader.specs.declared.types.Sym.{Sym}
 use Rattle.md_reader.specs.State.{Content}
 use Rattle.md_reader.specs.Valid.{IsRule}
-use Rattle.sel_terms.specs.Effects.{EffectShape}
-use Rattle.sel_terms.specs.RuleFacts.{size_of_some, size_at}
-use Rattle.sel_terms.proofs.Facts.{size_behind}
+use Rattle.sel_target.specs.sel_terms.specs.Effects.{EffectShape}
+use Rattle.sel_target.specs.sel_terms.specs.RuleFacts.{size_of_some, size_at}
+use Rattle.sel_target.specs.sel_terms.proofs.Facts.{size_behind}
 use Rattle.sel_target.specs.declared.attr.Attr.{Attr}
 use Rattle.sel_target.specs.Meaning.{Meaning}
 use Rattle.sel_target.specs.Values.{View, term_state, IsReadWhere, worth, own_operand}

@@ -20,7 +20,7 @@ use Rattle.tree_meaning.specs.declared.value.Meaning.TheVariants as meaning
 use Rattle.tree_meaning.specs.State.{State, Extent}
 use Rattle.tree_meaning.specs.declared.value.Meaning.{Meaning as Place}
 use Rattle.tree_meaning.specs.Values.{Sight}
-use Rattle.md_reader_pieces.specs.declared.piece.Line.{Line}
+use Rattle.sel_target.specs.md_reader_pieces.specs.declared.piece.Line.{Line}
 use Rattle.md_reader.specs.declared.types.Kind.{Kind}
 use Rattle.md_reader.specs.declared.types.Kind.TheVariants as kind
 use Rattle.md_reader.specs.declared.types.Sym.{Sym}
@@ -31,8 +31,8 @@ use Rattle.term_core.specs.Shape.{Shape, Symbol}
 use Rattle.term_core.specs.Norm.{norm}
 use Rattle.term_core.specs.Value.{Respects}
 use Rattle.term_core.specs.Facts.{has_size, is_count, same_as}
-use Rattle.sel_terms.specs.Effects.{Value}
-use Rattle.sel_terms.specs.RuleFacts.{saved_facts, size_of_saved, size_of_kind, size_of_symbol}
+use Rattle.sel_target.specs.sel_terms.specs.Effects.{Value}
+use Rattle.sel_target.specs.sel_terms.specs.RuleFacts.{saved_facts, size_of_saved, size_of_kind, size_of_symbol}
 use Rattle.sel_target.specs.declared.attr.Attr.{Attr}
 use Rattle.sel_target.specs.declared.attr.Attr.TheVariants as attr
 use Rattle.sel_target.specs.Meaning.{Meaning, Spot, RegAt, WordAt, touches}
@@ -48,7 +48,7 @@ use Rattle.sel_target.specs.Courses.{comes}
 use Rattle.sel_target.proofs.Facts.{low_is}
 use Rattle.sel_target.specs.Symbols.{lowest, saving_line, is_register}
 use Rattle.sel_terms_trees.specs.Senses.{Sense, OfNumber, OfPlace}
-use Rattle.term_core_accesses.specs.Keeping.{IsNarrow}
+use Rattle.sel_target.specs.term_core_accesses.specs.Keeping.{IsNarrow}
 use Rattle.sel_terms_trees.specs.sel_terms_meaning.proofs.Alike.{shown_is_alike}
 use Rattle.sel_parse_stands.specs.Stands as stands
 use Rattle.sel_parse_stands.specs.Lines.{LinesSave}

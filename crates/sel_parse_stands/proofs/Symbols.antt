@@ -27,7 +27,7 @@ use Rattle.md_reader.specs.declared.types.Kind.TheVariants as kind
 use Rattle.md_reader.specs.declared.types.Sym.{Sym}
 use Rattle.md_reader.specs.Patterns.{kind_at}
 use Rattle.md_reader.specs.State.{Content}
-use Rattle.sel_terms.specs.RuleFacts.{size_of_kind, size_of_symbol}
+use Rattle.sel_target.specs.sel_terms.specs.RuleFacts.{size_of_kind, size_of_symbol}
 use Rattle.sel_target.specs.declared.attr.Attr.{Attr}
 use Rattle.sel_target.specs.declared.attr.Attr.TheVariants as attr
 use Rattle.sel_target.specs.Meaning.{Meaning}

@@ -7,8 +7,8 @@ use Rattle.md_reader.specs.declared.types.Sym.{Sym}
 use Rattle.md_reader.specs.declared.types.Sym.TheVariants as grammar_symbol
 use Rattle.md_reader.specs.Patterns.{kind_at}
 use Rattle.md_reader.specs.State.{Content}
-use Rattle.sel_terms_trees.specs.Senses.{piled}
-use Rattle.sel_parse_selected.specs.Entries.{Entry}
+use Rattle.sel_parse_lines.specs.sel_terms_trees.specs.Senses.{piled}
+use Rattle.sel_parse_lines.specs.sel_parse_selected.specs.Entries.{Entry}
 
 -- of the class of a symbol
 abbrev pub KindIs : Content → Sym → Option Kind → Type 0

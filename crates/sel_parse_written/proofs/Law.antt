@@ -11,21 +11,21 @@ use Rattle.md_reader.specs.declared.types.Rule.{Rule}
 use Rattle.md_reader.specs.declared.types.Sym.{Sym}
 use Rattle.md_reader.specs.declared.types.Sym.TheVariants as grammar_symbol
 use Rattle.md_reader.specs.State.{Content}
-use Rattle.lr_tables.specs.Statements.{stmt_of}
-use Rattle.lr_check_parse.specs.Moves.{Move, Ending, Accepts, Blocks, Loops, Refuses, Parses}
-use Rattle.lr_check_parse.specs.Moves as parse
-use Rattle.lr_check_parse.specs.Attributes.{by_attributes}
-use Rattle.sel_terms.specs.Effects.{EffectShape}
-use Rattle.sel_terms_trees.specs.Senses.{piled}
+use Rattle.sel_parse_lines.specs.lr_tables.specs.Statements.{stmt_of}
+use Rattle.sel_parse_lines.specs.lr_check_parse.specs.Moves.{Move, Ending, Accepts, Blocks, Loops, Refuses, Parses}
+use Rattle.sel_parse_lines.specs.lr_check_parse.specs.Moves as parse
+use Rattle.sel_parse_lines.specs.lr_check_parse.specs.Attributes.{by_attributes}
+use Rattle.sel_target.specs.sel_terms.specs.Effects.{EffectShape}
+use Rattle.sel_parse_lines.specs.sel_terms_trees.specs.Senses.{piled}
 use Rattle.sel_target.specs.Meaning.{Meaning}
 use Rattle.sel_target.specs.Laws.{IsLawful}
 use Rattle.sel_parse_law.specs.sel_parse.specs.Shown.{IsShown}
 use Rattle.sel_parse_lines.specs.sel_parse_moves.proofs.Covering.{known}
 use Rattle.sel_parse_law.specs.sel_parse_desk.specs.Selected as desk
-use Rattle.sel_parse_selected.specs.Entries.{Entry}
-use Rattle.sel_parse_selected.specs.Desk.{Stack, Outcome, Full, Stuck, Done}
-use Rattle.sel_parse_selected.specs.Reductions.{reduced}
-use Rattle.sel_parse_selected.specs.Selected.{Selected, Kept, kept_of, reduced_by, selecting, shifted}
+use Rattle.sel_parse_lines.specs.sel_parse_selected.specs.Entries.{Entry}
+use Rattle.sel_parse_lines.specs.sel_parse_selected.specs.Desk.{Stack, Outcome, Full, Stuck, Done}
+use Rattle.sel_parse_lines.specs.sel_parse_selected.specs.Reductions.{reduced}
+use Rattle.sel_parse_lines.specs.sel_parse_selected.specs.Selected.{Selected, Kept, kept_of, reduced_by, selecting, shifted}
 use Rattle.sel_parse_law.specs.sel_parse_stands.specs.Lines.{LinesSave}
 use Rattle.sel_parse_law.specs.sel_parse_stands.proofs.Parting.{taken_off, left_below}
 use Rattle.sel_parse_law.specs.sel_parse_effect.specs.Claims.{IsFit}

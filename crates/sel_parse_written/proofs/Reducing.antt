@@ -14,16 +14,16 @@ use Rattle.md_reader.specs.declared.types.Sym.TheVariants as grammar_symbol
 use Rattle.md_reader.specs.Patterns.{kind_at}
 use Rattle.md_reader.specs.State.{Content}
 use Rattle.md_reader.specs.Valid.{IsRule}
-use Rattle.sel_terms.specs.Effects.{EffectShape}
+use Rattle.sel_target.specs.sel_terms.specs.Effects.{EffectShape}
 use Rattle.sel_target.specs.declared.attr.Attr.{Attr}
 use Rattle.sel_target.specs.declared.attr.Attr.TheVariants as attr
 use Rattle.sel_target.specs.Meaning.{Meaning, Spot, RegAt}
 use Rattle.sel_target.specs.Laws.{IsLawful}
 use Rattle.sel_target.specs.Instances.{attr_touches, Avoids, IsResult, lines_of}
-use Rattle.sel_parse_selected.specs.Entries.{Entry, attrs}
-use Rattle.sel_parse_selected.specs.Desk.{Stack, Desk, desk_of, held, is_free_register}
-use Rattle.sel_parse_selected.specs.Spills.{due}
-use Rattle.sel_parse_selected.specs.Reductions.{reloaded, finished, shaped, with_result, with_scratch, given_by, reduced}
+use Rattle.sel_parse_lines.specs.sel_parse_selected.specs.Entries.{Entry, attrs}
+use Rattle.sel_parse_lines.specs.sel_parse_selected.specs.Desk.{Stack, Desk, desk_of, held, is_free_register}
+use Rattle.sel_parse_lines.specs.sel_parse_selected.specs.Spills.{due}
+use Rattle.sel_parse_lines.specs.sel_parse_selected.specs.Reductions.{reloaded, finished, shaped, with_result, with_scratch, given_by, reduced}
 use Rattle.sel_parse_law.specs.sel_parse_stands.specs.Lines.{LinesSave}
 use Rattle.sel_parse_law.specs.sel_parse_stands.proofs.Loaded.{all_loaded}
 use Rattle.sel_parse_lines.proofs.Each.{Each, each_bind}

@@ -3,7 +3,7 @@ use Rattle.std.proofs.Common.{◌≡◌, List, [], ◌∷◌, Option, Some, fals
 use Rattle.std.specs.List.{AllByRecursion as All}
 use Rattle.gg_base.proofs.Facts.{true_or_false}
 use Rattle.tree_core.specs.declared.token.Sort.{Sort}
-use Rattle.tree_meaning_tame.proofs.Strict.{kids_no_stmt}
+use Rattle.sel_parse_lines.specs.tree_meaning_tame.proofs.Strict.{kids_no_stmt}
 use Rattle.md_reader.specs.declared.types.Kind.{Kind}
 use Rattle.md_reader.specs.declared.types.Kind.TheVariants as kind
 use Rattle.md_reader.specs.declared.types.Class.{Class}

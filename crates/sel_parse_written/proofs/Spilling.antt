@@ -17,10 +17,10 @@ use Rattle.sel_target.specs.Laws.{IsLawful}
 use Rattle.sel_target.specs.Instances.{KindFits}
 use Rattle.sel_target.specs.SavingLaws.{operand, register, saving, reloading}
 use Rattle.sel_target.specs.Symbols.{saving_line, reload_line}
-use Rattle.sel_parse_selected.specs.Entries.{Entry}
-use Rattle.sel_parse_selected.specs.Desk.{Desk, Outcome, Full, Stuck, Done, is_free_register, free_register, is_free_word, free_slot}
-use Rattle.sel_parse_selected.specs.Spills.{Where, holds_register, victim, entry_in_slot, saved, saved_in, spilled, with_free, due_by, due}
-use Rattle.sel_parse_selected.specs.Reductions.{loaded, reloaded_by, reloaded_at, reloaded}
+use Rattle.sel_parse_lines.specs.sel_parse_selected.specs.Entries.{Entry}
+use Rattle.sel_parse_lines.specs.sel_parse_selected.specs.Desk.{Desk, Outcome, Full, Stuck, Done, is_free_register, free_register, is_free_word, free_slot}
+use Rattle.sel_parse_lines.specs.sel_parse_selected.specs.Spills.{Where, holds_register, victim, entry_in_slot, saved, saved_in, spilled, with_free, due_by, due}
+use Rattle.sel_parse_lines.specs.sel_parse_selected.specs.Reductions.{loaded, reloaded_by, reloaded_at, reloaded}
 use Rattle.sel_parse_law.specs.sel_parse_stands.specs.Lines.{LinesSave}
 use Rattle.sel_parse_law.specs.sel_parse_stands.proofs.Desks as desks
 use Rattle.sel_parse_law.specs.sel_parse_stands.proofs.Desks.{MayMove, may_victim}

@@ -1,8 +1,8 @@
 -- What the calls of a target need and answer.
 use Rattle.std.specs.Prelude.{◌≡◌, Bool, true, false, Result, Err}
-use Rattle.md_reader.specs.declared.types.Kind.{Kind}
-use Rattle.md_reader.specs.declared.types.Kind.TheVariants as kind
-use Rattle.sel_terms.specs.Effects.{EffectShape}
+use Rattle.sel_terms_meaning.specs.md_reader.specs.declared.types.Kind.{Kind}
+use Rattle.sel_terms_meaning.specs.md_reader.specs.declared.types.Kind.TheVariants as kind
+use Rattle.sel_terms_meaning.specs.sel_terms.specs.Effects.{EffectShape}
 use Rattle.sel_target.specs.declared.fault.TargetFault.{TargetFault}
 use Rattle.sel_target.specs.declared.fault.TargetFault.TheVariants as target_fault
 use Rattle.sel_target.specs.Meaning.{Fault}

@@ -4,12 +4,12 @@ use Rattle.std.specs.List.{AllByRecursion}
 use Rattle.gg_base.specs.declared.relation.Rel.{Rel}
 use Rattle.gg_base.specs.Relations.{compares_signed}
 use Rattle.tree_core.specs.declared.token.Tok.TheVariants as tok
-use Rattle.md_reader.specs.declared.types.Sym.{Sym}
-use Rattle.md_reader.specs.declared.types.Sym.TheVariants as grammar_symbol
-use Rattle.md_reader.specs.declared.types.Restriction.{Restriction}
-use Rattle.md_reader.specs.declared.types.Restriction.TheVariants as restriction
+use Rattle.sel_terms_meaning.specs.md_reader.specs.declared.types.Sym.{Sym}
+use Rattle.sel_terms_meaning.specs.md_reader.specs.declared.types.Sym.TheVariants as grammar_symbol
+use Rattle.sel_terms_meaning.specs.md_reader.specs.declared.types.Restriction.{Restriction}
+use Rattle.sel_terms_meaning.specs.md_reader.specs.declared.types.Restriction.TheVariants as restriction
 use Rattle.sel_terms_meaning.specs.term_core.specs.Shape.{Shape}
-use Rattle.sel_terms.specs.Effects.{EffectShape}
+use Rattle.sel_terms_meaning.specs.sel_terms.specs.Effects.{EffectShape}
 use Rattle.sel_terms_meaning.specs.Meaning.{terms_of_act}
 use Rattle.sel_target.specs.Values.{View, value}
 

@@ -13,18 +13,18 @@ use Rattle.tree_core.specs.Attributes.{leaf_fits}
 use Rattle.tree_core.specs.Valid.{IsValid}
 use Rattle.tree_meaning.specs.State.{Extent}
 use Rattle.md_reader_pieces.specs.declared.piece.Line.{Line}
-use Rattle.md_reader.specs.declared.types.Kind.{Kind}
-use Rattle.md_reader.specs.declared.types.Kind.TheVariants as kind
-use Rattle.md_reader.specs.declared.types.Class.{Class}
-use Rattle.md_reader.specs.declared.types.Sym.{Sym}
-use Rattle.md_reader.specs.declared.types.Sym.TheVariants as grammar_symbol
-use Rattle.md_reader.specs.declared.types.Give.{Give}
-use Rattle.md_reader.specs.declared.types.Give.TheVariants as give
-use Rattle.md_reader.specs.declared.types.Rule.{Rule}
-use Rattle.md_reader.specs.Patterns.{kind_at}
-use Rattle.md_reader.specs.Valid.{IsRule}
-use Rattle.sel_terms.specs.Effects.{EffectShape}
-use Rattle.sel_terms.specs.RuleFacts.{size_at}
+use Rattle.sel_terms_meaning.specs.md_reader.specs.declared.types.Kind.{Kind}
+use Rattle.sel_terms_meaning.specs.md_reader.specs.declared.types.Kind.TheVariants as kind
+use Rattle.sel_terms_meaning.specs.md_reader.specs.declared.types.Class.{Class}
+use Rattle.sel_terms_meaning.specs.md_reader.specs.declared.types.Sym.{Sym}
+use Rattle.sel_terms_meaning.specs.md_reader.specs.declared.types.Sym.TheVariants as grammar_symbol
+use Rattle.sel_terms_meaning.specs.md_reader.specs.declared.types.Give.{Give}
+use Rattle.sel_terms_meaning.specs.md_reader.specs.declared.types.Give.TheVariants as give
+use Rattle.sel_terms_meaning.specs.md_reader.specs.declared.types.Rule.{Rule}
+use Rattle.sel_terms_meaning.specs.md_reader.specs.Patterns.{kind_at}
+use Rattle.sel_terms_meaning.specs.md_reader.specs.Valid.{IsRule}
+use Rattle.sel_terms_meaning.specs.sel_terms.specs.Effects.{EffectShape}
+use Rattle.sel_terms_meaning.specs.sel_terms.specs.RuleFacts.{size_at}
 use Rattle.sel_target.specs.declared.attr.Attr.{Attr}
 use Rattle.sel_target.specs.declared.attr.Attr.TheVariants as attr
 use Rattle.sel_target.specs.Meaning.{Meaning, Spot, RegAt, touches}

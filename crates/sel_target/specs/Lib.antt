@@ -15,7 +15,10 @@ pub mod Symbols
 pub mod TemplateLaws
 pub mod Values
 pub use Rattle.sel_terms_meaning
-pub use Rattle.md_reader
-pub use Rattle.sel_terms
+pub use Rattle.sel_terms_meaning.specs.md_reader as md_reader
+pub use Rattle.sel_terms_meaning.specs.sel_terms as sel_terms
 pub use Rattle.md_reader_pieces
 pub use Rattle.tree_meaning
+pub use Rattle.sel_terms_meaning.specs.term_core_accesses as term_core_accesses
+pub use Rattle.tree_core
+pub use Rattle.sel_terms_meaning.specs.term_core as term_core

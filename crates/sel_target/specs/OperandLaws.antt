@@ -10,14 +10,14 @@ use Rattle.tree_core.specs.Area.{fetched}
 use Rattle.tree_meaning.specs.State.{State, Extent}
 use Rattle.md_reader_pieces.specs.declared.piece.Line.{Line}
 use Rattle.md_reader_pieces.specs.declared.piece.Piece.TheVariants as piece
-use Rattle.md_reader.specs.declared.types.Kind.{Kind}
-use Rattle.md_reader.specs.declared.types.Kind.TheVariants as kind
-use Rattle.md_reader.specs.declared.types.Class.{Class}
-use Rattle.md_reader.specs.declared.types.Give.TheVariants as give
-use Rattle.md_reader.specs.declared.types.Rule.{Rule}
-use Rattle.md_reader.specs.Patterns.{kind_at}
-use Rattle.md_reader.specs.Valid.{IsRule}
-use Rattle.sel_terms.specs.Effects.{EffectShape}
+use Rattle.sel_terms_meaning.specs.md_reader.specs.declared.types.Kind.{Kind}
+use Rattle.sel_terms_meaning.specs.md_reader.specs.declared.types.Kind.TheVariants as kind
+use Rattle.sel_terms_meaning.specs.md_reader.specs.declared.types.Class.{Class}
+use Rattle.sel_terms_meaning.specs.md_reader.specs.declared.types.Give.TheVariants as give
+use Rattle.sel_terms_meaning.specs.md_reader.specs.declared.types.Rule.{Rule}
+use Rattle.sel_terms_meaning.specs.md_reader.specs.Patterns.{kind_at}
+use Rattle.sel_terms_meaning.specs.md_reader.specs.Valid.{IsRule}
+use Rattle.sel_terms_meaning.specs.sel_terms.specs.Effects.{EffectShape}
 use Rattle.sel_target.specs.declared.attr.Attr.{Attr}
 use Rattle.sel_target.specs.Meaning.{Meaning, Spot, touches}
 use Rattle.sel_target.specs.Values.{own_operand}

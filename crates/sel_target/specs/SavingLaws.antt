@@ -7,13 +7,13 @@ use Rattle.gg_base.specs.Sizes.{bytes_of, low}
 use Rattle.tree_core.specs.declared.program.TreeProgram.{TreeProgram}
 use Rattle.tree_meaning.specs.State.{Extent}
 use Rattle.md_reader_pieces.specs.declared.piece.Line.{Line}
-use Rattle.md_reader.specs.declared.types.Kind.{Kind}
-use Rattle.md_reader.specs.declared.types.Kind.TheVariants as kind
-use Rattle.md_reader.specs.Valid.{IsSpill}
+use Rattle.sel_terms_meaning.specs.md_reader.specs.declared.types.Kind.{Kind}
+use Rattle.sel_terms_meaning.specs.md_reader.specs.declared.types.Kind.TheVariants as kind
+use Rattle.sel_terms_meaning.specs.md_reader.specs.Valid.{IsSpill}
 use Rattle.sel_terms_meaning.specs.term_core.specs.Shape.{Shape, Symbol}
 use Rattle.sel_terms_meaning.specs.term_core.specs.Norm.{norm}
-use Rattle.sel_terms.specs.Effects.{EffectShape, Value, StoreHome}
-use Rattle.sel_terms.specs.RuleFacts.{saved_facts, size_of_saved}
+use Rattle.sel_terms_meaning.specs.sel_terms.specs.Effects.{EffectShape, Value, StoreHome}
+use Rattle.sel_terms_meaning.specs.sel_terms.specs.RuleFacts.{saved_facts, size_of_saved}
 use Rattle.sel_terms_meaning.specs.Alike.{IsNarrowEffect}
 use Rattle.sel_target.specs.declared.attr.Attr.{Attr}
 use Rattle.sel_target.specs.declared.attr.Attr.TheVariants as attr

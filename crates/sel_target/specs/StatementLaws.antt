@@ -13,10 +13,10 @@ use Rattle.tree_meaning.specs.declared.value.Meaning.TheVariants as meaning
 use Rattle.tree_meaning.specs.Deeds.{Deed, Puts, Branches, Pushes, Returns as Leaves, Calls as Enters, Saves, Jumps}
 use Rattle.tree_meaning.specs.Steps as steps
 use Rattle.tree_meaning.specs.Steps.{Step, deed_step}
-use Rattle.md_reader.specs.declared.types.Class.{Class}
-use Rattle.md_reader.specs.declared.types.Rule.{Rule}
-use Rattle.md_reader.specs.declared.types.Restriction.{Restriction}
-use Rattle.sel_terms.specs.Effects.{ActShape, EffectShape, StoreHome, StoreAt, Branch, Push, Call, Save, Return, Jump}
+use Rattle.sel_terms_meaning.specs.md_reader.specs.declared.types.Class.{Class}
+use Rattle.sel_terms_meaning.specs.md_reader.specs.declared.types.Rule.{Rule}
+use Rattle.sel_terms_meaning.specs.md_reader.specs.declared.types.Restriction.{Restriction}
+use Rattle.sel_terms_meaning.specs.sel_terms.specs.Effects.{ActShape, EffectShape, StoreHome, StoreAt, Branch, Push, Call, Save, Return, Jump}
 use Rattle.sel_target.specs.declared.attr.Attr.{Attr}
 use Rattle.sel_target.specs.declared.attr.Attr.TheVariants as attr
 use Rattle.sel_target.specs.Courses.{Course, Comes, Goes, Calls, Returns, ends, comes}

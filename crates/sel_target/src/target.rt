@@ -2,8 +2,8 @@
 
 ghost use Rattle.std.specs.Prelude.{◌≡◌, ◌<◌, IfOk, IfErr, Ok, true};
 ghost use Rattle.gg_base.specs.declared.limits.TheConstants.{NEED_LIMIT};
-ghost use Rattle.md_reader.specs.Valid.{IsRule, IsSpill};
-ghost use Rattle.sel_terms.specs.Effects.{effect_of};
+ghost use Rattle.sel_terms_meaning.specs.md_reader.specs.Valid.{IsRule, IsSpill};
+ghost use Rattle.sel_terms_meaning.specs.sel_terms.specs.Effects.{effect_of};
 ghost use Rattle.sel_target.specs.Meaning.{Meaning};
 ghost use Rattle.sel_target.specs.Calls.{IsFaultOf, can_be_saved};
 ghost use Rattle.sel_target.specs.Laws.{IsLawful};
@@ -11,8 +11,7 @@ ghost use Rattle.sel_target.specs.Laws.{IsLawful};
 use crate::attr::Attr;
 use crate::fault::TargetFault;
 use gg_base::NoMemory;
-use md_reader::{Class, Kind, Line, Rule};
-use sel_terms::Effect;
+use sel_terms_meaning::{Class, Effect, Kind, Line, Rule};
 use std::alloc::Global;
 use tree_core::TreeProgram;
 

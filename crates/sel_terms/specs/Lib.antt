@@ -7,3 +7,7 @@ pub mod Stack
 pub mod Text
 pub mod RuleFacts
 pub mod Same
+pub use Rattle.gg_base
+pub use Rattle.tree_core
+pub use Rattle.md_reader
+pub use Rattle.term_core

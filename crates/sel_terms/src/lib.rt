@@ -12,6 +12,7 @@ mod stack;
 
 pub use effect::{Act, Effect, norm_effect};
 pub use known::{rule_facts, saved_facts, size_of_symbol};
+pub use md_reader::{Class, Kind, Line, Rule};
 pub use pattern::pattern_effect;
 pub use same::{same_effect, same_size};
 pub use show::show_effect;

@@ -1,13 +1,13 @@
 -- Effects of one normal form.
 use Rattle.std.proofs.Common.{◌≡◌, ◌↔◌, ℕ, ◌==◌, List, [], ◌∷◌, map, Bool, true, refl, sym, ap, ◌∙◌, subst}
 use Rattle.std.specs.Prelude.{◌||◌}
-use Rattle.term_core.specs.declared.facts.Fact.{Fact}
-use Rattle.term_core.specs.Facts.{same_as}
-use Rattle.term_core.specs.Shape.{Shape}
-use Rattle.term_core.specs.Norm.{norm}
-use Rattle.term_core.specs.Normal.{AreSettled}
-use Rattle.term_core.specs.Value.{State, value, Respects}
-use Rattle.term_core.proofs.Keeping.{norm_keeps}
+use Rattle.sel_terms.specs.term_core.specs.declared.facts.Fact.{Fact}
+use Rattle.sel_terms.specs.term_core.specs.Facts.{same_as}
+use Rattle.sel_terms.specs.term_core.specs.Shape.{Shape}
+use Rattle.sel_terms.specs.term_core.specs.Norm.{norm}
+use Rattle.sel_terms.specs.term_core.specs.Normal.{AreSettled}
+use Rattle.sel_terms.specs.term_core.specs.Value.{State, value, Respects}
+use Rattle.sel_terms.specs.term_core.proofs.Keeping.{norm_keeps}
 use Rattle.term_core_accesses.specs.Accesses.{Access, divides_well, accesses, IsOneOf, Safe}
 use Rattle.term_core_accesses.specs.Keeping.{IsNarrow, KeepsAccesses}
 use Rattle.term_core_accesses.proofs.Keeping.{norm_keeps_accesses}

@@ -1,15 +1,15 @@
 -- The constants of a pattern's effect are longwords.
 use Rattle.std.proofs.Common.{ℕ, ◌+◌, ◌<◌, ◌^◌, List, [], ◌∷◌, ◌++◌, Option, Some, None, arith}
-use Rattle.gg_base.proofs.Words.{zero_small}
-use Rattle.tree_core.specs.declared.token.Tok.{Tok}
-use Rattle.tree_core.specs.declared.token.Tok.TheVariants as tok
-use Rattle.md_reader.specs.declared.types.Kind.{Kind}
-use Rattle.md_reader.specs.declared.types.Kind.TheVariants as kind
-use Rattle.md_reader.specs.declared.types.Class.{Class}
-use Rattle.md_reader.specs.declared.types.Sym.{Sym}
-use Rattle.md_reader.specs.declared.types.Sym.TheVariants as grammar_symbol
-use Rattle.md_reader.specs.Patterns.{kind_at}
-use Rattle.term_core.specs.Shape.{Shape}
+use Rattle.sel_terms.specs.gg_base.proofs.Words.{zero_small}
+use Rattle.sel_terms.specs.tree_core.specs.declared.token.Tok.{Tok}
+use Rattle.sel_terms.specs.tree_core.specs.declared.token.Tok.TheVariants as tok
+use Rattle.sel_terms.specs.md_reader.specs.declared.types.Kind.{Kind}
+use Rattle.sel_terms.specs.md_reader.specs.declared.types.Kind.TheVariants as kind
+use Rattle.sel_terms.specs.md_reader.specs.declared.types.Class.{Class}
+use Rattle.sel_terms.specs.md_reader.specs.declared.types.Sym.{Sym}
+use Rattle.sel_terms.specs.md_reader.specs.declared.types.Sym.TheVariants as grammar_symbol
+use Rattle.sel_terms.specs.md_reader.specs.Patterns.{kind_at}
+use Rattle.sel_terms.specs.term_core.specs.Shape.{Shape}
 use Rattle.sel_terms.specs.declared.role.Role.{Role}
 use Rattle.sel_terms.specs.declared.role.Role.TheVariants as role
 use Rattle.sel_terms.specs.declared.role.LeafRole.{LeafRole}

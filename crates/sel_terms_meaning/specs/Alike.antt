@@ -1,14 +1,14 @@
 -- Effects of one normal form do the same, so a template that is accepted does what its rule's pattern does.
 use Rattle.std.specs.Prelude.{◌≡◌, ◌↔◌, ℕ, List, [], ◌∷◌, Bool, true}
-use Rattle.term_core.specs.declared.facts.Fact.{Fact}
-use Rattle.term_core.specs.Facts.{same_as}
-use Rattle.term_core.specs.Shape.{Shape}
-use Rattle.term_core.specs.Normal.{AreSettled}
-use Rattle.term_core.specs.Value.{State, value, Respects}
+use Rattle.sel_terms.specs.term_core.specs.declared.facts.Fact.{Fact}
+use Rattle.sel_terms.specs.term_core.specs.Facts.{same_as}
+use Rattle.sel_terms.specs.term_core.specs.Shape.{Shape}
+use Rattle.sel_terms.specs.term_core.specs.Normal.{AreSettled}
+use Rattle.sel_terms.specs.term_core.specs.Value.{State, value, Respects}
 use Rattle.term_core_accesses.specs.Accesses.{Access, divides_well, accesses, IsOneOf, Safe}
 use Rattle.term_core_accesses.specs.Keeping.{IsNarrow}
-use Rattle.md_reader.specs.declared.types.Class.{Class}
-use Rattle.md_reader.specs.declared.types.Rule.{Rule}
+use Rattle.sel_terms.specs.md_reader.specs.declared.types.Class.{Class}
+use Rattle.sel_terms.specs.md_reader.specs.declared.types.Rule.{Rule}
 use Rattle.sel_terms.specs.Effects.{ActShape, EffectShape, Value, Number, Address, PlaceHome, PlaceAt, StoreHome}
 use Rattle.sel_terms.specs.Effects.{StoreAt, Branch, Push, Call, Save, Return, Jump, norm_effect}
 use Rattle.sel_terms.specs.Reading.{effect_read}

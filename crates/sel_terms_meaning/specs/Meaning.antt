@@ -1,11 +1,11 @@
 -- What an effect makes of a state: its act over numbers, and the numbers that it divides by.
 use Rattle.std.specs.Prelude.{ℕ, ◌==◌, List, [], ◌∷◌, map, Bool}
 use Rattle.std.specs.List.{list_any}
-use Rattle.gg_base.specs.declared.size.Size.{Size}
-use Rattle.term_core.specs.declared.facts.Fact.{Fact}
-use Rattle.term_core.specs.Facts.{same_as}
-use Rattle.term_core.specs.Shape.{Shape}
-use Rattle.term_core.specs.Value.{State, value}
+use Rattle.sel_terms.specs.gg_base.specs.declared.size.Size.{Size}
+use Rattle.sel_terms.specs.term_core.specs.declared.facts.Fact.{Fact}
+use Rattle.sel_terms.specs.term_core.specs.Facts.{same_as}
+use Rattle.sel_terms.specs.term_core.specs.Shape.{Shape}
+use Rattle.sel_terms.specs.term_core.specs.Value.{State, value}
 use Rattle.term_core_accesses.specs.Accesses.{Safe}
 use Rattle.sel_terms.specs.Effects as effects
 use Rattle.sel_terms.specs.Effects.{ActShape, EffectShape}

@@ -4,6 +4,8 @@
 
 ghost use Rattle.sel_terms_meaning.specs.Alike.{NormKeepsEffects, ShownIsAlike, WantedIsNarrow};
 
+pub use sel_terms::{Class, Effect, Kind, Line, Rule};
+
 /// An effect and its normal form under a rule's facts do the same and read the same memory.
 pub fn norm_keeps_effects()
     ensures { NormKeepsEffects }

@@ -12,18 +12,18 @@ use Rattle.tree_meaning.specs.Values.{Sight, meanings}
 use Rattle.tree_meaning.specs.Deeds.{Deed, Puts, Branches, Pushes, Returns, Calls, Saves, Jumps, Traps, Strays}
 use Rattle.tree_meaning_tame.specs.Tame.{Tame, tree_means}
 use Rattle.tree_meaning_tame.specs.Claims.{statement_deed}
-use Rattle.md_reader.specs.declared.types.Kind.{Kind}
-use Rattle.md_reader.specs.declared.types.Kind.TheVariants as kind
-use Rattle.md_reader.specs.declared.types.Class.{Class}
-use Rattle.md_reader.specs.declared.types.Rule.{Rule}
-use Rattle.md_reader.specs.declared.types.Sym.{Sym}
-use Rattle.md_reader.specs.declared.types.Sym.TheVariants as grammar_symbol
-use Rattle.md_reader.specs.Patterns.{sort_of_kind, kind_at, Trees, no_tree, onto, sorted_test}
+use Rattle.sel_terms_meaning.specs.md_reader.specs.declared.types.Kind.{Kind}
+use Rattle.sel_terms_meaning.specs.md_reader.specs.declared.types.Kind.TheVariants as kind
+use Rattle.sel_terms_meaning.specs.md_reader.specs.declared.types.Class.{Class}
+use Rattle.sel_terms_meaning.specs.md_reader.specs.declared.types.Rule.{Rule}
+use Rattle.sel_terms_meaning.specs.md_reader.specs.declared.types.Sym.{Sym}
+use Rattle.sel_terms_meaning.specs.md_reader.specs.declared.types.Sym.TheVariants as grammar_symbol
+use Rattle.sel_terms_meaning.specs.md_reader.specs.Patterns.{sort_of_kind, kind_at, Trees, no_tree, onto, sorted_test}
 use Rattle.term_core.specs.Value.{State}
-use Rattle.sel_terms.specs.Effects.{EffectShape}
-use Rattle.sel_terms.specs.Parts.{SubtreeShape}
-use Rattle.sel_terms.specs.Wanted.{first_part}
-use Rattle.sel_terms.specs.Reading.{stack_from, effect_read}
+use Rattle.sel_terms_meaning.specs.sel_terms.specs.Effects.{EffectShape}
+use Rattle.sel_terms_meaning.specs.sel_terms.specs.Parts.{SubtreeShape}
+use Rattle.sel_terms_meaning.specs.sel_terms.specs.Wanted.{first_part}
+use Rattle.sel_terms_meaning.specs.sel_terms.specs.Reading.{stack_from, effect_read}
 use Rattle.sel_terms_trees.specs.Senses.{Sense, OfLeaf, IsSense, Sensed, StandsFor}
 use Rattle.sel_terms_trees.specs.Senses as sense
 use Rattle.sel_terms_trees.specs.Effects.{GivesBy, TrapsBy}

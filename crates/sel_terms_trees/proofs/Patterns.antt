@@ -12,16 +12,16 @@ use Rattle.tree_core.specs.Trees.{Forest, tree, sort_fits}
 use Rattle.tree_meaning.specs.declared.value.Meaning.{Meaning}
 use Rattle.tree_meaning.specs.declared.value.Meaning.TheVariants.{Of, Local, Argument, Memory}
 use Rattle.tree_meaning.specs.Values.{Sight, read, meanings}
-use Rattle.md_reader.specs.declared.types.Kind.{Kind}
-use Rattle.md_reader.specs.declared.types.Kind.TheVariants as kind
-use Rattle.md_reader.specs.declared.types.Class.{Class}
-use Rattle.md_reader.specs.declared.types.Sym.{Sym}
-use Rattle.md_reader.specs.declared.types.Sym.TheVariants as grammar_symbol
-use Rattle.md_reader.specs.Patterns.{sort_of_kind, kind_at, Trees, no_tree, onto, sorted_test}
+use Rattle.sel_terms_meaning.specs.md_reader.specs.declared.types.Kind.{Kind}
+use Rattle.sel_terms_meaning.specs.md_reader.specs.declared.types.Kind.TheVariants as kind
+use Rattle.sel_terms_meaning.specs.md_reader.specs.declared.types.Class.{Class}
+use Rattle.sel_terms_meaning.specs.md_reader.specs.declared.types.Sym.{Sym}
+use Rattle.sel_terms_meaning.specs.md_reader.specs.declared.types.Sym.TheVariants as grammar_symbol
+use Rattle.sel_terms_meaning.specs.md_reader.specs.Patterns.{sort_of_kind, kind_at, Trees, no_tree, onto, sorted_test}
 use Rattle.term_core.specs.Shape.{Symbol}
 use Rattle.term_core.specs.Value.{State}
-use Rattle.sel_terms.specs.Parts.{SubtreeShape, Worth, Home, role_of_kind, leaf_part}
-use Rattle.sel_terms.specs.Reading.{below, stack_from}
+use Rattle.sel_terms_meaning.specs.sel_terms.specs.Parts.{SubtreeShape, Worth, Home, role_of_kind, leaf_part}
+use Rattle.sel_terms_meaning.specs.sel_terms.specs.Reading.{below, stack_from}
 use Rattle.sel_terms_trees.specs.Senses.{Sense, OfLeaf, OfPlace, IsPlace, IsNumber, IsSense, sense_at, means, Sensed, StandsFor}
 use Rattle.tree_meaning_tame.specs.Tame.{tree_means}
 use Rattle.sel_terms_trees.specs.Senses as sense

@@ -19,17 +19,17 @@ use Rattle.tree_meaning.specs.declared.value.Value.TheVariants.{Number, ZeroDivi
 use Rattle.tree_meaning.specs.declared.value.Meaning.{Meaning}
 use Rattle.tree_meaning.specs.declared.value.Meaning.TheVariants.{Of, Local, Argument, Memory}
 use Rattle.tree_meaning.specs.Values.{Sight, read, kid, at, token_means, meanings}
-use Rattle.md_reader.specs.declared.types.Kind.{Kind}
-use Rattle.md_reader.specs.declared.types.Kind.TheVariants as kind
-use Rattle.md_reader.specs.declared.types.Class.{Class}
-use Rattle.md_reader.specs.declared.types.Sym.{Sym}
-use Rattle.md_reader.specs.Patterns.{sort_of_kind, kind_at, Trees, onto, sorted_test}
+use Rattle.sel_terms_meaning.specs.md_reader.specs.declared.types.Kind.{Kind}
+use Rattle.sel_terms_meaning.specs.md_reader.specs.declared.types.Kind.TheVariants as kind
+use Rattle.sel_terms_meaning.specs.md_reader.specs.declared.types.Class.{Class}
+use Rattle.sel_terms_meaning.specs.md_reader.specs.declared.types.Sym.{Sym}
+use Rattle.sel_terms_meaning.specs.md_reader.specs.Patterns.{sort_of_kind, kind_at, Trees, onto, sorted_test}
 use Rattle.term_core.specs.Shape.{Shape}
 use Rattle.term_core.specs.Value.{State}
-use Rattle.sel_terms.specs.Effects.{EffectShape}
-use Rattle.sel_terms.specs.Parts.{PartShape, SubtreeShape, Worth, Home, At, Does}
-use Rattle.sel_terms.specs.Wanted.{first_part, whole}
-use Rattle.sel_terms.specs.Reading.{stack_from}
+use Rattle.sel_terms_meaning.specs.sel_terms.specs.Effects.{EffectShape}
+use Rattle.sel_terms_meaning.specs.sel_terms.specs.Parts.{PartShape, SubtreeShape, Worth, Home, At, Does}
+use Rattle.sel_terms_meaning.specs.sel_terms.specs.Wanted.{first_part, whole}
+use Rattle.sel_terms_meaning.specs.sel_terms.specs.Reading.{stack_from}
 use Rattle.sel_terms_trees.specs.Senses.{Sense, OfNumber, OfPlace, IsPlace, IsSense, Sensed, StandsFor}
 use Rattle.tree_meaning_tame.specs.Tame.{tree_means}
 use Rattle.sel_terms_trees.specs.Senses as sense

@@ -17,14 +17,14 @@ use Rattle.tree_meaning.specs.declared.value.Value.TheVariants.{Number, ZeroDivi
 use Rattle.tree_meaning.specs.declared.value.Meaning.{Meaning}
 use Rattle.tree_meaning.specs.declared.value.Meaning.TheVariants.{Of, Local, Argument, Memory}
 use Rattle.tree_meaning.specs.Values.{Sight, kid}
-use Rattle.md_reader.specs.declared.types.Kind.TheVariants as kind
+use Rattle.sel_terms_meaning.specs.md_reader.specs.declared.types.Kind.TheVariants as kind
 use Rattle.term_core.specs.Shape.{Shape}
 use Rattle.term_core.specs.Value.{State}
-use Rattle.sel_terms.specs.declared.role.OneRole.TheVariants as one_role
-use Rattle.sel_terms.specs.declared.role.TwoRole.TheVariants as two_role
-use Rattle.sel_terms.specs.Parts.{PartShape, SubtreeShape, Worth, Home, At, Does, role_of_token, value_of}
-use Rattle.sel_terms.specs.Wanted.{one, two, first_part}
-use Rattle.sel_terms.specs.Reading.{below, step}
+use Rattle.sel_terms_meaning.specs.sel_terms.specs.declared.role.OneRole.TheVariants as one_role
+use Rattle.sel_terms_meaning.specs.sel_terms.specs.declared.role.TwoRole.TheVariants as two_role
+use Rattle.sel_terms_meaning.specs.sel_terms.specs.Parts.{PartShape, SubtreeShape, Worth, Home, At, Does, role_of_token, value_of}
+use Rattle.sel_terms_meaning.specs.sel_terms.specs.Wanted.{one, two, first_part}
+use Rattle.sel_terms_meaning.specs.sel_terms.specs.Reading.{below, step}
 use Rattle.tree_meaning.specs.Deeds.{Deed, Puts, Branches, Pushes, Returns, Traps, Strays, given, assigned, branched, deed_of}
 use Rattle.sel_terms_trees.specs.Senses.{Sense, OfLeaf, sense_at, att_of}
 use Rattle.sel_terms_trees.specs.Effects.{IsKnown, DoesBy, TrapsBy}

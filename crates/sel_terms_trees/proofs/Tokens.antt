@@ -34,12 +34,12 @@ use Rattle.term_core.specs.Operators.{unary, binary}
 use Rattle.term_core.specs.Shape.{Shape, Constant, Symbol, Unary, Binary}
 use Rattle.term_core.specs.Value.{State, value}
 use Rattle.term_core.proofs.Values
-use Rattle.sel_terms.specs.declared.role.OneRole.TheVariants as one_role
-use Rattle.sel_terms.specs.declared.role.TwoRole.{TwoRole}
-use Rattle.sel_terms.specs.declared.role.TwoRole.TheVariants as two_role
-use Rattle.sel_terms.specs.Parts.{PartShape, Worth, Home, At, Does, SubtreeShape, role_of_token, value_of}
-use Rattle.sel_terms.specs.Wanted.{one, two, first_part}
-use Rattle.sel_terms.specs.Reading.{below, step}
+use Rattle.sel_terms_meaning.specs.sel_terms.specs.declared.role.OneRole.TheVariants as one_role
+use Rattle.sel_terms_meaning.specs.sel_terms.specs.declared.role.TwoRole.{TwoRole}
+use Rattle.sel_terms_meaning.specs.sel_terms.specs.declared.role.TwoRole.TheVariants as two_role
+use Rattle.sel_terms_meaning.specs.sel_terms.specs.Parts.{PartShape, Worth, Home, At, Does, SubtreeShape, role_of_token, value_of}
+use Rattle.sel_terms_meaning.specs.sel_terms.specs.Wanted.{one, two, first_part}
+use Rattle.sel_terms_meaning.specs.sel_terms.specs.Reading.{below, step}
 use Rattle.sel_terms_trees.specs.Senses.{Sense, OfLeaf, IsPlace, sense_at, means, means_at, StandsFor}
 use Rattle.tree_meaning_tame.specs.Tame.{IsTame}
 use Rattle.tree_meaning_tame.proofs.Sorts.{sort_tame}

@@ -9,14 +9,14 @@ use Rattle.tree_meaning.specs.Values.{Sight}
 use Rattle.tree_meaning.specs.Deeds.{Deed, Traps, Strays}
 use Rattle.tree_meaning_tame.specs.Tame.{Tame, tree_means}
 use Rattle.tree_meaning_tame.specs.Claims.{statement_deed}
-use Rattle.md_reader.specs.declared.types.Kind.{Kind}
-use Rattle.md_reader.specs.declared.types.Kind.TheVariants as kind
-use Rattle.md_reader.specs.declared.types.Class.{Class}
-use Rattle.md_reader.specs.declared.types.Rule.{Rule}
-use Rattle.md_reader.specs.Patterns.{sort_of_kind, kind_at, Trees, onto, sorted_test}
+use Rattle.sel_terms_meaning.specs.md_reader.specs.declared.types.Kind.{Kind}
+use Rattle.sel_terms_meaning.specs.md_reader.specs.declared.types.Kind.TheVariants as kind
+use Rattle.sel_terms_meaning.specs.md_reader.specs.declared.types.Class.{Class}
+use Rattle.sel_terms_meaning.specs.md_reader.specs.declared.types.Rule.{Rule}
+use Rattle.sel_terms_meaning.specs.md_reader.specs.Patterns.{sort_of_kind, kind_at, Trees, onto, sorted_test}
 use Rattle.term_core.specs.Value.{State}
-use Rattle.sel_terms.specs.Effects.{EffectShape}
-use Rattle.sel_terms.specs.Reading.{effect_read}
+use Rattle.sel_terms_meaning.specs.sel_terms.specs.Effects.{EffectShape}
+use Rattle.sel_terms_meaning.specs.sel_terms.specs.Reading.{effect_read}
 use Rattle.sel_terms_trees.specs.Senses.{Sense, IsSense, Sensed, StandsFor}
 use Rattle.sel_terms_trees.specs.Effects.{GivesBy, DoesBy, TrapsBy}
 

@@ -6,8 +6,8 @@ use Rattle.tree_meaning.specs.declared.value.Meaning.TheVariants.{Memory}
 use Rattle.tree_meaning.specs.declared.value.Value.TheVariants as values
 use Rattle.tree_meaning.specs.Values.{Sight, read}
 use Rattle.term_core.specs.Value.{State, value}
-use Rattle.sel_terms.specs.Effects.{ActShape, EffectShape, Value, Number, Address, PlaceHome, PlaceAt, StoreHome, StoreAt, Branch, Push}
-use Rattle.sel_terms.specs.Effects.{Call, Save, Return, Jump}
+use Rattle.sel_terms_meaning.specs.sel_terms.specs.Effects.{ActShape, EffectShape, Value, Number, Address, PlaceHome, PlaceAt, StoreHome, StoreAt, Branch, Push}
+use Rattle.sel_terms_meaning.specs.sel_terms.specs.Effects.{Call, Save, Return, Jump}
 use Rattle.tree_meaning.specs.Deeds.{Deed, Puts, Branches, Pushes, Returns, Calls, Saves, Jumps}
 use Rattle.sel_terms_meaning.specs.Meaning.{AllSafe, SafeAct, divides_by_zero}
 use Rattle.sel_terms_trees.specs.Senses.{Sense, OfNumber, OfPlace, IsPlace, sense_at, att_of, means_at}

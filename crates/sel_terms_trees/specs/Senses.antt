@@ -15,11 +15,11 @@ use Rattle.tree_meaning.specs.declared.value.Meaning.{Meaning}
 use Rattle.tree_meaning.specs.declared.value.Meaning.TheVariants.{Of, Local, Argument, Memory}
 use Rattle.tree_meaning.specs.Values.{Sight, read, token_means}
 use Rattle.tree_meaning_tame.specs.Tame.{tree_means}
-use Rattle.md_reader.specs.declared.types.Kind.{Kind}
-use Rattle.md_reader.specs.declared.types.Kind.TheVariants as kind
-use Rattle.md_reader.specs.declared.types.Class.{Class}
-use Rattle.md_reader.specs.declared.types.Sym.TheVariants as grammar_symbol
-use Rattle.md_reader.specs.Patterns.{kind_at, kids_of, Trees, no_tree, node, sorted_test}
+use Rattle.sel_terms_meaning.specs.md_reader.specs.declared.types.Kind.{Kind}
+use Rattle.sel_terms_meaning.specs.md_reader.specs.declared.types.Kind.TheVariants as kind
+use Rattle.sel_terms_meaning.specs.md_reader.specs.declared.types.Class.{Class}
+use Rattle.sel_terms_meaning.specs.md_reader.specs.declared.types.Sym.TheVariants as grammar_symbol
+use Rattle.sel_terms_meaning.specs.md_reader.specs.Patterns.{kind_at, kids_of, Trees, no_tree, node, sorted_test}
 use Rattle.term_core.specs.Value.{State, memory_at}
 
 -- a token stands for its leaf, a class of places for a place, any other class for a number

@@ -3,13 +3,13 @@ use Rattle.std.proofs.Common.{◌≡◌, ℕ, ◌*◌, ◌^◌, ◌<◌, ◌==�
 use Rattle.std.specs.Prelude.{cond}
 use Rattle.std.specs.Int.{bit_at}
 use Rattle.std.proofs.lemmas.Bool.{eqb-true, false≢true}
-use Rattle.sel_terms.proofs.Alike.{number_is}
+use Rattle.sel_target.specs.sel_terms.proofs.Alike.{number_is}
 use Rattle.gg_base.specs.declared.size.Size.{Size}
 use Rattle.gg_base.specs.declared.size.Size.TheVariants.{Long}
 use Rattle.gg_base.specs.Sizes.{bytes_of}
 use Rattle.tree_core.specs.declared.program.TreeProgram.{TreeProgram}
 use Rattle.tree_core.specs.Area.{fetched}
-use Rattle.tree_meaning.specs.State.{State, Extent}
+use Rattle.sel_target.specs.tree_meaning.specs.State.{State, Extent}
 use Rattle.sel_target.specs.declared.attr.Attr.TheVariants as attr
 use Rattle.sel_target.specs.Courses.{comes}
 use Rattle.sel_target.specs.Meaning.{RegAt, WordAt, IsFree, touches}

@@ -10,7 +10,7 @@ use Rattle.gg_base.specs.declared.size.Size.TheVariants.{Byte, Word as Halfword,
 use Rattle.gg_base.specs.Sizes.{bytes_of}
 use Rattle.tree_core.specs.declared.program.TreeProgram.{TreeProgram}
 use Rattle.tree_core.specs.Area.{fetched}
-use Rattle.tree_meaning.specs.State.{State, Extent}
+use Rattle.sel_target.specs.tree_meaning.specs.State.{State, Extent}
 use Rattle.sel_target.specs.OperandLaws.{ReadsWhatIsThere}
 use Rattle.sel_toy_machine.specs.declared.operand.Operand.{Operand}
 use Rattle.sel_toy_machine.specs.declared.operand.Operand.TheVariants.{Register, Based, Word, Deferred, Argument, Number}

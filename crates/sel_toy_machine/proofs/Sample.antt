@@ -20,7 +20,7 @@ use Rattle.tree_core.specs.Valid.{PushesStand, main_takes_nothing, leaf_names, I
 use Rattle.md_reader.specs.declared.types.Sym.TheVariants as grammar_symbol
 use Rattle.md_reader.specs.Patterns.{no_tree, node}
 use Rattle.md_reader.specs.Valid.{IsRule}
-use Rattle.sel_terms.specs.RuleFacts.{size_at}
+use Rattle.sel_target.specs.sel_terms.specs.RuleFacts.{size_at}
 use Rattle.sel_target.specs.declared.attr.Attr.{Attr}
 use Rattle.sel_target.specs.Values.{worth, own_operand}
 use Rattle.sel_target.specs.Instances.{hole, IsWhole}

@@ -11,8 +11,8 @@ use Rattle.md_reader_pieces.specs.declared.piece.Line.{Line}
 use Rattle.md_reader.specs.declared.types.Kind.{Kind}
 use Rattle.md_reader.specs.declared.types.Kind.TheVariants as kind
 use Rattle.term_core.specs.Shape.{Shape, Symbol}
-use Rattle.sel_terms.specs.Effects.{ActShape, EffectShape, Value, StoreHome}
-use Rattle.sel_terms.proofs.Facts.{same_Value}
+use Rattle.sel_target.specs.sel_terms.specs.Effects.{ActShape, EffectShape, Value, StoreHome}
+use Rattle.sel_target.specs.sel_terms.proofs.Facts.{same_Value}
 use Rattle.sel_target.specs.sel_terms_meaning.specs.Alike.{IsNarrowEffect}
 use Rattle.sel_target.specs.declared.attr.Attr.{Attr}
 use Rattle.sel_target.specs.declared.attr.Attr.TheVariants as attr

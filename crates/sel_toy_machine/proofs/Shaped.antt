@@ -14,7 +14,7 @@ use Rattle.tree_core.specs.declared.tree.Att.TheVariants as att
 use Rattle.tree_core.specs.declared.program.TreeProgram.{TreeProgram}
 use Rattle.tree_core.specs.Area.{fetched}
 use Rattle.tree_core.specs.Attributes.{attribute_of, is_of_kind}
-use Rattle.tree_meaning.specs.State.{Extent}
+use Rattle.sel_target.specs.tree_meaning.specs.State.{Extent}
 use Rattle.md_reader_pieces.specs.declared.piece.Line.{Line}
 use Rattle.md_reader.specs.declared.types.Kind.{Kind}
 use Rattle.md_reader.specs.declared.types.Kind.TheVariants as kind
@@ -27,9 +27,9 @@ use Rattle.md_reader.specs.Patterns.{kind_at}
 use Rattle.md_reader.specs.Restrictions.{is_reg}
 use Rattle.term_core.specs.Shape.{Shape, Symbol, Memory, Binary}
 use Rattle.term_core.specs.declared.operator.BinaryOp.TheVariants as binary_op
-use Rattle.sel_terms.specs.Effects.{ActShape, EffectShape, Value, Number, Address, PlaceHome, PlaceAt, StoreHome, StoreAt, Branch, Push, Call, Save, Return, Jump}
-use Rattle.sel_terms.specs.RuleFacts.{size_of_some, size_at}
-use Rattle.sel_terms.proofs.Facts.{same_Value, size_behind}
+use Rattle.sel_target.specs.sel_terms.specs.Effects.{ActShape, EffectShape, Value, Number, Address, PlaceHome, PlaceAt, StoreHome, StoreAt, Branch, Push, Call, Save, Return, Jump}
+use Rattle.sel_target.specs.sel_terms.specs.RuleFacts.{size_of_some, size_at}
+use Rattle.sel_target.specs.sel_terms.proofs.Facts.{same_Value, size_behind}
 use Rattle.sel_target.specs.declared.attr.Attr.{Attr}
 use Rattle.sel_target.specs.declared.attr.Attr.TheVariants as attr
 use Rattle.sel_target.specs.Values.{View, value, worth, own_operand}
@@ -221,7 +221,7 @@ register_size : (classes : List Class) (o : Option Sym) → holds_register class
 register_size classes None e = refl
 register_size classes (Some (grammar_symbol.Tok x)) e = refl
 register_size classes (Some (grammar_symbol.Class c)) e = by (kind_at classes c) e where
-  by : (k : Option Kind) → is_reg k ≡ true → Rattle.sel_terms.specs.RuleFacts.size_of_kind k ≡ Long
+  by : (k : Option Kind) → is_reg k ≡ true → Rattle.sel_target.specs.sel_terms.specs.RuleFacts.size_of_kind k ≡ Long
   by None h = refl
   by (Some kind.Reg) h = refl
   by (Some (kind.Value size)) h = absurd (false≢true h)

@@ -17,13 +17,13 @@ use Rattle.tree_core.specs.declared.program.TreeProgram.{TreeProgram}
 use Rattle.tree_core.specs.Area.{is_inside, stored}
 use Rattle.tree_core.specs.Valid.{args_of, args_or, service_args, takes}
 use Rattle.tree_core.specs.Names.{label_name, function_label}
-use Rattle.tree_meaning.specs.State.{State, Extent}
+use Rattle.sel_target.specs.tree_meaning.specs.State.{State, Extent}
 use Rattle.gg_base.specs.declared.run.Finish.TheVariants as finish
-use Rattle.tree_meaning.specs.declared.value.Meaning.{Meaning as Place}
-use Rattle.tree_meaning.specs.declared.value.Meaning.TheVariants as meaning
-use Rattle.tree_meaning.specs.Deeds.{Deed, Puts, Branches, Pushes, Returns as Leaves, Calls as CallDeed, Saves, Jumps, Traps, Strays}
-use Rattle.tree_meaning.specs.Steps.{Goes as GoesOn, GoesTo, Enters, Ends, strays, with_local_set, with_argument_set, with_pushed, without_pushed}
-use Rattle.tree_meaning.specs.Steps.{deed_step, put_in, wrote, got, called_as, served}
+use Rattle.sel_target.specs.tree_meaning.specs.declared.value.Meaning.{Meaning as Place}
+use Rattle.sel_target.specs.tree_meaning.specs.declared.value.Meaning.TheVariants as meaning
+use Rattle.sel_target.specs.tree_meaning.specs.Deeds.{Deed, Puts, Branches, Pushes, Returns as Leaves, Calls as CallDeed, Saves, Jumps, Traps, Strays}
+use Rattle.sel_target.specs.tree_meaning.specs.Steps.{Goes as GoesOn, GoesTo, Enters, Ends, strays, with_local_set, with_argument_set, with_pushed, without_pushed}
+use Rattle.sel_target.specs.tree_meaning.specs.Steps.{deed_step, put_in, wrote, got, called_as, served}
 use Rattle.md_reader_pieces.specs.declared.piece.Line.{Line}
 use Rattle.md_reader.specs.declared.types.Class.{Class}
 use Rattle.md_reader.specs.declared.types.Rule.{Rule}
@@ -32,7 +32,7 @@ use Rattle.md_reader.specs.declared.types.Kind.TheVariants as kind
 use Rattle.md_reader.specs.Patterns.{kind_at}
 use Rattle.term_core.specs.declared.operator.BinaryOp.TheVariants as binary_op
 use Rattle.term_core.specs.Shape.{Shape, Symbol, Memory, Binary}
-use Rattle.sel_terms.specs.Effects.{ActShape, EffectShape, Value, Number, Address, PlaceHome, PlaceAt, StoreHome, StoreAt, Branch, Push, Call, Save, Return, Jump}
+use Rattle.sel_target.specs.sel_terms.specs.Effects.{ActShape, EffectShape, Value, Number, Address, PlaceHome, PlaceAt, StoreHome, StoreAt, Branch, Push, Call, Save, Return, Jump}
 use Rattle.sel_target.specs.declared.attr.Attr.{Attr}
 use Rattle.sel_target.specs.Courses.{Course, Goes, Calls, Breaks, ends, comes, followed}
 use Rattle.sel_target.specs.Values.{View, value, PlaceIs, local as is_local, argument as is_argument, memory as is_memory}

@@ -9,7 +9,7 @@ use Rattle.gg_base.specs.Sizes.{bytes_of}
 use Rattle.tree_core.specs.declared.program.TreeFn.{TreeFn}
 use Rattle.tree_core.specs.declared.program.TreeProgram.{TreeProgram}
 use Rattle.tree_core.specs.Area.{fetched}
-use Rattle.tree_meaning.specs.State.{State, Extent}
+use Rattle.sel_target.specs.tree_meaning.specs.State.{State, Extent}
 use Rattle.md_reader.specs.declared.types.Kind.{Kind}
 use Rattle.md_reader.specs.declared.types.Kind.TheVariants as kind
 use Rattle.sel_toy_machine.specs.declared.operand.Operand.{Operand}

@@ -7,7 +7,7 @@ use Rattle.tree_core.specs.declared.program.TreeItem.TheVariants as tree_item
 use Rattle.tree_core.specs.declared.program.TreeFn.{TreeFn}
 use Rattle.tree_core.specs.declared.program.TreeProgram.{TreeProgram}
 use Rattle.tree_core.specs.Attributes.{end_leaf}
-use Rattle.tree_meaning.specs.State.{begun, Extent}
+use Rattle.sel_target.specs.tree_meaning.specs.State.{begun, Extent}
 use Rattle.md_reader_pieces.specs.declared.piece.Piece.TheVariants as piece
 use Rattle.md_reader.specs.declared.types.Kind.TheVariants as kind
 use Rattle.md_reader.specs.declared.types.Class.{Class}

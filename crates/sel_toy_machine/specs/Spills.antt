@@ -6,7 +6,7 @@ use Rattle.md_reader_pieces.specs.declared.piece.Line.{Line}
 use Rattle.md_reader.specs.declared.types.Kind.{Kind}
 use Rattle.md_reader.specs.declared.types.Kind.TheVariants as kind
 use Rattle.term_core.specs.Shape.{Symbol}
-use Rattle.sel_terms.specs.Effects.{EffectShape, Value, StoreHome}
+use Rattle.sel_target.specs.sel_terms.specs.Effects.{EffectShape, Value, StoreHome}
 use Rattle.sel_target.specs.Meaning.{Fault}
 use Rattle.sel_toy_machine.specs.declared.form.Form.{Form}
 use Rattle.sel_toy_machine.specs.declared.form.Form.TheVariants as form

@@ -19,8 +19,8 @@ use Rattle.md_reader.specs.Patterns.{kind_at}
 use Rattle.md_reader.specs.Restrictions.{is_reg}
 use Rattle.term_core.specs.declared.operator.BinaryOp.TheVariants as binary_op
 use Rattle.term_core.specs.Shape.{Symbol, Memory, Binary}
-use Rattle.sel_terms.specs.Effects.{ActShape, EffectShape, Value, Number, Address, PlaceHome, PlaceAt, StoreHome}
-use Rattle.sel_terms.specs.Effects.{StoreAt, Branch, Push, Call, Save, Return, Jump}
+use Rattle.sel_target.specs.sel_terms.specs.Effects.{ActShape, EffectShape, Value, Number, Address, PlaceHome, PlaceAt, StoreHome}
+use Rattle.sel_target.specs.sel_terms.specs.Effects.{StoreAt, Branch, Push, Call, Save, Return, Jump}
 use Rattle.sel_target.specs.declared.fault.TemplateKind.TheVariants as template_kind
 use Rattle.sel_target.specs.Meaning.{Fault}
 use Rattle.sel_target.specs.EffectTerms.{begins_with_save}

@@ -29,7 +29,7 @@ use Rattle.tree_meaning.specs.State.{Activation, begun, Extent}
 use Rattle.tree_meaning.specs.State.{State as Trees}
 use Rattle.vax_machine_live.proofs.OwnerLaws.{front_get}
 use Rattle.vax_states.specs.Stack.{long_at, argument_of, Holds, Hold, caller, SameFrom}
-use Rattle.vax_machine_lists.specs.Sound.{IsSound}
+use Rattle.vax_states.specs.vax_machine_lists.specs.Sound.{IsSound}
 use Rattle.vax_states.specs.Agreeing.{AreLabelled, Agrees, HasRoom}
 use Rattle.vax_frames_law.specs.Calling.{IsMask}
 use Rattle.vax_states.proofs.Pieces.{stored_there, stored_below, holds_kept, hold_kept}

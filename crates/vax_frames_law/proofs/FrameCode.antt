@@ -14,10 +14,10 @@ use Rattle.vax_machine.specs.Operands.{evaluated, located, taken, stored}
 use Rattle.vax_machine.specs.Functions.{valued}
 use Rattle.tree_core.specs.declared.program.Object.{Object}
 use Rattle.tree_meaning.specs.State.{State as Trees, Extent}
-use Rattle.vax_machine_lists.specs.Sound.{IsSound}
+use Rattle.vax_states.specs.vax_machine_lists.specs.Sound.{IsSound}
 use Rattle.vax_states.specs.Agreeing.{Agrees}
-use Rattle.vax_machine_lists.specs.Instructions.{ends, comes, Returns, course_of, followed, performed, exec}
-use Rattle.vax_machine_lists.proofs.Soundness.{conditions_sound}
+use Rattle.vax_states.specs.vax_machine_lists.specs.Instructions.{ends, comes, Returns, course_of, followed, performed, exec}
+use Rattle.vax_states.specs.vax_machine_lists.proofs.Soundness.{conditions_sound}
 use Rattle.vax_frames.specs.Frames.{instr, room_code, end_code}
 use Rattle.vax_states.proofs.Keeping.{sound_register}
 use Rattle.vax_states.proofs.Standing.{kept}

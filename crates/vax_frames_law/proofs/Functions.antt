@@ -16,14 +16,14 @@ use Rattle.tree_core.specs.Names.{function_label}
 use Rattle.tree_meaning.specs.State.{Activation, begun, Extent}
 use Rattle.tree_meaning.specs.State.{State as Trees}
 use Rattle.vax_states.specs.Stack.{long_at, Hold}
-use Rattle.vax_machine_lists.specs.Sound.{AllBelow, IsSound}
+use Rattle.vax_states.specs.vax_machine_lists.specs.Sound.{AllBelow, IsSound}
 use Rattle.vax_states.specs.Agreeing.{AreLabelled, Agrees}
-use Rattle.vax_machine_lists.specs.Instructions.{Course, exec, comes}
-use Rattle.vax_machine_lists.specs.Runs.{HasInstrs, at_of, Carries}
+use Rattle.vax_states.specs.vax_machine_lists.specs.Instructions.{Course, exec, comes}
+use Rattle.vax_states.specs.vax_machine_lists.specs.Runs.{HasInstrs, at_of, Carries}
 use Rattle.vax_frames_law.specs.Calling.{HasFrame, with_call}
 use Rattle.vax_frames.specs.Frames.{room_code}
-use Rattle.vax_machine_lists.proofs.Longwords.{below_set, length-with, with_below}
-use Rattle.vax_machine_lists.proofs.Joining.{carries}
+use Rattle.vax_states.specs.vax_machine_lists.proofs.Longwords.{below_set, length-with, with_below}
+use Rattle.vax_states.specs.vax_machine_lists.proofs.Joining.{carries}
 use Rattle.vax_frames_law.proofs.Entering.{CanCall, number_at, frame_at, stack_with, frame_made, made, few_saved, called_is, same_above, callee_agrees, can_call, caller_holds, arguments_stand}
 use Rattle.vax_frames_law.proofs.FrameCode.{Lowers, room_made}
 use Rattle.vax_frames_law.specs.Laws.{IsRoomy, Begins, CallsBegin}

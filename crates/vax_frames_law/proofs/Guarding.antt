@@ -34,13 +34,13 @@ use Rattle.vax_machine.specs.Functions.{applied, passes}
 use Rattle.vax_machine.specs.Labels.{getchar_name}
 use Rattle.vax_machine.specs.Calls.{silent, putchar, getchar}
 use Rattle.vax_machine.specs.Step.{act, at_item, instruction, finished, pushing, next_of, next_where, Goes as GoesOn, Writes, Stops as StopsAt}
-use Rattle.vax_machine_lists.specs.Instructions.{Ending, Comes, Goes, Calls, Returns, Stops, Course, ends, course_of, branching, calling, alone, evaluated_then, performed}
-use Rattle.vax_machine_lists.proofs.Placed.{Where, there, where_of, ending_there, performed_there}
-use Rattle.vax_machine_lists.proofs.Joining.{OneStep, one_performed}
+use Rattle.vax_states.specs.vax_machine_lists.specs.Instructions.{Ending, Comes, Goes, Calls, Returns, Stops, Course, ends, course_of, branching, calling, alone, evaluated_then, performed}
+use Rattle.vax_states.specs.vax_machine_lists.proofs.Placed.{Where, there, where_of, ending_there, performed_there}
+use Rattle.vax_states.specs.vax_machine_lists.proofs.Joining.{OneStep, one_performed}
 use Rattle.vax_machine.specs.Loading.{blank}
 use Rattle.vax_frames_law.specs.Guarding.{has, may_pass, IsGuarded, IsIntact, AreIntact, outermost, inner, KeepsRegisters, StepsKeep, ReturnsRestore, CallsSave, RunsBeginIntact}
-use Rattle.vax_machine_lists.specs.Kept.{Same, KeptAt}
-use Rattle.vax_machine_lists.proofs.Registers.{same, trans, register_kept, frames_kept}
+use Rattle.vax_states.specs.vax_machine_lists.specs.Kept.{Same, KeptAt}
+use Rattle.vax_states.specs.vax_machine_lists.proofs.Registers.{same, trans, register_kept, frames_kept}
 use Rattle.vax_frames_law.proofs.Returning.{innermost_of, some_acts}
 
 -- other registers and another place of the same function

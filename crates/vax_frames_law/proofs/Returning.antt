@@ -21,10 +21,10 @@ use Rattle.tree_core.specs.declared.program.Object.{Object}
 use Rattle.tree_meaning.specs.State.{Activation, Extent}
 use Rattle.tree_meaning.specs.State.{State as Trees}
 use Rattle.vax_states.specs.Stack.{Holds}
-use Rattle.vax_machine_lists.specs.Sound.{AllBelow, IsSound}
+use Rattle.vax_states.specs.vax_machine_lists.specs.Sound.{AllBelow, IsSound}
 use Rattle.vax_states.specs.Agreeing.{Agrees}
 use Rattle.vax_frames_law.specs.Laws.{ReturnsAgree, LastReturnEnds}
-use Rattle.vax_machine_lists.proofs.Longwords.{below_get}
+use Rattle.vax_states.specs.vax_machine_lists.proofs.Longwords.{below_get}
 use Rattle.vax_states.proofs.Pieces.{low_fp, fp_high, below_control, Innermost, innermost_is}
 use Rattle.vax_states.proofs.Standing.{high_top}
 

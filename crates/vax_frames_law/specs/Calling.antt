@@ -5,7 +5,7 @@ use Rattle.vax_machine_live.specs.declared.frame.Frame.{Frame}
 use Rattle.vax_core.specs.declared.code.CodeItem.{CodeItem}
 use Rattle.vax_core.specs.declared.code.CodeItem.TheVariants as item_kind
 use Rattle.vax_machine.specs.Labels.{next_item, label_place}
-use Rattle.vax_machine_lists.specs.Runs.{HasInstrs}
+use Rattle.vax_states.specs.vax_machine_lists.specs.Runs.{HasInstrs}
 use Rattle.vax_frames.specs.Frames.{room_code}
 use Rattle.vax_machine.specs.State.{State}
 use Rattle.tree_core.specs.declared.program.TreeFn.{TreeFn}

@@ -13,9 +13,9 @@ use Rattle.tree_core.specs.declared.program.TreeFn.{TreeFn}
 use Rattle.tree_core.specs.Names.{function_label}
 use Rattle.tree_meaning.specs.State.{Activation, Extent}
 use Rattle.tree_meaning.specs.State.{State as Trees}
-use Rattle.vax_machine_lists.specs.Sound.{AllBelow}
+use Rattle.vax_states.specs.vax_machine_lists.specs.Sound.{AllBelow}
 use Rattle.vax_states.specs.Agreeing.{Agrees, HasRoom}
-use Rattle.vax_machine_lists.specs.Runs.{Leads}
+use Rattle.vax_states.specs.vax_machine_lists.specs.Runs.{Leads}
 use Rattle.vax_frames_law.specs.Calling.{with_call, HasFrame, IsMadeIn}
 use Rattle.vax_frames.specs.Frames.{room_code}
 

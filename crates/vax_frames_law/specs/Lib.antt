@@ -5,3 +5,5 @@ pub mod Guarding
 pub mod Within
 pub mod Writing
 pub mod Undoing
+pub use Rattle.vax_states
+pub use Rattle.vax_frames

@@ -12,7 +12,7 @@ use Rattle.vax_machine.specs.State.{State}
 use Rattle.vax_machine.specs.Functions.{action_of}
 use Rattle.vax_machine.specs.Labels.{has_label, label_place, is_call, next_item, undefined_target}
 use Rattle.vax_machine.specs.Step.{Next, Goes, Writes, Stops}
-use Rattle.vax_machine_lists.specs.Sound.{Behind}
+use Rattle.vax_alike.specs.vax_machine_lists.specs.Sound.{Behind}
 use Rattle.vax_alike.specs.Corresponding.{Standing, Somewhere, falls, Targets, Carries, DoTheSame}
 use Rattle.vax_passes.specs.Jumps.{leaves}
 use Rattle.vax_passes.proofs.Thinning.{target_there}

@@ -8,10 +8,10 @@ use Rattle.gg_base.specs.declared.size.Size.{Size}
 use Rattle.gg_base.specs.declared.size.Size.TheVariants.{Long}
 use Rattle.gg_base.specs.Sizes.{bytes_of}
 use Rattle.gg_base.specs.LittleEndian.{with_number}
-use Rattle.vax_core.specs.declared.register.Reg.{Reg}
-use Rattle.vax_core.specs.Registers.{reg_number}
-use Rattle.vax_machine_live.specs.declared.frame.Frame.{Frame}
-use Rattle.vax_machine.specs.State.{State, reg}
+use Rattle.vax_machine_lists.specs.vax_core.specs.declared.register.Reg.{Reg}
+use Rattle.vax_machine_lists.specs.vax_core.specs.Registers.{reg_number}
+use Rattle.vax_machine_lists.specs.vax_machine_live.specs.declared.frame.Frame.{Frame}
+use Rattle.vax_machine_lists.specs.vax_machine.specs.State.{State, reg}
 use Rattle.tree_meaning.specs.State.{Activation, with_local, Extent}
 use Rattle.vax_states.specs.Stack.{long_at, word_of, argument_of, Holds, SameFrom}
 use Rattle.vax_machine_lists.specs.Sound.{IsSound}

@@ -1,11 +1,11 @@
 -- What it says that a machine's state stands for a state of a tree program.
 use Rattle.std.proofs.Common.{◌≡◌, ℕ, ◌+◌, ◌*◌, ◌^◌, ◌<◌, ◌≤◌, List, [], ◌∷◌, ◌++◌, map, Ok, refl, sym, ap, ◌∙◌, arith}
 use Rattle.gg_base.specs.Arithmetic.{add32, neg32}
-use Rattle.vax_core.specs.declared.register.Reg.TheVariants.{Ap, Fp, Sp}
-use Rattle.vax_machine_live.specs.declared.frame.Frame.{Frame}
-use Rattle.vax_machine.specs.declared.operands.Location.TheVariants as locations
-use Rattle.vax_machine.specs.State.{reg}
-use Rattle.vax_machine.specs.Operands.{located}
+use Rattle.vax_machine_lists.specs.vax_core.specs.declared.register.Reg.TheVariants.{Ap, Fp, Sp}
+use Rattle.vax_machine_lists.specs.vax_machine_live.specs.declared.frame.Frame.{Frame}
+use Rattle.vax_machine_lists.specs.vax_machine.specs.declared.operands.Location.TheVariants as locations
+use Rattle.vax_machine_lists.specs.vax_machine.specs.State.{reg}
+use Rattle.vax_machine_lists.specs.vax_machine.specs.Operands.{located}
 use Rattle.tree_meaning.specs.State.{Activation, Extent}
 use Rattle.vax_states.specs.Stack.{long_at, word_of, argument_of, Hold, nobody, caller}
 use Rattle.vax_states.specs.Sentences.{FramesStand, Live, AreStacked, frames_of, CallsStandApart, HomesAreNamed, ArgumentsAreNamed, LocalsAreRead, ArgumentsAreRead, AreasAreRead}

@@ -6,8 +6,8 @@ use Rattle.std.proofs.lemmas.Bool.{le-ltb, or_from, and_left, and_right}
 use Rattle.gg_base.specs.declared.size.Size.TheVariants.{Long}
 use Rattle.gg_base.specs.LittleEndian.{with_number}
 use Rattle.gg_base.proofs.Facts.{nil_cons, head_same, tail_same}
-use Rattle.vax_machine_live.specs.declared.frame.Frame.{Frame}
-use Rattle.vax_machine_live.specs.Control.{overlaps, in_control}
+use Rattle.vax_machine_lists.specs.vax_machine_live.specs.declared.frame.Frame.{Frame}
+use Rattle.vax_machine_lists.specs.vax_machine_live.specs.Control.{overlaps, in_control}
 use Rattle.tree_meaning.specs.State.{Activation, Extent}
 use Rattle.vax_states.specs.Stack.{long_at, word_of, argument_of, Holds, Hold, nobody, caller, SameFrom}
 use Rattle.vax_machine_lists.proofs.Longwords.{number-with, number-above, number-below}

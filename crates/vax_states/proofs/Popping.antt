@@ -10,12 +10,12 @@ use Rattle.gg_base.specs.Arithmetic.{add32}
 use Rattle.tree_core.specs.declared.program.Object.{Object}
 use Rattle.tree_meaning.specs.State.{State as Trees, Activation, Extent}
 use Rattle.tree_meaning.specs.Steps.{without_pushed, with_result}
-use Rattle.vax_core.specs.declared.register.Reg.TheVariants.{R0, Sp}
-use Rattle.vax_machine_live.specs.declared.frame.Frame.{Frame}
-use Rattle.vax_machine.specs.declared.turn.Stop.{Stop}
-use Rattle.vax_machine.specs.State.{State, reg, with_reg, with_conditions, cleared, stack_full, ◌>>=◌}
-use Rattle.vax_machine.specs.Memory.{read, register_set}
-use Rattle.vax_machine.specs.Calls.{putchar}
+use Rattle.vax_machine_lists.specs.vax_core.specs.declared.register.Reg.TheVariants.{R0, Sp}
+use Rattle.vax_machine_lists.specs.vax_machine_live.specs.declared.frame.Frame.{Frame}
+use Rattle.vax_machine_lists.specs.vax_machine.specs.declared.turn.Stop.{Stop}
+use Rattle.vax_machine_lists.specs.vax_machine.specs.State.{State, reg, with_reg, with_conditions, cleared, stack_full, ◌>>=◌}
+use Rattle.vax_machine_lists.specs.vax_machine.specs.Memory.{read, register_set}
+use Rattle.vax_machine_lists.specs.vax_machine.specs.Calls.{putchar}
 use Rattle.vax_states.specs.Stack.{long_at, Holds}
 use Rattle.vax_states.specs.Agreeing.{Agrees}
 use Rattle.vax_states.proofs.Touching.{stack_read}

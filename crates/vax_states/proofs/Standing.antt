@@ -8,15 +8,15 @@ use Rattle.gg_base.specs.declared.size.Size.TheVariants.{Byte, Word, Long}
 use Rattle.gg_base.specs.Arithmetic.{sub32}
 use Rattle.gg_base.specs.Sizes.{bytes_of}
 use Rattle.gg_base.specs.LittleEndian.{number_in, with_number}
-use Rattle.vax_core.specs.declared.register.Reg.{Reg}
-use Rattle.vax_core.specs.declared.register.Reg.TheVariants.{Ap, Fp, Sp}
-use Rattle.vax_core.specs.Registers.{reg_number}
-use Rattle.vax_machine_live.specs.declared.frame.Frame.{Frame}
-use Rattle.vax_machine_live.specs.Control.{in_control}
-use Rattle.vax_machine.specs.State.{State, reg, with_reg, stack_full, ◌>>=◌}
-use Rattle.vax_machine.specs.Memory.{read, written, register_set}
-use Rattle.vax_machine.specs.Calls.{pushed}
-use Rattle.vax_machine.specs.Area.{label_address}
+use Rattle.vax_machine_lists.specs.vax_core.specs.declared.register.Reg.{Reg}
+use Rattle.vax_machine_lists.specs.vax_core.specs.declared.register.Reg.TheVariants.{Ap, Fp, Sp}
+use Rattle.vax_machine_lists.specs.vax_core.specs.Registers.{reg_number}
+use Rattle.vax_machine_lists.specs.vax_machine_live.specs.declared.frame.Frame.{Frame}
+use Rattle.vax_machine_lists.specs.vax_machine_live.specs.Control.{in_control}
+use Rattle.vax_machine_lists.specs.vax_machine.specs.State.{State, reg, with_reg, stack_full, ◌>>=◌}
+use Rattle.vax_machine_lists.specs.vax_machine.specs.Memory.{read, written, register_set}
+use Rattle.vax_machine_lists.specs.vax_machine.specs.Calls.{pushed}
+use Rattle.vax_machine_lists.specs.vax_machine.specs.Area.{label_address}
 use Rattle.tree_core.specs.declared.program.Object.{Object}
 use Rattle.tree_core.specs.Area as trees
 use Rattle.tree_meaning.specs.State.{Activation, Extent}

@@ -6,12 +6,12 @@ use Rattle.gg_base.specs.declared.size.Size.{Size}
 use Rattle.gg_base.specs.declared.size.Size.TheVariants.{Long}
 use Rattle.gg_base.specs.Sizes.{bytes_of}
 use Rattle.gg_base.specs.LittleEndian.{number_in, with_number}
-use Rattle.vax_machine_live.specs.Control.{in_control}
-use Rattle.vax_machine.specs.declared.turn.Stop.{Stop}
-use Rattle.vax_machine.specs.declared.memory.Region.{Region}
-use Rattle.vax_machine.specs.declared.memory.Region.TheVariants.{Stack, Area}
-use Rattle.vax_machine.specs.State.{State, ◌>>=◌}
-use Rattle.vax_machine.specs.Memory.{touched, read, written, number_at, with_number_at}
+use Rattle.vax_machine_lists.specs.vax_machine_live.specs.Control.{in_control}
+use Rattle.vax_machine_lists.specs.vax_machine.specs.declared.turn.Stop.{Stop}
+use Rattle.vax_machine_lists.specs.vax_machine.specs.declared.memory.Region.{Region}
+use Rattle.vax_machine_lists.specs.vax_machine.specs.declared.memory.Region.TheVariants.{Stack, Area}
+use Rattle.vax_machine_lists.specs.vax_machine.specs.State.{State, ◌>>=◌}
+use Rattle.vax_machine_lists.specs.vax_machine.specs.Memory.{touched, read, written, number_at, with_number_at}
 use Rattle.vax_states.specs.Stack.{long_at}
 
 module _ (m : State) where

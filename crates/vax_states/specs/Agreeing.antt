@@ -1,10 +1,10 @@
 -- When a state of the machine stands for a state of a tree program.
 use Rattle.std.specs.Prelude.{◌≡◌, ℕ, ◌+◌, ◌<◌, ◌≤◌, List, [], ◌∷◌, ◌++◌, length, slice_get, Some}
 use Rattle.gg_base.specs.declared.limits.TheConstants.{FRAME_LIMIT, STACK_START}
-use Rattle.vax_core.specs.declared.register.Reg.TheVariants.{R0, Ap, Fp, Sp}
-use Rattle.vax_machine_live.specs.declared.frame.Frame.{Frame}
-use Rattle.vax_machine.specs.State.{State, reg}
-use Rattle.vax_machine.specs.Area.{label_address}
+use Rattle.vax_machine_lists.specs.vax_core.specs.declared.register.Reg.TheVariants.{R0, Ap, Fp, Sp}
+use Rattle.vax_machine_lists.specs.vax_machine_live.specs.declared.frame.Frame.{Frame}
+use Rattle.vax_machine_lists.specs.vax_machine.specs.State.{State, reg}
+use Rattle.vax_machine_lists.specs.vax_machine.specs.Area.{label_address}
 use Rattle.tree_core.specs.declared.program.Object.{Object}
 use Rattle.tree_meaning.specs.State.{State as Trees, Extent}
 use Rattle.vax_machine_lists.specs.Sound.{IsSound}

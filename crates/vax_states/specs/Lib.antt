@@ -4,5 +4,6 @@ pub mod Agreeing
 pub mod Sentences
 pub use Rattle.vax_machine_lists
 pub use Rattle.tree_meaning
-pub use Rattle.vax_machine_live
-pub use Rattle.vax_machine
+pub use Rattle.vax_machine_lists.specs.vax_machine_live as vax_machine_live
+pub use Rattle.vax_machine_lists.specs.vax_machine as vax_machine
+pub use Rattle.tree_core

@@ -3,17 +3,17 @@ use Rattle.std.specs.Prelude.{◌≡◌, ℕ, ◌+◌, ◌*◌, ◌^◌, ◌<◌
 use Rattle.gg_base.specs.declared.limits.TheConstants.{STACK_START, STACK_TOP}
 use Rattle.gg_base.specs.declared.size.Size.{Size}
 use Rattle.gg_base.specs.declared.size.Size.TheVariants.{Long}
-use Rattle.vax_core.specs.declared.register.Reg.{Reg}
-use Rattle.vax_core.specs.declared.register.Reg.TheVariants.{Ap, Fp, Sp}
-use Rattle.vax_core.specs.Registers.{reg_number}
-use Rattle.vax_core.specs.Homes.{home, argument_home}
-use Rattle.vax_machine_live.specs.declared.frame.Frame.{Frame}
-use Rattle.vax_machine.specs.declared.turn.Stop.{Stop}
-use Rattle.vax_machine.specs.declared.operands.Location.TheVariants as locations
-use Rattle.vax_machine.specs.State.{State, reg, with_reg}
-use Rattle.vax_machine.specs.Memory.{read, written}
-use Rattle.vax_machine.specs.Operands.{located}
-use Rattle.vax_machine.specs.Calls.{pushed}
+use Rattle.vax_machine_lists.specs.vax_core.specs.declared.register.Reg.{Reg}
+use Rattle.vax_machine_lists.specs.vax_core.specs.declared.register.Reg.TheVariants.{Ap, Fp, Sp}
+use Rattle.vax_machine_lists.specs.vax_core.specs.Registers.{reg_number}
+use Rattle.vax_machine_lists.specs.vax_core.specs.Homes.{home, argument_home}
+use Rattle.vax_machine_lists.specs.vax_machine_live.specs.declared.frame.Frame.{Frame}
+use Rattle.vax_machine_lists.specs.vax_machine.specs.declared.turn.Stop.{Stop}
+use Rattle.vax_machine_lists.specs.vax_machine.specs.declared.operands.Location.TheVariants as locations
+use Rattle.vax_machine_lists.specs.vax_machine.specs.State.{State, reg, with_reg}
+use Rattle.vax_machine_lists.specs.vax_machine.specs.Memory.{read, written}
+use Rattle.vax_machine_lists.specs.vax_machine.specs.Operands.{located}
+use Rattle.vax_machine_lists.specs.vax_machine.specs.Calls.{pushed}
 use Rattle.tree_core.specs.declared.program.Object.{Object}
 use Rattle.tree_core.specs.Area.{fetched, stored}
 use Rattle.tree_meaning.specs.State.{Activation, Extent}

@@ -19,26 +19,26 @@ use Rattle.gg_base.specs.declared.run.Finish.TheVariants as finish
 use Rattle.tree_meaning.specs.Deeds.{Deed, Puts, Branches, Pushes, Returns as Leaves, Calls as Enters, Saves, Jumps, Traps, Strays}
 use Rattle.tree_meaning.specs.Steps as steps
 use Rattle.tree_meaning.specs.Steps.{Step, without_pushed, called_as, wrote, got as answered, strays, deed_step}
-use Rattle.md_reader.specs.declared.types.Class.{Class}
-use Rattle.md_reader.specs.declared.types.Rule.{Rule}
-use Rattle.sel_terms.specs.Effects.{EffectShape, Call}
-use Rattle.sel_target.specs.declared.attr.Attr.{Attr}
-use Rattle.sel_target.specs.declared.attr.Attr.TheVariants as attr
-use Rattle.sel_target.specs.Values.{View}
-use Rattle.sel_target.specs.Instances.{Ready}
-use Rattle.sel_target.specs.StatementLaws.{att_of, DoesAct}
+use Rattle.vax_target_statements.specs.md_reader.specs.declared.types.Class.{Class}
+use Rattle.vax_target_statements.specs.md_reader.specs.declared.types.Rule.{Rule}
+use Rattle.vax_target_statements.specs.sel_terms.specs.Effects.{EffectShape, Call}
+use Rattle.vax_target_statements.specs.sel_target.specs.declared.attr.Attr.{Attr}
+use Rattle.vax_target_statements.specs.sel_target.specs.declared.attr.Attr.TheVariants as attr
+use Rattle.vax_target_statements.specs.sel_target.specs.Values.{View}
+use Rattle.vax_target_statements.specs.sel_target.specs.Instances.{Ready}
+use Rattle.vax_target_statements.specs.sel_target.specs.StatementLaws.{att_of, DoesAct}
 use Rattle.vax_core.specs.declared.register.Reg.TheVariants.{R0, Sp}
 use Rattle.vax_core.specs.declared.operand.Operand.{Operand}
 use Rattle.vax_core.specs.First.{putchar_name}
 use Rattle.vax_machine.specs.State.{State, reg, with_reg, with_conditions, cleared}
 use Rattle.vax_machine.specs.Labels.{getchar_name}
 use Rattle.vax_machine.specs.Calls.{got}
-use Rattle.vax_machine_lists.specs.Sound.{AllBelow}
-use Rattle.vax_machine_lists.specs.Instructions.{Course, ends, comes, performed}
-use Rattle.vax_machine_lists.specs.Instructions as lists
-use Rattle.vax_states.specs.Agreeing.{HasRoom}
-use Rattle.vax_states.proofs.Standing.{register_kept}
-use Rattle.vax_states.proofs.Popping.{put_acts, set_up, agrees_result, sp_high, agrees_popped, top_read}
+use Rattle.vax_target_statements.specs.vax_machine_lists.specs.Sound.{AllBelow}
+use Rattle.vax_target_statements.specs.vax_machine_lists.specs.Instructions.{Course, ends, comes, performed}
+use Rattle.vax_target_statements.specs.vax_machine_lists.specs.Instructions as lists
+use Rattle.vax_target_statements.specs.vax_states.specs.Agreeing.{HasRoom}
+use Rattle.vax_target_statements.specs.vax_states.proofs.Standing.{register_kept}
+use Rattle.vax_target_statements.specs.vax_states.proofs.Popping.{put_acts, set_up, agrees_result, sp_high, agrees_popped, top_read}
 use Rattle.vax_target_statements.specs.vax_templates.specs.FilledLines.{callee_in, callee_of_att, callee_among, function_name, call_of}
 use Rattle.vax_target_statements.specs.vax_target_meaning.specs.Running.{course_of}
 use Rattle.vax_target_statements.specs.vax_target_meaning.specs.Vax.{vax, stands}

@@ -4,13 +4,13 @@ use Rattle.tree_core.specs.declared.program.TreeProgram.{TreeProgram}
 use Rattle.tree_meaning.specs.State.{Extent}
 use Rattle.tree_meaning.specs.Deeds.{Deed}
 use Rattle.tree_meaning.specs.Steps.{deed_step}
-use Rattle.md_reader.specs.declared.types.Class.{Class}
-use Rattle.md_reader.specs.declared.types.Rule.{Rule}
-use Rattle.sel_terms.specs.Effects.{ActShape, EffectShape, Value, Number, Address, PlaceHome, PlaceAt, StoreHome, StoreAt, Branch, Push, Call, Save, Return, Jump}
-use Rattle.sel_target.specs.declared.attr.Attr.{Attr}
-use Rattle.sel_target.specs.Values.{View}
-use Rattle.sel_target.specs.Instances.{lines_of, Ready}
-use Rattle.sel_target.specs.StatementLaws.{IsStep, DoesAct, DoesStatements}
+use Rattle.vax_target_statements.specs.md_reader.specs.declared.types.Class.{Class}
+use Rattle.vax_target_statements.specs.md_reader.specs.declared.types.Rule.{Rule}
+use Rattle.vax_target_statements.specs.sel_terms.specs.Effects.{ActShape, EffectShape, Value, Number, Address, PlaceHome, PlaceAt, StoreHome, StoreAt, Branch, Push, Call, Save, Return, Jump}
+use Rattle.vax_target_statements.specs.sel_target.specs.declared.attr.Attr.{Attr}
+use Rattle.vax_target_statements.specs.sel_target.specs.Values.{View}
+use Rattle.vax_target_statements.specs.sel_target.specs.Instances.{lines_of, Ready}
+use Rattle.vax_target_statements.specs.sel_target.specs.StatementLaws.{IsStep, DoesAct, DoesStatements}
 use Rattle.vax_core.specs.declared.operand.Operand.{Operand}
 use Rattle.vax_machine.specs.State.{State}
 use Rattle.vax_target_statements.specs.vax_target_meaning.specs.Vax.{vax}

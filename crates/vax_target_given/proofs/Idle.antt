@@ -5,40 +5,40 @@ use Rattle.gg_base.specs.declared.size.Size.TheVariants.{Long}
 use Rattle.md_reader_pieces.specs.declared.piece.Piece.{Piece}
 use Rattle.md_reader_pieces.specs.declared.piece.Line.{Line}
 use Rattle.term_core.specs.Shape.{Shape, Constant}
-use Rattle.sel_terms.specs.Effects as effects
-use Rattle.sel_terms.specs.Effects.{ActShape}
-use Rattle.sel_terms.specs.Same.{same_size}
-use Rattle.sel_target.specs.declared.fault.TemplateKind.{TemplateKind}
-use Rattle.sel_target.specs.declared.fault.TemplateKind.TheVariants.{NotInstr, WrongSize, Order}
+use Rattle.vax_target_rules.specs.sel_terms.specs.Effects as effects
+use Rattle.vax_target_rules.specs.sel_terms.specs.Effects.{ActShape}
+use Rattle.vax_target_rules.specs.sel_terms.specs.Same.{same_size}
+use Rattle.vax_target_rules.specs.sel_target.specs.declared.fault.TemplateKind.{TemplateKind}
+use Rattle.vax_target_rules.specs.sel_target.specs.declared.fault.TemplateKind.TheVariants.{NotInstr, WrongSize, Order}
 use Rattle.vax_core.specs.declared.op.Op.{Op}
 use Rattle.vax_core.specs.declared.op.Access.{Access}
 use Rattle.vax_core.specs.declared.op.Access.TheVariants as accesses
 use Rattle.vax_core.specs.declared.op.OperandKind.{OperandKind}
 use Rattle.vax_core.specs.Ops.{shape}
-use Rattle.vax_machine.specs.declared.function.Action.{Action}
-use Rattle.vax_machine.specs.declared.function.Action.TheVariants as action
-use Rattle.vax_machine.specs.Functions.{action_of}
-use Rattle.vax_templates.specs.declared.form.Form.{Form}
-use Rattle.vax_templates.specs.declared.setting.Hole.{Hole}
-use Rattle.vax_templates.specs.declared.setting.Own.{Own}
-use Rattle.vax_templates.specs.declared.setting.Own.TheVariants as own
-use Rattle.vax_templates.specs.declared.setting.Opening.{Opening}
-use Rattle.vax_templates.specs.declared.setting.Opening.TheVariants as opening
-use Rattle.vax_templates.specs.declared.setting.Setting.{Setting}
-use Rattle.vax_templates.specs.Settings.{hole_at}
-use Rattle.vax_templates.specs.Instructions.{Instruction, Relation, Jump, Calls, Ret, Operates, instruction_of}
-use Rattle.vax_templates.specs.Standing.{Where, Immediate, Register, OwnRegister, RegisterZero, Value, Place, Local}
-use Rattle.vax_templates.specs.Standing.{SavedPlace, Saved, At, form_where, ◌>>=◌}
-use Rattle.vax_templates.specs.HoleTerms.{own_value}
-use Rattle.vax_templates.specs.Targets.{Target, own_target, statement_target, targeted}
-use Rattle.vax_templates.specs.Taking.{Taken, taken_missized, cut_term, sized, last_result, fetched, addressed}
-use Rattle.vax_templates.specs.Taking.{written, both, taken, evaluated, Arguments, last_of, in_front, all_evaluated}
-use Rattle.vax_templates.specs.Giving.{Given, Computes, Divides, Compares, Tests, given}
-use Rattle.vax_templates.specs.Deeds.{Last, Plain, Compared, Tested, Returning, Ended, Deed, ends, ends_statement}
-use Rattle.vax_templates.specs.Deeds.{is_relation, branches, computed, acted}
-use Rattle.vax_templates.specs.Judging.{is_disordered, in_order, with_reads, checked, operated, instruction_did}
-use Rattle.vax_templates.specs.Judging.{did_behind, read, line_did}
-use Rattle.vax_templates.specs.Progress.{Progress, start, kept_or_put, at_line, kept, judged, lines_judged}
+use Rattle.vax_target_rules.specs.vax_machine.specs.declared.function.Action.{Action}
+use Rattle.vax_target_rules.specs.vax_machine.specs.declared.function.Action.TheVariants as action
+use Rattle.vax_target_rules.specs.vax_machine.specs.Functions.{action_of}
+use Rattle.vax_target_rules.specs.vax_templates.specs.declared.form.Form.{Form}
+use Rattle.vax_target_rules.specs.vax_templates.specs.declared.setting.Hole.{Hole}
+use Rattle.vax_target_rules.specs.vax_templates.specs.declared.setting.Own.{Own}
+use Rattle.vax_target_rules.specs.vax_templates.specs.declared.setting.Own.TheVariants as own
+use Rattle.vax_target_rules.specs.vax_templates.specs.declared.setting.Opening.{Opening}
+use Rattle.vax_target_rules.specs.vax_templates.specs.declared.setting.Opening.TheVariants as opening
+use Rattle.vax_target_rules.specs.vax_templates.specs.declared.setting.Setting.{Setting}
+use Rattle.vax_target_rules.specs.vax_templates.specs.Settings.{hole_at}
+use Rattle.vax_target_rules.specs.vax_templates.specs.Instructions.{Instruction, Relation, Jump, Calls, Ret, Operates, instruction_of}
+use Rattle.vax_target_rules.specs.vax_templates.specs.Standing.{Where, Immediate, Register, OwnRegister, RegisterZero, Value, Place, Local}
+use Rattle.vax_target_rules.specs.vax_templates.specs.Standing.{SavedPlace, Saved, At, form_where, ◌>>=◌}
+use Rattle.vax_target_rules.specs.vax_templates.specs.HoleTerms.{own_value}
+use Rattle.vax_target_rules.specs.vax_templates.specs.Targets.{Target, own_target, statement_target, targeted}
+use Rattle.vax_target_rules.specs.vax_templates.specs.Taking.{Taken, taken_missized, cut_term, sized, last_result, fetched, addressed}
+use Rattle.vax_target_rules.specs.vax_templates.specs.Taking.{written, both, taken, evaluated, Arguments, last_of, in_front, all_evaluated}
+use Rattle.vax_target_rules.specs.vax_templates.specs.Giving.{Given, Computes, Divides, Compares, Tests, given}
+use Rattle.vax_target_rules.specs.vax_templates.specs.Deeds.{Last, Plain, Compared, Tested, Returning, Ended, Deed, ends, ends_statement}
+use Rattle.vax_target_rules.specs.vax_templates.specs.Deeds.{is_relation, branches, computed, acted}
+use Rattle.vax_target_rules.specs.vax_templates.specs.Judging.{is_disordered, in_order, with_reads, checked, operated, instruction_did}
+use Rattle.vax_target_rules.specs.vax_templates.specs.Judging.{did_behind, read, line_did}
+use Rattle.vax_target_rules.specs.vax_templates.specs.Progress.{Progress, start, kept_or_put, at_line, kept, judged, lines_judged}
 use Rattle.vax_target_shapes.specs.vax_target_writing.proofs.Each.{EachOk, bind_each, always_ok, if_ok, of_ok}
 
 -- nothing is put, and the codes at most are left

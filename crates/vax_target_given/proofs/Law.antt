@@ -13,43 +13,43 @@ use Rattle.tree_core.specs.declared.tree.Att.{Att}
 use Rattle.tree_core.specs.declared.tree.Att.TheVariants as att
 use Rattle.tree_core.specs.declared.program.TreeProgram.{TreeProgram}
 use Rattle.tree_core.specs.Attributes.{attribute_of, is_of_kind}
-use Rattle.tree_meaning.specs.State.{Extent}
+use Rattle.vax_target_rules.specs.tree_meaning.specs.State.{Extent}
 use Rattle.md_reader_pieces.specs.declared.piece.Piece.{Piece}
 use Rattle.md_reader_pieces.specs.declared.piece.Piece.TheVariants as piece
 use Rattle.md_reader_pieces.specs.declared.piece.Line.{Line}
-use Rattle.md_reader.specs.declared.types.Kind.{Kind}
-use Rattle.md_reader.specs.declared.types.Kind.TheVariants as kind
-use Rattle.md_reader.specs.declared.types.Class.{Class}
-use Rattle.md_reader.specs.declared.types.Sym.{Sym}
-use Rattle.md_reader.specs.declared.types.Sym.TheVariants as grammar_symbol
-use Rattle.md_reader.specs.declared.types.Give.TheVariants as give
-use Rattle.md_reader.specs.declared.types.Rule.{Rule}
-use Rattle.md_reader.specs.Patterns.{kind_at}
-use Rattle.md_reader.specs.Restrictions.{is_nothing}
+use Rattle.vax_target_rules.specs.md_reader.specs.declared.types.Kind.{Kind}
+use Rattle.vax_target_rules.specs.md_reader.specs.declared.types.Kind.TheVariants as kind
+use Rattle.vax_target_rules.specs.md_reader.specs.declared.types.Class.{Class}
+use Rattle.vax_target_rules.specs.md_reader.specs.declared.types.Sym.{Sym}
+use Rattle.vax_target_rules.specs.md_reader.specs.declared.types.Sym.TheVariants as grammar_symbol
+use Rattle.vax_target_rules.specs.md_reader.specs.declared.types.Give.TheVariants as give
+use Rattle.vax_target_rules.specs.md_reader.specs.declared.types.Rule.{Rule}
+use Rattle.vax_target_rules.specs.md_reader.specs.Patterns.{kind_at}
+use Rattle.vax_target_rules.specs.md_reader.specs.Restrictions.{is_nothing}
 use Rattle.term_core.specs.Shape.{Shape}
-use Rattle.sel_terms.specs.Effects.{ActShape, EffectShape, Value, Number, Address, PlaceAt}
-use Rattle.sel_target.specs.sel_terms_meaning.specs.Meaning.{terms_of_act}
-use Rattle.sel_target.specs.declared.attr.Attr.{Attr}
-use Rattle.sel_target.specs.declared.attr.Attr.TheVariants as attr
-use Rattle.sel_target.specs.Courses.{comes}
-use Rattle.sel_target.specs.Values.{View, value, IsRead, IsReadWhere, worth}
-use Rattle.sel_target.specs.Instances.{hole, KindFits, SymFits, Fit, IsResult, lines_of, Instance, Ready}
-use Rattle.sel_target.specs.Outcomes.{Keeps}
-use Rattle.sel_target.specs.TemplateLaws.{GivesShapes}
+use Rattle.vax_target_rules.specs.sel_terms.specs.Effects.{ActShape, EffectShape, Value, Number, Address, PlaceAt}
+use Rattle.vax_target_rules.specs.sel_terms_meaning.specs.Meaning.{terms_of_act}
+use Rattle.vax_target_rules.specs.sel_target.specs.declared.attr.Attr.{Attr}
+use Rattle.vax_target_rules.specs.sel_target.specs.declared.attr.Attr.TheVariants as attr
+use Rattle.vax_target_rules.specs.sel_target.specs.Courses.{comes}
+use Rattle.vax_target_rules.specs.sel_target.specs.Values.{View, value, IsRead, IsReadWhere, worth}
+use Rattle.vax_target_rules.specs.sel_target.specs.Instances.{hole, KindFits, SymFits, Fit, IsResult, lines_of, Instance, Ready}
+use Rattle.vax_target_rules.specs.sel_target.specs.Outcomes.{Keeps}
+use Rattle.vax_target_rules.specs.sel_target.specs.TemplateLaws.{GivesShapes}
 use Rattle.vax_core.specs.declared.operand.Operand.{Operand}
-use Rattle.vax_machine.specs.State.{State}
-use Rattle.vax_machine_lists.specs.Instructions.{exec}
-use Rattle.vax_templates.specs.declared.form.Form.{Form}
-use Rattle.vax_templates.specs.declared.setting.Hole.{Hole}
-use Rattle.vax_templates.specs.declared.setting.Hole.TheVariants as hole_kind
-use Rattle.vax_templates.specs.declared.setting.Setting.{Setting}
-use Rattle.vax_templates.specs.Settings.{hole_of_token, hole_of_kind, hole_of, holes_of, hole_or_other, hole_at, own_of, setting_of}
-use Rattle.vax_templates.specs.Instructions.{shape_of_pieces}
-use Rattle.vax_templates.specs.HoleTerms.{constant_of}
-use Rattle.vax_templates.specs.Standing.{◌>>=◌}
-use Rattle.vax_templates.specs.GiveLines.{number_given, shape_given, shape_read, given_shape, given_by}
-use Rattle.vax_templates.specs.Filled.{attr_at, addr_in, filled_or_spare}
-use Rattle.vax_templates.proofs.Judgements.{hole_front_is}
+use Rattle.vax_target_rules.specs.vax_machine.specs.State.{State}
+use Rattle.vax_target_rules.specs.vax_machine_lists.specs.Instructions.{exec}
+use Rattle.vax_target_rules.specs.vax_templates.specs.declared.form.Form.{Form}
+use Rattle.vax_target_rules.specs.vax_templates.specs.declared.setting.Hole.{Hole}
+use Rattle.vax_target_rules.specs.vax_templates.specs.declared.setting.Hole.TheVariants as hole_kind
+use Rattle.vax_target_rules.specs.vax_templates.specs.declared.setting.Setting.{Setting}
+use Rattle.vax_target_rules.specs.vax_templates.specs.Settings.{hole_of_token, hole_of_kind, hole_of, holes_of, hole_or_other, hole_at, own_of, setting_of}
+use Rattle.vax_target_rules.specs.vax_templates.specs.Instructions.{shape_of_pieces}
+use Rattle.vax_target_rules.specs.vax_templates.specs.HoleTerms.{constant_of}
+use Rattle.vax_target_rules.specs.vax_templates.specs.Standing.{◌>>=◌}
+use Rattle.vax_target_rules.specs.vax_templates.specs.GiveLines.{number_given, shape_given, shape_read, given_shape, given_by}
+use Rattle.vax_target_rules.specs.vax_templates.specs.Filled.{attr_at, addr_in, filled_or_spare}
+use Rattle.vax_target_rules.specs.vax_templates.proofs.Judgements.{hole_front_is}
 use Rattle.vax_target_rules.specs.vax_target_meaning.specs.Running.{course_of}
 use Rattle.vax_target_rules.specs.vax_target_meaning.specs.Vax.{vax}
 use Rattle.vax_target_shapes.specs.vax_target_operands.specs.Scenes.{Scene, Sees}

@@ -2,3 +2,4 @@
 pub mod Answers
 pub mod Views
 pub mod Stages
+pub use Rattle.vax_target_spelling.specs.vax_target_meaning as vax_target_meaning

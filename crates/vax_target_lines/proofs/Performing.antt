@@ -7,12 +7,12 @@ use Rattle.std.proofs.lemmas.Bool.{eqb-true}
 use Rattle.gg_base.specs.declared.size.Size.{Size}
 use Rattle.gg_base.specs.declared.size.Size.TheVariants.{Long}
 use Rattle.gg_base.proofs.Facts.{err_ok, ok_same, second_false, second_true, first_true, first_false, head_same}
-use Rattle.md_reader_pieces.specs.declared.piece.Piece.{Piece}
-use Rattle.term_core.specs.Shape.{Shape, Constant, Symbol, LastResult, Memory, Unary, Binary}
-use Rattle.vax_templates.specs.sel_terms.specs.Effects.{ActShape}
-use Rattle.vax_templates.specs.sel_terms.specs.Effects as act
-use Rattle.vax_templates.specs.sel_target.specs.declared.fault.TemplateKind.TheVariants.{NotInstr, WrongSize, Order}
-use Rattle.vax_templates.specs.sel_target.specs.declared.attr.Attr.TheVariants as attr
+use Rattle.vax_target_operands.specs.md_reader_pieces.specs.declared.piece.Piece.{Piece}
+use Rattle.vax_target_operands.specs.term_core.specs.Shape.{Shape, Constant, Symbol, LastResult, Memory, Unary, Binary}
+use Rattle.vax_target_operands.specs.sel_terms.specs.Effects.{ActShape}
+use Rattle.vax_target_operands.specs.sel_terms.specs.Effects as act
+use Rattle.vax_target_operands.specs.sel_target.specs.declared.fault.TemplateKind.TheVariants.{NotInstr, WrongSize, Order}
+use Rattle.vax_target_operands.specs.sel_target.specs.declared.attr.Attr.TheVariants as attr
 use Rattle.vax_core.specs.declared.register.Reg.{Reg}
 use Rattle.vax_core.specs.declared.register.Reg.TheVariants.{R0}
 use Rattle.vax_core.specs.Registers.{reg_number}
@@ -39,26 +39,26 @@ use Rattle.vax_machine.specs.Functions.{action_of, applied}
 use Rattle.vax_machine.specs.Operands as machine
 use Rattle.vax_machine.specs.Step.{finished, pushing}
 use Rattle.vax_target_operands.specs.vax_machine_lists.specs.Instructions.{Course, Stops, Returns, ends, comes, course_of, alone, evaluated_then, performed}
-use Rattle.vax_templates.specs.declared.form.Form.{Form}
-use Rattle.vax_templates.specs.declared.setting.Hole.{Hole}
-use Rattle.vax_templates.specs.declared.setting.Hole.TheVariants as hole_kind
-use Rattle.vax_templates.specs.declared.setting.Own.TheVariants as own
-use Rattle.vax_templates.specs.Instructions.{Instruction, Relation, Jump, Calls, Ret, Operates, instruction_of}
-use Rattle.vax_templates.specs.Standing.{◌>>=◌}
-use Rattle.vax_templates.specs.Targets.{Target, ToOwn, ToSlot, ToHome, ToMemory, ToZero, ToSaved}
-use Rattle.vax_templates.specs.Taking.{Arguments, all_evaluated, evaluated, Taken, in_front, last_of}
-use Rattle.vax_templates.specs.Giving.{Given, Computes, Divides, Compares, Tests, given}
-use Rattle.vax_templates.specs.Deeds.{Last, Plain, Compared, Tested, Returning, Ended, Deed, leaves, ends_statement}
-use Rattle.vax_templates.specs.Deeds.{is_relation, branches, is_movl, is_last_result, puts, put, divided, computed}
-use Rattle.vax_templates.specs.Deeds.{acted}
-use Rattle.vax_templates.specs.Judging.{spells_symbol, has_some, is_disordered, in_order, with_reads}
-use Rattle.vax_templates.specs.Judging.{checked, operated, instruction_did, returned, did_behind, line_did}
-use Rattle.vax_templates.specs.Deeds as deeds
-use Rattle.vax_templates.specs.Judging as judging
-use Rattle.vax_templates.specs.Settings.{hole_at}
-use Rattle.vax_templates.specs.Filled.{numbered, register_in, operand_in, filled}
-use Rattle.vax_templates.specs.FilledLines.{filled_instruction, filled_line, plain_return}
-use Rattle.vax_templates.proofs.Judgements.{read_is}
+use Rattle.vax_target_operands.specs.vax_templates.specs.declared.form.Form.{Form}
+use Rattle.vax_target_operands.specs.vax_templates.specs.declared.setting.Hole.{Hole}
+use Rattle.vax_target_operands.specs.vax_templates.specs.declared.setting.Hole.TheVariants as hole_kind
+use Rattle.vax_target_operands.specs.vax_templates.specs.declared.setting.Own.TheVariants as own
+use Rattle.vax_target_operands.specs.vax_templates.specs.Instructions.{Instruction, Relation, Jump, Calls, Ret, Operates, instruction_of}
+use Rattle.vax_target_operands.specs.vax_templates.specs.Standing.{◌>>=◌}
+use Rattle.vax_target_operands.specs.vax_templates.specs.Targets.{Target, ToOwn, ToSlot, ToHome, ToMemory, ToZero, ToSaved}
+use Rattle.vax_target_operands.specs.vax_templates.specs.Taking.{Arguments, all_evaluated, evaluated, Taken, in_front, last_of}
+use Rattle.vax_target_operands.specs.vax_templates.specs.Giving.{Given, Computes, Divides, Compares, Tests, given}
+use Rattle.vax_target_operands.specs.vax_templates.specs.Deeds.{Last, Plain, Compared, Tested, Returning, Ended, Deed, leaves, ends_statement}
+use Rattle.vax_target_operands.specs.vax_templates.specs.Deeds.{is_relation, branches, is_movl, is_last_result, puts, put, divided, computed}
+use Rattle.vax_target_operands.specs.vax_templates.specs.Deeds.{acted}
+use Rattle.vax_target_operands.specs.vax_templates.specs.Judging.{spells_symbol, has_some, is_disordered, in_order, with_reads}
+use Rattle.vax_target_operands.specs.vax_templates.specs.Judging.{checked, operated, instruction_did, returned, did_behind, line_did}
+use Rattle.vax_target_operands.specs.vax_templates.specs.Deeds as deeds
+use Rattle.vax_target_operands.specs.vax_templates.specs.Judging as judging
+use Rattle.vax_target_operands.specs.vax_templates.specs.Settings.{hole_at}
+use Rattle.vax_target_operands.specs.vax_templates.specs.Filled.{numbered, register_in, operand_in, filled}
+use Rattle.vax_target_operands.specs.vax_templates.specs.FilledLines.{filled_instruction, filled_line, plain_return}
+use Rattle.vax_target_operands.specs.vax_templates.proofs.Judgements.{read_is}
 use Rattle.vax_target_operands.specs.Scenes.{Scene, worth, filling_at, is_lost, OwnIs, IsOwnRegister, Sees}
 use Rattle.vax_target_operands.specs.Places.{StandsAt, IsHome}
 use Rattle.vax_target_operands.specs.Conditions.{IsGiven, AreNarrow}

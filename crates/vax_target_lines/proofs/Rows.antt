@@ -11,7 +11,7 @@ use Rattle.vax_machine.specs.declared.function.Function.TheVariants as functions
 use Rattle.vax_machine.specs.declared.function.Action.{Action}
 use Rattle.vax_machine.specs.declared.function.Action.TheVariants as action
 use Rattle.vax_machine.specs.Functions.{action_of}
-use Rattle.vax_templates.specs.Deeds.{is_movl}
+use Rattle.vax_target_operands.specs.vax_templates.specs.Deeds.{is_movl}
 use Rattle.vax_target_lines.specs.Takings.{LastIsWritten, last_size}
 
 -- an instruction that only sets the codes or pushes reads operands alone, of the size that it compares

@@ -6,7 +6,7 @@ use Rattle.std.specs.List.{AllByRecursion}
 use Rattle.std.proofs.lemmas.Bool.{leb-true}
 use Rattle.std.proofs.lemmas.Option.{none-some, same_Some, cond_some}
 use Rattle.gg_base.proofs.Facts.{first_true}
-use Rattle.md_reader_pieces.specs.declared.piece.Piece.{Piece}
+use Rattle.vax_target_operands.specs.md_reader_pieces.specs.declared.piece.Piece.{Piece}
 use Rattle.vax_core.specs.declared.op.Op.{Op}
 use Rattle.vax_core.specs.declared.op.OperandKind.{OperandKind}
 use Rattle.vax_core.specs.Ops.{shape}
@@ -16,17 +16,17 @@ use Rattle.vax_machine.specs.declared.function.Action.TheVariants as action
 use Rattle.vax_machine.specs.declared.function.Test.{Test}
 use Rattle.vax_machine.specs.declared.function.Test.TheVariants as test
 use Rattle.vax_machine.specs.Functions.{action_of}
-use Rattle.vax_templates.specs.declared.form.Mark.{Mark}
-use Rattle.vax_templates.specs.declared.form.Number.{Number}
-use Rattle.vax_templates.specs.declared.form.Number.TheVariants as number
-use Rattle.vax_templates.specs.declared.form.Base.{Base}
-use Rattle.vax_templates.specs.declared.form.Base.TheVariants as base
-use Rattle.vax_templates.specs.declared.form.Form.{Form}
-use Rattle.vax_templates.specs.Marks.{marks_of, strip, hole_front, number_front, positive, negative, below_zero, signed_front, at_front}
-use Rattle.vax_templates.specs.Forms.{of_symbol, itself, number_spelled, of_number, of_hole, alone, near, far, deferred_front, negative_hole, immediate_front, named_front}
-use Rattle.vax_templates.specs.Forms.{base_front, index_front, with_index, indexed, form_front}
-use Rattle.vax_templates.specs.Instructions.{Instruction, Relation, Jump, Calls, Ret, Operates, forms_from, only, behind_blank, is_label, is_call, is_empty, jumps, operates}
-use Rattle.vax_templates.specs.Instructions.{behind, relation_behind, relation, with_op, word_of, marks_behind, instruction_of, whole, shape_of_pieces}
+use Rattle.vax_target_operands.specs.vax_templates.specs.declared.form.Mark.{Mark}
+use Rattle.vax_target_operands.specs.vax_templates.specs.declared.form.Number.{Number}
+use Rattle.vax_target_operands.specs.vax_templates.specs.declared.form.Number.TheVariants as number
+use Rattle.vax_target_operands.specs.vax_templates.specs.declared.form.Base.{Base}
+use Rattle.vax_target_operands.specs.vax_templates.specs.declared.form.Base.TheVariants as base
+use Rattle.vax_target_operands.specs.vax_templates.specs.declared.form.Form.{Form}
+use Rattle.vax_target_operands.specs.vax_templates.specs.Marks.{marks_of, strip, hole_front, number_front, positive, negative, below_zero, signed_front, at_front}
+use Rattle.vax_target_operands.specs.vax_templates.specs.Forms.{of_symbol, itself, number_spelled, of_number, of_hole, alone, near, far, deferred_front, negative_hole, immediate_front, named_front}
+use Rattle.vax_target_operands.specs.vax_templates.specs.Forms.{base_front, index_front, with_index, indexed, form_front}
+use Rattle.vax_target_operands.specs.vax_templates.specs.Instructions.{Instruction, Relation, Jump, Calls, Ret, Operates, forms_from, only, behind_blank, is_label, is_call, is_empty, jumps, operates}
+use Rattle.vax_target_operands.specs.vax_templates.specs.Instructions.{behind, relation_behind, relation, with_op, word_of, marks_behind, instruction_of, whole, shape_of_pieces}
 use Rattle.vax_target_operands.specs.Places.{IsShort, BaseIsShort}
 use Rattle.vax_target_operands.proofs.Machine.{mapped, then_some}
 

@@ -8,14 +8,14 @@ use Rattle.gg_base.specs.declared.size.Size.{Size}
 use Rattle.gg_base.specs.declared.size.Size.TheVariants.{Byte, Word, Long}
 use Rattle.gg_base.proofs.Facts.{first_false, second_false, err_ok, ok_same}
 use Rattle.gg_base.specs.Sizes.{low}
-use Rattle.term_core.specs.Shape.{Shape, Constant, Symbol, LastResult, Memory}
-use Rattle.vax_templates.specs.sel_terms.specs.Same.{same_size}
-use Rattle.vax_templates.specs.sel_terms.proofs.Alike.{equal_sizes}
-use Rattle.vax_templates.specs.sel_target.specs.declared.fault.TemplateKind.{TemplateKind}
-use Rattle.vax_templates.specs.sel_target.specs.declared.fault.TemplateKind.TheVariants.{NotInstr}
-use Rattle.term_core.proofs.Values.{small}
-use Rattle.vax_templates.specs.sel_target.specs.Values.{IsRead, term_state}
-use Rattle.vax_templates.specs.sel_target.proofs.AreaBytes.{number_small}
+use Rattle.vax_target_operands.specs.term_core.specs.Shape.{Shape, Constant, Symbol, LastResult, Memory}
+use Rattle.vax_target_operands.specs.sel_terms.specs.Same.{same_size}
+use Rattle.vax_target_operands.specs.sel_terms.proofs.Alike.{equal_sizes}
+use Rattle.vax_target_operands.specs.sel_target.specs.declared.fault.TemplateKind.{TemplateKind}
+use Rattle.vax_target_operands.specs.sel_target.specs.declared.fault.TemplateKind.TheVariants.{NotInstr}
+use Rattle.vax_target_operands.specs.term_core.proofs.Values.{small}
+use Rattle.vax_target_operands.specs.sel_target.specs.Values.{IsRead, term_state}
+use Rattle.vax_target_operands.specs.sel_target.proofs.AreaBytes.{number_small}
 use Rattle.vax_core.specs.declared.register.Reg.{Reg}
 use Rattle.vax_core.specs.declared.register.Reg.TheVariants.{R0}
 use Rattle.vax_core.specs.declared.op.Access.{Access}
@@ -36,29 +36,29 @@ use Rattle.vax_machine.specs.Operands as machine
 use Rattle.vax_target_operands.specs.vax_machine_lists.specs.Sound.{IsSound}
 use Rattle.vax_target_operands.specs.vax_machine_lists.proofs.Longwords.{all_bytes}
 use Rattle.vax_target_operands.specs.vax_states.proofs.Keeping.{reg_small}
-use Rattle.vax_templates.specs.declared.form.Number.{Number}
-use Rattle.vax_templates.specs.declared.form.Base.{Base}
-use Rattle.vax_templates.specs.declared.form.Base.TheVariants as base
-use Rattle.vax_templates.specs.declared.form.Form.{Form}
-use Rattle.vax_templates.specs.declared.setting.Hole.{Hole}
-use Rattle.vax_templates.specs.declared.setting.Hole.TheVariants as hole_kind
-use Rattle.vax_templates.specs.declared.setting.Own.{Own}
-use Rattle.vax_templates.specs.declared.setting.Own.TheVariants as own
-use Rattle.vax_templates.specs.declared.setting.Opening.{Opening}
-use Rattle.vax_templates.specs.declared.setting.Opening.TheVariants as opening
-use Rattle.vax_templates.specs.Standing.{Where, Immediate, Register, OwnRegister, RegisterZero, Value, Place, Local}
-use Rattle.vax_templates.specs.Standing.{SavedPlace, Saved, At, where_own, where_hole, where_zero, where_deferred}
-use Rattle.vax_templates.specs.Standing.{through, at, sum, displaced, pointed, negated, itself, where_base, scaled}
-use Rattle.vax_templates.specs.Standing.{moved, where_indexed, form_where, ◌>>=◌}
-use Rattle.vax_templates.specs.HoleTerms.{constant_of, absolute_term, number_term, own_value, register_term}
-use Rattle.vax_templates.specs.Targets.{Target, ToMemory, ToZero, is_long, own_target}
-use Rattle.vax_templates.specs.Targets.{memory_target, zero_target, targeted}
-use Rattle.vax_templates.specs.Taking.{Taken, taken_term, taken_read, taken_missized, sized, last_result}
-use Rattle.vax_templates.specs.Taking.{cut_term, fetched, pointer_read, addressed, written, both, taken, evaluated}
-use Rattle.vax_templates.specs.Taking.{Arguments, no_arguments, last_of, in_front, all_evaluated}
-use Rattle.vax_templates.specs.Filled.{register_in, operand_in, filled}
-use Rattle.vax_templates.specs.Giving.{truncated}
-use Rattle.vax_templates.proofs.Judgements.{statement_of, sized_plain, ok_plain, addressed_plain}
+use Rattle.vax_target_operands.specs.vax_templates.specs.declared.form.Number.{Number}
+use Rattle.vax_target_operands.specs.vax_templates.specs.declared.form.Base.{Base}
+use Rattle.vax_target_operands.specs.vax_templates.specs.declared.form.Base.TheVariants as base
+use Rattle.vax_target_operands.specs.vax_templates.specs.declared.form.Form.{Form}
+use Rattle.vax_target_operands.specs.vax_templates.specs.declared.setting.Hole.{Hole}
+use Rattle.vax_target_operands.specs.vax_templates.specs.declared.setting.Hole.TheVariants as hole_kind
+use Rattle.vax_target_operands.specs.vax_templates.specs.declared.setting.Own.{Own}
+use Rattle.vax_target_operands.specs.vax_templates.specs.declared.setting.Own.TheVariants as own
+use Rattle.vax_target_operands.specs.vax_templates.specs.declared.setting.Opening.{Opening}
+use Rattle.vax_target_operands.specs.vax_templates.specs.declared.setting.Opening.TheVariants as opening
+use Rattle.vax_target_operands.specs.vax_templates.specs.Standing.{Where, Immediate, Register, OwnRegister, RegisterZero, Value, Place, Local}
+use Rattle.vax_target_operands.specs.vax_templates.specs.Standing.{SavedPlace, Saved, At, where_own, where_hole, where_zero, where_deferred}
+use Rattle.vax_target_operands.specs.vax_templates.specs.Standing.{through, at, sum, displaced, pointed, negated, itself, where_base, scaled}
+use Rattle.vax_target_operands.specs.vax_templates.specs.Standing.{moved, where_indexed, form_where, ◌>>=◌}
+use Rattle.vax_target_operands.specs.vax_templates.specs.HoleTerms.{constant_of, absolute_term, number_term, own_value, register_term}
+use Rattle.vax_target_operands.specs.vax_templates.specs.Targets.{Target, ToMemory, ToZero, is_long, own_target}
+use Rattle.vax_target_operands.specs.vax_templates.specs.Targets.{memory_target, zero_target, targeted}
+use Rattle.vax_target_operands.specs.vax_templates.specs.Taking.{Taken, taken_term, taken_read, taken_missized, sized, last_result}
+use Rattle.vax_target_operands.specs.vax_templates.specs.Taking.{cut_term, fetched, pointer_read, addressed, written, both, taken, evaluated}
+use Rattle.vax_target_operands.specs.vax_templates.specs.Taking.{Arguments, no_arguments, last_of, in_front, all_evaluated}
+use Rattle.vax_target_operands.specs.vax_templates.specs.Filled.{register_in, operand_in, filled}
+use Rattle.vax_target_operands.specs.vax_templates.specs.Giving.{truncated}
+use Rattle.vax_target_operands.specs.vax_templates.proofs.Judgements.{statement_of, sized_plain, ok_plain, addressed_plain}
 use Rattle.vax_target_operands.specs.Scenes.{Scene, worth, role_at, OwnIs, IsOwnRegister, Sees}
 use Rattle.vax_target_operands.specs.Places.{StandsAt, IsWhere, IsReadIfAny, CanStand, Stands}
 use Rattle.vax_target_operands.specs.Conditions.{IsNarrow}

@@ -2,10 +2,16 @@ pub mod Takings
 pub mod Lines
 pub use Rattle.vax_target_operands
 pub use Rattle.vax_target_operands.specs.vax_target_meaning as vax_target_meaning
-pub use Rattle.vax_templates.specs.sel_terms_meaning as sel_terms_meaning
+pub use Rattle.vax_target_operands.specs.sel_terms_meaning as sel_terms_meaning
 pub use Rattle.vax_target_operands.specs.vax_states as vax_states
-pub use Rattle.vax_templates.specs.sel_terms as sel_terms
+pub use Rattle.vax_target_operands.specs.sel_terms as sel_terms
 pub use Rattle.vax_target_operands.specs.vax_machine_lists as vax_machine_lists
-pub use Rattle.vax_templates.specs.sel_target as sel_target
-pub use Rattle.vax_templates
-pub use Rattle.vax_templates.specs.tree_meaning as tree_meaning
+pub use Rattle.vax_target_operands.specs.sel_target as sel_target
+pub use Rattle.vax_target_operands.specs.vax_templates as vax_templates
+pub use Rattle.vax_target_operands.specs.tree_meaning as tree_meaning
+pub use Rattle.vax_target_operands.specs.md_reader_pieces as md_reader_pieces
+pub use Rattle.vax_target_operands.specs.term_core as term_core
+pub use Rattle.vax_machine
+pub use Rattle.vax_target_operands.specs.tree_core as tree_core
+pub use Rattle.vax_target_operands.specs.md_reader as md_reader
+pub use Rattle.vax_target_operands.specs.term_core_accesses as term_core_accesses

@@ -3,11 +3,11 @@ use Rattle.std.specs.Prelude.{◌≡◌, ◌⊎◌, ℕ, Bool, true, false, List
 use Rattle.std.specs.List.{AllByRecursion}
 use Rattle.gg_base.specs.declared.size.Size.{Size}
 use Rattle.gg_base.specs.declared.size.Size.TheVariants.{Long}
-use Rattle.md_reader_pieces.specs.declared.piece.Piece.{Piece}
-use Rattle.term_core.specs.Shape.{Shape, Constant, LastResult}
-use Rattle.vax_templates.specs.sel_terms.specs.Effects.{ActShape, Value, Number, Address, PlaceHome, PlaceAt, StoreHome, StoreAt, Branch}
-use Rattle.vax_templates.specs.sel_terms.specs.Effects.{Push, Call, Save, Return, Jump}
-use Rattle.vax_templates.specs.sel_terms_meaning.specs.Meaning.{terms_of_act}
+use Rattle.vax_target_operands.specs.md_reader_pieces.specs.declared.piece.Piece.{Piece}
+use Rattle.vax_target_operands.specs.term_core.specs.Shape.{Shape, Constant, LastResult}
+use Rattle.vax_target_operands.specs.sel_terms.specs.Effects.{ActShape, Value, Number, Address, PlaceHome, PlaceAt, StoreHome, StoreAt, Branch}
+use Rattle.vax_target_operands.specs.sel_terms.specs.Effects.{Push, Call, Save, Return, Jump}
+use Rattle.vax_target_operands.specs.sel_terms_meaning.specs.Meaning.{terms_of_act}
 use Rattle.vax_core.specs.declared.register.Reg.TheVariants.{R0}
 use Rattle.vax_core.specs.declared.op.Op.TheVariants as ops
 use Rattle.vax_machine.specs.declared.turn.Stop.{Stop}
@@ -20,11 +20,11 @@ use Rattle.vax_machine.specs.Operands.{put}
 use Rattle.vax_machine.specs.Calls.{Acts}
 use Rattle.vax_machine.specs.Step.{pushing}
 use Rattle.vax_target_operands.specs.vax_machine_lists.specs.Instructions.{Course, Returns, Stops, ends, comes, course_of, performed}
-use Rattle.vax_templates.specs.declared.setting.Own.TheVariants as own
-use Rattle.vax_templates.specs.Deeds.{Last, Plain, Compared, Tested, Returning, Ended, Deed}
-use Rattle.vax_templates.specs.Judging.{line_did}
-use Rattle.vax_templates.specs.Filled.{register_in, operand_in}
-use Rattle.vax_templates.specs.FilledLines.{op_in, branch_to, call_of, callee_among, filled_line}
+use Rattle.vax_target_operands.specs.vax_templates.specs.declared.setting.Own.TheVariants as own
+use Rattle.vax_target_operands.specs.vax_templates.specs.Deeds.{Last, Plain, Compared, Tested, Returning, Ended, Deed}
+use Rattle.vax_target_operands.specs.vax_templates.specs.Judging.{line_did}
+use Rattle.vax_target_operands.specs.vax_templates.specs.Filled.{register_in, operand_in}
+use Rattle.vax_target_operands.specs.vax_templates.specs.FilledLines.{op_in, branch_to, call_of, callee_among, filled_line}
 use Rattle.vax_target_operands.specs.Scenes.{Scene, worth, filling_at, IsSavedLocal, Sees}
 use Rattle.vax_target_operands.specs.Places.{StandsAt, IsHome}
 use Rattle.vax_target_operands.specs.Conditions as codes

@@ -3,8 +3,8 @@ use Rattle.std.specs.Prelude.{◌≡◌, ℕ, ◌≤◌, Bool, true, false, List
 use Rattle.std.specs.List.{AllByRecursion}
 use Rattle.gg_base.specs.declared.size.Size.{Size}
 use Rattle.gg_base.specs.declared.size.Size.TheVariants.{Long}
-use Rattle.term_core.specs.Shape.{Shape}
-use Rattle.vax_templates.specs.sel_target.specs.Values.{IsRead}
+use Rattle.vax_target_operands.specs.term_core.specs.Shape.{Shape}
+use Rattle.vax_target_operands.specs.sel_target.specs.Values.{IsRead}
 use Rattle.vax_core.specs.declared.register.Reg.TheVariants.{R0}
 use Rattle.vax_core.specs.declared.op.Access.{Access}
 use Rattle.vax_core.specs.declared.op.Access.TheVariants as accesses
@@ -15,11 +15,11 @@ use Rattle.vax_machine.specs.declared.operands.Destination.{Destination}
 use Rattle.vax_machine.specs.declared.operands.Arguments.{Arguments as Numbers}
 use Rattle.vax_machine.specs.State.{State}
 use Rattle.vax_machine.specs.Operands as machine
-use Rattle.vax_templates.specs.declared.form.Form.{Form}
-use Rattle.vax_templates.specs.declared.setting.Own.TheVariants as own
-use Rattle.vax_templates.specs.Targets.{Target, ToOwn, ToSlot, ToHome, ToMemory, ToZero, ToSaved}
-use Rattle.vax_templates.specs.Taking.{Arguments, all_evaluated}
-use Rattle.vax_templates.specs.Filled.{operand_in, filled}
+use Rattle.vax_target_operands.specs.vax_templates.specs.declared.form.Form.{Form}
+use Rattle.vax_target_operands.specs.vax_templates.specs.declared.setting.Own.TheVariants as own
+use Rattle.vax_target_operands.specs.vax_templates.specs.Targets.{Target, ToOwn, ToSlot, ToHome, ToMemory, ToZero, ToSaved}
+use Rattle.vax_target_operands.specs.vax_templates.specs.Taking.{Arguments, all_evaluated}
+use Rattle.vax_target_operands.specs.vax_templates.specs.Filled.{operand_in, filled}
 use Rattle.vax_target_operands.specs.Scenes.{Scene, worth, filling_at, IsSavedLocal, Sees}
 use Rattle.vax_target_operands.specs.Places.{StandsAt, IsHome, BaseIsShort, MayBeRead}
 use Rattle.vax_target_operands.specs.Conditions.{IsNarrow}

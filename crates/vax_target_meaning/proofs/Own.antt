@@ -1,14 +1,14 @@
 -- A hole alone is its symbol's place.
 use Rattle.std.proofs.Common.{◌≡◌, ℕ, Some}
-use Rattle.tree_core.specs.declared.token.Tok.{Tok}
-use Rattle.tree_core.specs.declared.tree.Att.{Att}
-use Rattle.tree_core.specs.declared.program.TreeProgram.{TreeProgram}
-use Rattle.tree_core.specs.declared.token.Tok.TheVariants as tok
-use Rattle.tree_core.specs.declared.tree.Att.TheVariants as att
+use Rattle.vax_states.specs.tree_core.specs.declared.token.Tok.{Tok}
+use Rattle.vax_states.specs.tree_core.specs.declared.tree.Att.{Att}
+use Rattle.vax_states.specs.tree_core.specs.declared.program.TreeProgram.{TreeProgram}
+use Rattle.vax_states.specs.tree_core.specs.declared.token.Tok.TheVariants as tok
+use Rattle.vax_states.specs.tree_core.specs.declared.tree.Att.TheVariants as att
 use Rattle.vax_templates.specs.sel_target.specs.declared.attr.Attr.{Attr}
 use Rattle.vax_templates.specs.sel_target.specs.declared.attr.Attr.TheVariants as attr
 use Rattle.vax_templates.specs.sel_target.specs.Values.{own_operand, token_operand, slot_place}
-use Rattle.vax_core.specs.declared.operand.Operand.{Operand}
+use Rattle.vax_templates.specs.vax_core.specs.declared.operand.Operand.{Operand}
 use Rattle.vax_templates.specs.Filled.{word_operand, slot_operand, leaf_operand, operand_in}
 use Rattle.vax_target_meaning.specs.Vax.{vax}
 

@@ -2,18 +2,18 @@
 use Rattle.std.specs.Prelude.{◌≡◌, ℕ, ◌==◌, ◌&&◌, ◌||◌, not, Bool, true, false, List, [], ◌∷◌, Option, Some, None, is_none}
 use Rattle.std.specs.Char.{is_ascii_digit}
 use Rattle.std.specs.List.{AllByRecursion, list_all}
-use Rattle.tree_core.specs.declared.program.Object.{Object}
-use Rattle.tree_core.specs.declared.program.TreeFn.{TreeFn}
-use Rattle.tree_core.specs.declared.program.TreeProgram.{TreeProgram}
-use Rattle.tree_core.specs.Names.{function_label}
+use Rattle.vax_states.specs.tree_core.specs.declared.program.Object.{Object}
+use Rattle.vax_states.specs.tree_core.specs.declared.program.TreeFn.{TreeFn}
+use Rattle.vax_states.specs.tree_core.specs.declared.program.TreeProgram.{TreeProgram}
+use Rattle.vax_states.specs.tree_core.specs.Names.{function_label}
 use Rattle.vax_templates.specs.md_reader.specs.declared.types.Kind.{Kind}
 use Rattle.vax_templates.specs.md_reader.specs.declared.types.Kind.TheVariants as kind
-use Rattle.vax_core.specs.declared.operand.Base.{Base}
-use Rattle.vax_core.specs.declared.operand.Base.TheVariants as bases
-use Rattle.vax_core.specs.declared.operand.Operand.{Operand}
-use Rattle.vax_core.specs.declared.code.Instr.{Instr}
-use Rattle.vax_core.specs.Ops.{shape}
-use Rattle.vax_core.specs.Valid.{is_name, is_base, is_index, is_memory, are_operands, is_target}
+use Rattle.vax_templates.specs.vax_core.specs.declared.operand.Base.{Base}
+use Rattle.vax_templates.specs.vax_core.specs.declared.operand.Base.TheVariants as bases
+use Rattle.vax_templates.specs.vax_core.specs.declared.operand.Operand.{Operand}
+use Rattle.vax_templates.specs.vax_core.specs.declared.code.Instr.{Instr}
+use Rattle.vax_templates.specs.vax_core.specs.Ops.{shape}
+use Rattle.vax_templates.specs.vax_core.specs.Valid.{is_name, is_base, is_index, is_memory, are_operands, is_target}
 
 -- it steps its register
 abbrev pub steps : Base → Bool

@@ -3,17 +3,17 @@
 use Rattle.std.specs.Prelude.{ℕ, ◌%◌, ◌^◌, ◌==◌, ◌&&◌, nat_lt, nat_le, Bool, true, false, List, Option, Some, None}
 use Rattle.std.specs.Prelude.{is_none, is_some, Result, Ok, Err, cond}
 use Rattle.std.specs.Option.{option_and_then, option_map}
-use Rattle.gg_base.specs.declared.size.Size.{Size}
-use Rattle.gg_base.specs.declared.size.Size.TheVariants.{Long}
-use Rattle.gg_base.specs.Sizes.{bytes_of, low}
-use Rattle.gg_base.specs.Arithmetic.{add32, mul32}
-use Rattle.tree_core.specs.Area.{fetched}
-use Rattle.vax_core.specs.declared.register.Reg.{Reg}
-use Rattle.vax_core.specs.declared.register.Reg.TheVariants.{Ap, Fp}
-use Rattle.vax_core.specs.declared.operand.Addr.{Addr}
-use Rattle.vax_core.specs.declared.operand.Base.{Base}
-use Rattle.vax_core.specs.declared.operand.Base.TheVariants as bases
-use Rattle.vax_core.specs.declared.operand.Operand.{Operand}
+use Rattle.vax_templates.specs.gg_base.specs.declared.size.Size.{Size}
+use Rattle.vax_templates.specs.gg_base.specs.declared.size.Size.TheVariants.{Long}
+use Rattle.vax_templates.specs.gg_base.specs.Sizes.{bytes_of, low}
+use Rattle.vax_templates.specs.gg_base.specs.Arithmetic.{add32, mul32}
+use Rattle.vax_states.specs.tree_core.specs.Area.{fetched}
+use Rattle.vax_templates.specs.vax_core.specs.declared.register.Reg.{Reg}
+use Rattle.vax_templates.specs.vax_core.specs.declared.register.Reg.TheVariants.{Ap, Fp}
+use Rattle.vax_templates.specs.vax_core.specs.declared.operand.Addr.{Addr}
+use Rattle.vax_templates.specs.vax_core.specs.declared.operand.Base.{Base}
+use Rattle.vax_templates.specs.vax_core.specs.declared.operand.Base.TheVariants as bases
+use Rattle.vax_templates.specs.vax_core.specs.declared.operand.Operand.{Operand}
 use Rattle.vax_states.specs.vax_machine.specs.declared.turn.Stop.{Stop}
 use Rattle.vax_states.specs.vax_machine.specs.State.{State, reg}
 use Rattle.vax_states.specs.vax_machine.specs.Area.{resolved}

@@ -1,6 +1,6 @@
 -- What lists of instructions do, as a target says it.
 use Rattle.std.specs.Prelude.{ℕ, List}
-use Rattle.vax_core.specs.declared.code.Instr.{Instr}
+use Rattle.vax_templates.specs.vax_core.specs.declared.code.Instr.{Instr}
 use Rattle.vax_states.specs.vax_machine.specs.declared.turn.Stop.{Stop}
 use Rattle.vax_states.specs.vax_machine.specs.declared.turn.Stop.TheVariants as stops
 use Rattle.vax_states.specs.vax_machine.specs.State.{State}

@@ -1,16 +1,16 @@
 -- What the VAX means, as a target.
 use Rattle.std.specs.Prelude.{List}
-use Rattle.tree_core.specs.declared.token.Tok.TheVariants as tok
-use Rattle.tree_core.specs.declared.program.TreeProgram.{TreeProgram}
+use Rattle.vax_states.specs.tree_core.specs.declared.token.Tok.TheVariants as tok
+use Rattle.vax_states.specs.tree_core.specs.declared.program.TreeProgram.{TreeProgram}
 use Rattle.vax_states.specs.tree_meaning.specs.State.{State as Trees, Extent}
 use Rattle.vax_templates.specs.sel_target.specs.Meaning.{Meaning}
-use Rattle.vax_core.specs.declared.register.Reg.TheVariants.{R0}
-use Rattle.vax_core.specs.declared.operand.Base.TheVariants as bases
-use Rattle.vax_core.specs.declared.operand.Operand.{Operand}
-use Rattle.vax_core.specs.declared.code.Instr.{Instr}
-use Rattle.vax_core.specs.Homes.{home, at_home}
-use Rattle.vax_core.specs.Registers.{operand_bits}
-use Rattle.vax_core.specs.Same.{same_operand}
+use Rattle.vax_templates.specs.vax_core.specs.declared.register.Reg.TheVariants.{R0}
+use Rattle.vax_templates.specs.vax_core.specs.declared.operand.Base.TheVariants as bases
+use Rattle.vax_templates.specs.vax_core.specs.declared.operand.Operand.{Operand}
+use Rattle.vax_templates.specs.vax_core.specs.declared.code.Instr.{Instr}
+use Rattle.vax_templates.specs.vax_core.specs.Homes.{home, at_home}
+use Rattle.vax_templates.specs.vax_core.specs.Registers.{operand_bits}
+use Rattle.vax_templates.specs.vax_core.specs.Same.{same_operand}
 use Rattle.vax_states.specs.vax_machine_live.specs.declared.frame.Frame.{Frame}
 use Rattle.vax_states.specs.vax_machine.specs.State.{State, reg}
 use Rattle.vax_states.specs.Agreeing.{Agrees, HasRoom}

@@ -5,75 +5,75 @@ use Rattle.std.specs.List.{AllByRecursion}
 use Rattle.gg_base.specs.declared.size.Size.{Size}
 use Rattle.gg_base.specs.declared.size.Size.TheVariants.{Byte, Word, Long}
 use Rattle.gg_base.specs.Sizes.{bytes_of}
-use Rattle.tree_core.specs.declared.token.Tok.{Tok}
-use Rattle.tree_core.specs.declared.token.Tok.TheVariants as tok
+use Rattle.vax_target_writing.specs.tree_core.specs.declared.token.Tok.{Tok}
+use Rattle.vax_target_writing.specs.tree_core.specs.declared.token.Tok.TheVariants as tok
 use Rattle.md_reader_pieces.specs.declared.piece.Piece.{Piece}
 use Rattle.md_reader_pieces.specs.declared.piece.Line.{Line}
-use Rattle.md_reader.specs.declared.types.Kind.{Kind}
-use Rattle.md_reader.specs.declared.types.Kind.TheVariants as kind
-use Rattle.md_reader.specs.declared.types.Class.{Class}
-use Rattle.md_reader.specs.declared.types.Sym.{Sym}
-use Rattle.md_reader.specs.declared.types.Sym.TheVariants as grammar_symbol
-use Rattle.md_reader.specs.declared.types.Give.{Give}
-use Rattle.md_reader.specs.declared.types.Give.TheVariants as give
-use Rattle.md_reader.specs.declared.types.Rule.{Rule}
-use Rattle.md_reader.specs.Patterns.{kind_at}
-use Rattle.term_core.specs.Shape.{Shape, Constant, LastResult}
-use Rattle.term_core_accesses.specs.Keeping.{IsNarrow}
-use Rattle.sel_terms.specs.Effects.{ActShape, EffectShape, Value, PlaceHome, Branch, Push, Call, Save, Jump}
-use Rattle.vax_templates.specs.sel_terms_meaning.specs.Alike.{AllNarrow, IsNarrowAct, IsNarrowEffect}
-use Rattle.vax_templates.specs.sel_terms_meaning.proofs.Narrow.{joined_narrow}
-use Rattle.sel_terms.specs.Same.{same_size}
-use Rattle.vax_templates.specs.sel_target.specs.declared.fault.TemplateKind.{TemplateKind}
-use Rattle.vax_templates.specs.sel_target.specs.declared.fault.TemplateKind.TheVariants.{NotInstr, WrongSize, Order}
+use Rattle.vax_target_writing.specs.md_reader.specs.declared.types.Kind.{Kind}
+use Rattle.vax_target_writing.specs.md_reader.specs.declared.types.Kind.TheVariants as kind
+use Rattle.vax_target_writing.specs.md_reader.specs.declared.types.Class.{Class}
+use Rattle.vax_target_writing.specs.md_reader.specs.declared.types.Sym.{Sym}
+use Rattle.vax_target_writing.specs.md_reader.specs.declared.types.Sym.TheVariants as grammar_symbol
+use Rattle.vax_target_writing.specs.md_reader.specs.declared.types.Give.{Give}
+use Rattle.vax_target_writing.specs.md_reader.specs.declared.types.Give.TheVariants as give
+use Rattle.vax_target_writing.specs.md_reader.specs.declared.types.Rule.{Rule}
+use Rattle.vax_target_writing.specs.md_reader.specs.Patterns.{kind_at}
+use Rattle.vax_target_writing.specs.term_core.specs.Shape.{Shape, Constant, LastResult}
+use Rattle.vax_target_writing.specs.term_core_accesses.specs.Keeping.{IsNarrow}
+use Rattle.vax_target_writing.specs.sel_terms.specs.Effects.{ActShape, EffectShape, Value, PlaceHome, Branch, Push, Call, Save, Jump}
+use Rattle.vax_target_writing.specs.sel_terms_meaning.specs.Alike.{AllNarrow, IsNarrowAct, IsNarrowEffect}
+use Rattle.vax_target_writing.specs.sel_terms_meaning.proofs.Narrow.{joined_narrow}
+use Rattle.vax_target_writing.specs.sel_terms.specs.Same.{same_size}
+use Rattle.vax_target_writing.specs.sel_target.specs.declared.fault.TemplateKind.{TemplateKind}
+use Rattle.vax_target_writing.specs.sel_target.specs.declared.fault.TemplateKind.TheVariants.{NotInstr, WrongSize, Order}
 use Rattle.vax_core.specs.declared.op.Op.{Op}
 use Rattle.vax_core.specs.declared.op.Access.{Access}
 use Rattle.vax_core.specs.declared.op.Access.TheVariants as accesses
 use Rattle.vax_core.specs.declared.op.OperandKind.{OperandKind}
 use Rattle.vax_core.specs.Ops.{shape}
-use Rattle.vax_machine.specs.declared.function.Action.{Action}
-use Rattle.vax_machine.specs.declared.function.Action.TheVariants as action
-use Rattle.vax_machine.specs.declared.function.Function.{Function}
-use Rattle.vax_machine.specs.declared.function.Function.TheVariants as functions
-use Rattle.vax_machine.specs.Functions.{action_of}
-use Rattle.vax_templates.specs.declared.form.Number.{Number as Spelled}
-use Rattle.vax_templates.specs.declared.form.Number.TheVariants as number
-use Rattle.vax_templates.specs.declared.form.Base.{Base}
-use Rattle.vax_templates.specs.declared.form.Base.TheVariants as base
-use Rattle.vax_templates.specs.declared.form.Form.{Form}
-use Rattle.vax_templates.specs.declared.setting.Hole.{Hole}
-use Rattle.vax_templates.specs.declared.setting.Hole.TheVariants as hole_kind
-use Rattle.vax_templates.specs.declared.setting.Own.{Own}
-use Rattle.vax_templates.specs.declared.setting.Own.TheVariants as own
-use Rattle.vax_templates.specs.declared.setting.Opening.{Opening}
-use Rattle.vax_templates.specs.declared.setting.Opening.TheVariants as opening
-use Rattle.vax_templates.specs.declared.setting.Setting.{Setting}
-use Rattle.vax_templates.specs.Settings.{hole_of_token, hole_of_kind, hole_of, holes_of, saved_hole, hole_or_other, hole_at, setting_of, saved_setting}
-use Rattle.vax_templates.specs.Instructions.{Instruction, Relation, Jump as Jumps, Calls, Ret, Operates, marks_behind, instruction_of, shape_of_pieces}
-use Rattle.vax_templates.specs.Standing as where_
-use Rattle.vax_templates.specs.Standing.{Where, where_own, where_hole, where_zero, where_deferred, at, displaced}
-use Rattle.vax_templates.specs.Standing.{pointed, negated, itself, where_base, moved, where_indexed, form_where}
-use Rattle.vax_templates.specs.Standing.{◌>>=◌}
-use Rattle.vax_templates.specs.HoleTerms.{constant_of, address_of, absolute_term, number_term, own_value, register_of}
-use Rattle.vax_templates.specs.HoleTerms.{register_term}
-use Rattle.vax_templates.specs.Targets.{Target, ToOwn, ToSlot, ToHome, ToMemory, ToZero, ToSaved, own_target}
-use Rattle.vax_templates.specs.Targets.{memory_target, zero_target, statement_target, targeted}
-use Rattle.vax_templates.specs.Taking.{Taken, taken_missized, sized, last_result, cut_term, fetched, addressed}
-use Rattle.vax_templates.specs.Taking.{written, both, taken, evaluated, Arguments, last_of, in_front, all_evaluated}
-use Rattle.vax_templates.specs.Giving.{Given, Computes, Divides, Compares, Tests, extended, truncated, given}
-use Rattle.vax_templates.specs.Deeds.{Last, Plain, Compared, Tested, Returning, Ended, Deed, leaves, ends}
-use Rattle.vax_templates.specs.Deeds.{ends_statement, is_relation, branches, is_movl, is_last_result, put, divided}
-use Rattle.vax_templates.specs.Deeds.{computed, acted}
-use Rattle.vax_templates.specs.Judging.{is_disordered, in_order, with_reads, checked, operated, instruction_did}
-use Rattle.vax_templates.specs.Judging.{returned, did_behind, read, line_did}
-use Rattle.vax_templates.specs.Found as found_
-use Rattle.vax_templates.specs.Progress.{Progress, start, kept_or_put, at_line, kept, judged}
-use Rattle.vax_templates.specs.Progress.{lines_judged}
-use Rattle.vax_templates.specs.GiveLines.{left_value, last_deed, register_given, number_given, base_number}
-use Rattle.vax_templates.specs.GiveLines.{address_given, value_given, home_given, place_given}
-use Rattle.vax_templates.specs.GiveLines.{shape_given, shape_read, given_by, given_line}
-use Rattle.vax_templates.specs.Dropped.{first_dropped, none_dropped}
-use Rattle.vax_templates.specs.Found.{with_divisors, ended, template_found, found, saved_found, saved_give}
+use Rattle.vax_target_writing.specs.vax_machine.specs.declared.function.Action.{Action}
+use Rattle.vax_target_writing.specs.vax_machine.specs.declared.function.Action.TheVariants as action
+use Rattle.vax_target_writing.specs.vax_machine.specs.declared.function.Function.{Function}
+use Rattle.vax_target_writing.specs.vax_machine.specs.declared.function.Function.TheVariants as functions
+use Rattle.vax_target_writing.specs.vax_machine.specs.Functions.{action_of}
+use Rattle.vax_target_writing.specs.vax_templates.specs.declared.form.Number.{Number as Spelled}
+use Rattle.vax_target_writing.specs.vax_templates.specs.declared.form.Number.TheVariants as number
+use Rattle.vax_target_writing.specs.vax_templates.specs.declared.form.Base.{Base}
+use Rattle.vax_target_writing.specs.vax_templates.specs.declared.form.Base.TheVariants as base
+use Rattle.vax_target_writing.specs.vax_templates.specs.declared.form.Form.{Form}
+use Rattle.vax_target_writing.specs.vax_templates.specs.declared.setting.Hole.{Hole}
+use Rattle.vax_target_writing.specs.vax_templates.specs.declared.setting.Hole.TheVariants as hole_kind
+use Rattle.vax_target_writing.specs.vax_templates.specs.declared.setting.Own.{Own}
+use Rattle.vax_target_writing.specs.vax_templates.specs.declared.setting.Own.TheVariants as own
+use Rattle.vax_target_writing.specs.vax_templates.specs.declared.setting.Opening.{Opening}
+use Rattle.vax_target_writing.specs.vax_templates.specs.declared.setting.Opening.TheVariants as opening
+use Rattle.vax_target_writing.specs.vax_templates.specs.declared.setting.Setting.{Setting}
+use Rattle.vax_target_writing.specs.vax_templates.specs.Settings.{hole_of_token, hole_of_kind, hole_of, holes_of, saved_hole, hole_or_other, hole_at, setting_of, saved_setting}
+use Rattle.vax_target_writing.specs.vax_templates.specs.Instructions.{Instruction, Relation, Jump as Jumps, Calls, Ret, Operates, marks_behind, instruction_of, shape_of_pieces}
+use Rattle.vax_target_writing.specs.vax_templates.specs.Standing as where_
+use Rattle.vax_target_writing.specs.vax_templates.specs.Standing.{Where, where_own, where_hole, where_zero, where_deferred, at, displaced}
+use Rattle.vax_target_writing.specs.vax_templates.specs.Standing.{pointed, negated, itself, where_base, moved, where_indexed, form_where}
+use Rattle.vax_target_writing.specs.vax_templates.specs.Standing.{◌>>=◌}
+use Rattle.vax_target_writing.specs.vax_templates.specs.HoleTerms.{constant_of, address_of, absolute_term, number_term, own_value, register_of}
+use Rattle.vax_target_writing.specs.vax_templates.specs.HoleTerms.{register_term}
+use Rattle.vax_target_writing.specs.vax_templates.specs.Targets.{Target, ToOwn, ToSlot, ToHome, ToMemory, ToZero, ToSaved, own_target}
+use Rattle.vax_target_writing.specs.vax_templates.specs.Targets.{memory_target, zero_target, statement_target, targeted}
+use Rattle.vax_target_writing.specs.vax_templates.specs.Taking.{Taken, taken_missized, sized, last_result, cut_term, fetched, addressed}
+use Rattle.vax_target_writing.specs.vax_templates.specs.Taking.{written, both, taken, evaluated, Arguments, last_of, in_front, all_evaluated}
+use Rattle.vax_target_writing.specs.vax_templates.specs.Giving.{Given, Computes, Divides, Compares, Tests, extended, truncated, given}
+use Rattle.vax_target_writing.specs.vax_templates.specs.Deeds.{Last, Plain, Compared, Tested, Returning, Ended, Deed, leaves, ends}
+use Rattle.vax_target_writing.specs.vax_templates.specs.Deeds.{ends_statement, is_relation, branches, is_movl, is_last_result, put, divided}
+use Rattle.vax_target_writing.specs.vax_templates.specs.Deeds.{computed, acted}
+use Rattle.vax_target_writing.specs.vax_templates.specs.Judging.{is_disordered, in_order, with_reads, checked, operated, instruction_did}
+use Rattle.vax_target_writing.specs.vax_templates.specs.Judging.{returned, did_behind, read, line_did}
+use Rattle.vax_target_writing.specs.vax_templates.specs.Found as found_
+use Rattle.vax_target_writing.specs.vax_templates.specs.Progress.{Progress, start, kept_or_put, at_line, kept, judged}
+use Rattle.vax_target_writing.specs.vax_templates.specs.Progress.{lines_judged}
+use Rattle.vax_target_writing.specs.vax_templates.specs.GiveLines.{left_value, last_deed, register_given, number_given, base_number}
+use Rattle.vax_target_writing.specs.vax_templates.specs.GiveLines.{address_given, value_given, home_given, place_given}
+use Rattle.vax_target_writing.specs.vax_templates.specs.GiveLines.{shape_given, shape_read, given_by, given_line}
+use Rattle.vax_target_writing.specs.vax_templates.specs.Dropped.{first_dropped, none_dropped}
+use Rattle.vax_target_writing.specs.vax_templates.specs.Found.{with_divisors, ended, template_found, found, saved_found, saved_give}
 use Rattle.vax_target_narrow.specs.Laws.{EffectsAreNarrow}
 use Rattle.vax_target_writing.proofs.Each.{Each, EachOk, bind_each, if_ok, of_ok}
 use Rattle.vax_target_writing.proofs.Longs.{IsLongNumber, IsLongBase, IsLongForm}

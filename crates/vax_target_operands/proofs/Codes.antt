@@ -9,8 +9,8 @@ use Rattle.gg_base.specs.declared.relation.Rel.TheVariants.{Eq, Ne, Lt, Le, Gt, 
 use Rattle.gg_base.specs.Relations.{holds, signed_rank}
 use Rattle.gg_base.specs.Arithmetic.{sext8, sext16, zext8, zext16}
 use Rattle.gg_base.proofs.Facts.{same_bool}
-use Rattle.vax_machine.specs.declared.function.Conditions.{Conditions}
-use Rattle.vax_machine.specs.Functions.{extended, is_negative_at}
+use Rattle.vax_target_meaning.specs.vax_machine.specs.declared.function.Conditions.{Conditions}
+use Rattle.vax_target_meaning.specs.vax_machine.specs.Functions.{extended, is_negative_at}
 use Rattle.vax_target_operands.specs.Conditions.{Compared, Tested, IsNarrow}
 
 -- ---- tests of numbers

@@ -5,7 +5,7 @@ use Rattle.gg_base.specs.declared.size.Size.{Size}
 use Rattle.gg_base.specs.Sizes.{bytes_of}
 use Rattle.gg_base.specs.Arithmetic.{add32, mul32, neg32}
 use Rattle.gg_base.proofs.Facts.{first_false, second_false, err_ok, ok_same}
-use Rattle.term_core.specs.Shape.{Shape, Symbol, Memory}
+use Rattle.vax_target_meaning.specs.term_core.specs.Shape.{Shape, Symbol, Memory}
 use Rattle.vax_target_meaning.specs.sel_target.specs.declared.fault.TemplateKind.{TemplateKind}
 use Rattle.vax_target_meaning.specs.sel_target.specs.Values.{IsRead}
 use Rattle.vax_core.specs.declared.register.Reg.{Reg}
@@ -13,11 +13,11 @@ use Rattle.vax_core.specs.declared.register.Reg.TheVariants.{R0}
 use Rattle.vax_core.specs.declared.operand.Addr.{Addr}
 use Rattle.vax_core.specs.declared.operand.Base.TheVariants as bases
 use Rattle.vax_core.specs.declared.operand.Operand.{Operand}
-use Rattle.vax_machine.specs.declared.operands.Location.{Location}
-use Rattle.vax_machine.specs.declared.operands.Location.TheVariants as locations
-use Rattle.vax_machine.specs.State.{State, reg}
-use Rattle.vax_machine.specs.Area.{resolved}
-use Rattle.vax_machine.specs.Operands.{located, indexed, deferred}
+use Rattle.vax_target_meaning.specs.vax_machine.specs.declared.operands.Location.{Location}
+use Rattle.vax_target_meaning.specs.vax_machine.specs.declared.operands.Location.TheVariants as locations
+use Rattle.vax_target_meaning.specs.vax_machine.specs.State.{State, reg}
+use Rattle.vax_target_meaning.specs.vax_machine.specs.Area.{resolved}
+use Rattle.vax_target_meaning.specs.vax_machine.specs.Operands.{located, indexed, deferred}
 use Rattle.vax_target_meaning.specs.vax_templates.specs.declared.form.Number.{Number}
 use Rattle.vax_target_meaning.specs.vax_templates.specs.declared.form.Base.{Base}
 use Rattle.vax_target_meaning.specs.vax_templates.specs.declared.form.Base.TheVariants as base

@@ -5,8 +5,8 @@ use Rattle.std.specs.List.{AllByRecursion}
 use Rattle.gg_base.specs.declared.size.Size.{Size}
 use Rattle.gg_base.specs.declared.size.Size.TheVariants.{Long}
 use Rattle.gg_base.proofs.Facts.{err_ok, ok_same}
-use Rattle.tree_core.specs.Area as trees
-use Rattle.term_core.specs.Shape.{Shape, Constant, Symbol, Memory}
+use Rattle.vax_target_meaning.specs.tree_core.specs.Area as trees
+use Rattle.vax_target_meaning.specs.term_core.specs.Shape.{Shape, Constant, Symbol, Memory}
 use Rattle.vax_target_meaning.specs.sel_target.specs.declared.fault.TemplateKind.TheVariants.{NotInstr}
 use Rattle.vax_target_meaning.specs.sel_target.specs.declared.attr.Attr.{Attr}
 use Rattle.vax_target_meaning.specs.sel_target.specs.declared.attr.Attr.TheVariants as attr
@@ -16,13 +16,13 @@ use Rattle.vax_core.specs.declared.operand.Addr.{Addr}
 use Rattle.vax_core.specs.declared.operand.Base.{Base as MachineBase}
 use Rattle.vax_core.specs.declared.operand.Base.TheVariants as bases
 use Rattle.vax_core.specs.declared.operand.Operand.{Operand}
-use Rattle.vax_machine.specs.declared.turn.Stop.{Stop}
-use Rattle.vax_machine.specs.declared.operands.Location.{Location}
-use Rattle.vax_machine.specs.declared.operands.Location.TheVariants as locations
-use Rattle.vax_machine.specs.State.{State, reg, ◌>>=◌}
-use Rattle.vax_machine.specs.Area.{resolved, resolved_of}
-use Rattle.vax_machine.specs.Memory.{read}
-use Rattle.vax_machine.specs.Operands.{located, indexed, fetched, deferred}
+use Rattle.vax_target_meaning.specs.vax_machine.specs.declared.turn.Stop.{Stop}
+use Rattle.vax_target_meaning.specs.vax_machine.specs.declared.operands.Location.{Location}
+use Rattle.vax_target_meaning.specs.vax_machine.specs.declared.operands.Location.TheVariants as locations
+use Rattle.vax_target_meaning.specs.vax_machine.specs.State.{State, reg, ◌>>=◌}
+use Rattle.vax_target_meaning.specs.vax_machine.specs.Area.{resolved, resolved_of}
+use Rattle.vax_target_meaning.specs.vax_machine.specs.Memory.{read}
+use Rattle.vax_target_meaning.specs.vax_machine.specs.Operands.{located, indexed, fetched, deferred}
 use Rattle.vax_target_meaning.specs.vax_machine_lists.proofs.Longwords.{all_bytes}
 use Rattle.vax_target_meaning.specs.vax_templates.specs.declared.form.Number.{Number}
 use Rattle.vax_target_meaning.specs.vax_templates.specs.declared.form.Number.TheVariants as number

@@ -9,19 +9,19 @@ use Rattle.gg_base.specs.declared.size.Size.{Size}
 use Rattle.gg_base.specs.declared.size.Size.TheVariants.{Long}
 use Rattle.gg_base.specs.Sizes.{bytes_of, low}
 use Rattle.gg_base.specs.LittleEndian.{number_in}
-use Rattle.tree_core.specs.Area as trees
+use Rattle.vax_target_meaning.specs.tree_core.specs.Area as trees
 use Rattle.vax_core.specs.declared.register.Reg.{Reg}
 use Rattle.vax_core.specs.declared.operand.Addr.{Addr}
 use Rattle.vax_core.specs.declared.operand.Base.{Base}
 use Rattle.vax_core.specs.declared.operand.Base.TheVariants as bases
 use Rattle.vax_core.specs.declared.operand.Operand.{Operand}
-use Rattle.vax_machine.specs.declared.turn.Stop.{Stop}
-use Rattle.vax_machine.specs.declared.operands.Location.{Location}
-use Rattle.vax_machine.specs.declared.operands.Location.TheVariants as locations
-use Rattle.vax_machine.specs.State.{State, reg, ◌>>=◌}
-use Rattle.vax_machine.specs.Area.{resolved}
-use Rattle.vax_machine.specs.Memory.{read}
-use Rattle.vax_machine.specs.Operands.{located, indexed, moved, fetched, deferred}
+use Rattle.vax_target_meaning.specs.vax_machine.specs.declared.turn.Stop.{Stop}
+use Rattle.vax_target_meaning.specs.vax_machine.specs.declared.operands.Location.{Location}
+use Rattle.vax_target_meaning.specs.vax_machine.specs.declared.operands.Location.TheVariants as locations
+use Rattle.vax_target_meaning.specs.vax_machine.specs.State.{State, reg, ◌>>=◌}
+use Rattle.vax_target_meaning.specs.vax_machine.specs.Area.{resolved}
+use Rattle.vax_target_meaning.specs.vax_machine.specs.Memory.{read}
+use Rattle.vax_target_meaning.specs.vax_machine.specs.Operands.{located, indexed, moved, fetched, deferred}
 use Rattle.vax_target_meaning.specs.vax_states.proofs.Touching.{area_read}
 use Rattle.vax_target_meaning.specs.Reading.{is_own, is_own_place, number_of, number_at, longword, displaced, named, names, at_place, in_memory, reads_by, reads}
 use Rattle.vax_target_meaning.specs.Reading as reading

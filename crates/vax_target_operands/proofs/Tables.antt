@@ -5,14 +5,14 @@ use Rattle.gg_base.specs.declared.size.Size.{Size}
 use Rattle.gg_base.specs.declared.size.Size.TheVariants.{Byte, Word, Long}
 use Rattle.gg_base.specs.Arithmetic.{div32, and32}
 use Rattle.gg_base.proofs.Words.{some_quotient}
-use Rattle.term_core.specs.declared.operator.BinaryOp.TheVariants.{And}
-use Rattle.term_core.specs.Shape.{Shape, Binary}
-use Rattle.term_core.proofs.Values.{small}
+use Rattle.vax_target_meaning.specs.term_core.specs.declared.operator.BinaryOp.TheVariants.{And}
+use Rattle.vax_target_meaning.specs.term_core.specs.Shape.{Shape, Binary}
+use Rattle.vax_target_meaning.specs.term_core.proofs.Values.{small}
 use Rattle.vax_target_meaning.specs.sel_target.specs.Values.{term_state}
-use Rattle.vax_machine.specs.declared.function.Computed.{Computed}
-use Rattle.vax_machine.specs.declared.function.Function.TheVariants as functions
-use Rattle.vax_machine.specs.Functions.{valued, quotient, applied}
-use Rattle.vax_machine.specs.Functions as machine
+use Rattle.vax_target_meaning.specs.vax_machine.specs.declared.function.Computed.{Computed}
+use Rattle.vax_target_meaning.specs.vax_machine.specs.declared.function.Function.TheVariants as functions
+use Rattle.vax_target_meaning.specs.vax_machine.specs.Functions.{valued, quotient, applied}
+use Rattle.vax_target_meaning.specs.vax_machine.specs.Functions as machine
 use Rattle.gg_base.specs.Sizes.{low}
 use Rattle.vax_target_meaning.specs.vax_templates.specs.Giving.{given, extended, truncated}
 use Rattle.vax_target_operands.specs.Scenes.{Scene, worth}

@@ -4,8 +4,8 @@ use Rattle.gg_base.specs.declared.size.Size.{Size}
 use Rattle.gg_base.specs.declared.size.Size.TheVariants.{Byte, Word, Long}
 use Rattle.gg_base.specs.Sizes.{bytes_of, low}
 use Rattle.gg_base.specs.Arithmetic.{mul32}
-use Rattle.term_core.specs.Shape.{Shape}
-use Rattle.term_core.proofs.Values.{small}
+use Rattle.vax_target_meaning.specs.term_core.specs.Shape.{Shape}
+use Rattle.vax_target_meaning.specs.term_core.proofs.Values.{small}
 use Rattle.vax_target_meaning.specs.sel_target.specs.Values.{term_state}
 use Rattle.vax_target_meaning.specs.vax_templates.specs.Standing.{scaled}
 use Rattle.vax_target_meaning.specs.vax_templates.specs.Giving.{truncated}

@@ -5,14 +5,14 @@ use Rattle.gg_base.specs.Sizes.{bytes_of}
 use Rattle.gg_base.specs.declared.relation.Rel.{Rel}
 use Rattle.gg_base.specs.declared.relation.Rel.TheVariants as relations
 use Rattle.gg_base.specs.Relations.{holds, compares_signed}
-use Rattle.term_core.specs.Shape.{Shape}
-use Rattle.vax_machine.specs.declared.function.Computed.{Computed}
-use Rattle.vax_machine.specs.declared.function.Conditions.{Conditions}
-use Rattle.vax_machine.specs.declared.function.Function.{Function}
-use Rattle.vax_machine.specs.declared.function.Function.TheVariants as functions
-use Rattle.vax_machine.specs.declared.function.Test.{Test}
-use Rattle.vax_machine.specs.declared.function.Test.TheVariants as test
-use Rattle.vax_machine.specs.Functions.{passes, applied}
+use Rattle.vax_target_meaning.specs.term_core.specs.Shape.{Shape}
+use Rattle.vax_target_meaning.specs.vax_machine.specs.declared.function.Computed.{Computed}
+use Rattle.vax_target_meaning.specs.vax_machine.specs.declared.function.Conditions.{Conditions}
+use Rattle.vax_target_meaning.specs.vax_machine.specs.declared.function.Function.{Function}
+use Rattle.vax_target_meaning.specs.vax_machine.specs.declared.function.Function.TheVariants as functions
+use Rattle.vax_target_meaning.specs.vax_machine.specs.declared.function.Test.{Test}
+use Rattle.vax_target_meaning.specs.vax_machine.specs.declared.function.Test.TheVariants as test
+use Rattle.vax_target_meaning.specs.vax_machine.specs.Functions.{passes, applied}
 use Rattle.vax_target_meaning.specs.vax_templates.specs.Giving.{Given, Computes, Divides, Compares, Tests, given}
 use Rattle.vax_target_operands.specs.Scenes.{Scene, worth}
 

@@ -2,15 +2,15 @@
 use Rattle.std.specs.Prelude.{◌≡◌, ℕ, ◌^◌, ◌<◌, true, false, Option, Some, None, IsSome, Ok}
 use Rattle.gg_base.specs.declared.size.Size.{Size}
 use Rattle.gg_base.specs.declared.size.Size.TheVariants.{Long}
-use Rattle.term_core.specs.Shape.{Shape, Symbol}
+use Rattle.vax_target_meaning.specs.term_core.specs.Shape.{Shape, Symbol}
 use Rattle.vax_target_meaning.specs.sel_target.specs.Values.{IsRead}
 use Rattle.vax_core.specs.declared.register.Reg.{Reg}
 use Rattle.vax_core.specs.declared.register.Reg.TheVariants.{R0}
 use Rattle.vax_core.specs.declared.operand.Operand.{Operand}
-use Rattle.vax_machine.specs.declared.operands.Location.{Location}
-use Rattle.vax_machine.specs.declared.operands.Location.TheVariants as locations
-use Rattle.vax_machine.specs.State.{State, reg}
-use Rattle.vax_machine.specs.Operands.{located, indexed, fetched}
+use Rattle.vax_target_meaning.specs.vax_machine.specs.declared.operands.Location.{Location}
+use Rattle.vax_target_meaning.specs.vax_machine.specs.declared.operands.Location.TheVariants as locations
+use Rattle.vax_target_meaning.specs.vax_machine.specs.State.{State, reg}
+use Rattle.vax_target_meaning.specs.vax_machine.specs.Operands.{located, indexed, fetched}
 use Rattle.vax_target_meaning.specs.vax_templates.specs.declared.form.Number.{Number}
 use Rattle.vax_target_meaning.specs.vax_templates.specs.declared.form.Number.TheVariants as number
 use Rattle.vax_target_meaning.specs.vax_templates.specs.declared.form.Base.{Base}

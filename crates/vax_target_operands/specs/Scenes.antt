@@ -3,8 +3,8 @@ use Rattle.std.specs.Prelude.{◌≡◌, ℕ, ◌%◌, ◌^◌, ◌<◌, Bool, t
 use Rattle.gg_base.specs.declared.limits.TheConstants.{NEED_LIMIT}
 use Rattle.gg_base.specs.declared.size.Size.{Size}
 use Rattle.gg_base.specs.declared.size.Size.TheVariants.{Long}
-use Rattle.tree_core.specs.declared.program.TreeProgram.{TreeProgram}
-use Rattle.term_core.specs.Shape.{Shape, Symbol, LastResult}
+use Rattle.vax_target_meaning.specs.tree_core.specs.declared.program.TreeProgram.{TreeProgram}
+use Rattle.vax_target_meaning.specs.term_core.specs.Shape.{Shape, Symbol, LastResult}
 use Rattle.vax_target_meaning.specs.sel_target.specs.declared.attr.Attr.{Attr}
 use Rattle.vax_target_meaning.specs.sel_target.specs.declared.attr.Attr.TheVariants as attr
 use Rattle.vax_target_meaning.specs.sel_target.specs.Values.{View, value}
@@ -12,8 +12,8 @@ use Rattle.vax_core.specs.declared.register.Reg.TheVariants.{R0}
 use Rattle.vax_core.specs.declared.operand.Base.TheVariants as bases
 use Rattle.vax_core.specs.declared.operand.Operand.{Operand}
 use Rattle.vax_core.specs.Homes.{home}
-use Rattle.vax_machine.specs.State.{State, reg}
-use Rattle.vax_machine.specs.Area.{resolved}
+use Rattle.vax_target_meaning.specs.vax_machine.specs.State.{State, reg}
+use Rattle.vax_target_meaning.specs.vax_machine.specs.Area.{resolved}
 use Rattle.vax_target_meaning.specs.vax_machine_lists.specs.Sound.{IsSound}
 use Rattle.vax_target_meaning.specs.vax_templates.specs.declared.setting.Hole.{Hole}
 use Rattle.vax_target_meaning.specs.vax_templates.specs.declared.setting.Hole.TheVariants as hole_kind

@@ -4,40 +4,40 @@ use Rattle.std.proofs.lemmas.Bool.{true≢false}
 use Rattle.gg_base.proofs.Facts.{first_false, err_ok}
 use Rattle.md_reader_pieces.specs.declared.piece.Piece.{Piece}
 use Rattle.md_reader_pieces.specs.declared.piece.Line.{Line}
-use Rattle.md_reader.specs.declared.types.Kind.{Kind}
-use Rattle.md_reader.specs.declared.types.Kind.TheVariants as kind
-use Rattle.md_reader.specs.declared.types.Give.{Give}
-use Rattle.md_reader.specs.declared.types.Give.TheVariants as give
-use Rattle.md_reader.specs.Patterns.{kind_at}
-use Rattle.term_core.specs.Shape.{Shape, Constant}
-use Rattle.sel_terms.specs.Effects as effects
-use Rattle.sel_terms.specs.Effects.{ActShape, EffectShape}
-use Rattle.vax_templates.specs.sel_target.specs.declared.fault.TemplateKind.{TemplateKind}
-use Rattle.vax_templates.specs.sel_target.specs.declared.fault.TemplateKind.TheVariants.{NotInstr, WrongSize, Order}
+use Rattle.vax_target_writing.specs.md_reader.specs.declared.types.Kind.{Kind}
+use Rattle.vax_target_writing.specs.md_reader.specs.declared.types.Kind.TheVariants as kind
+use Rattle.vax_target_writing.specs.md_reader.specs.declared.types.Give.{Give}
+use Rattle.vax_target_writing.specs.md_reader.specs.declared.types.Give.TheVariants as give
+use Rattle.vax_target_writing.specs.md_reader.specs.Patterns.{kind_at}
+use Rattle.vax_target_writing.specs.term_core.specs.Shape.{Shape, Constant}
+use Rattle.vax_target_writing.specs.sel_terms.specs.Effects as effects
+use Rattle.vax_target_writing.specs.sel_terms.specs.Effects.{ActShape, EffectShape}
+use Rattle.vax_target_writing.specs.sel_target.specs.declared.fault.TemplateKind.{TemplateKind}
+use Rattle.vax_target_writing.specs.sel_target.specs.declared.fault.TemplateKind.TheVariants.{NotInstr, WrongSize, Order}
 use Rattle.vax_core.specs.declared.op.Op.{Op}
 use Rattle.vax_core.specs.Ops.{shape}
-use Rattle.vax_machine.specs.declared.function.Action.{Action}
-use Rattle.vax_machine.specs.declared.function.Action.TheVariants as action
-use Rattle.vax_machine.specs.Functions.{action_of}
-use Rattle.vax_templates.specs.declared.form.Form.{Form}
-use Rattle.vax_templates.specs.declared.setting.Hole.{Hole}
-use Rattle.vax_templates.specs.declared.setting.Setting.{Setting}
-use Rattle.vax_templates.specs.Settings.{hole_at, holes_of, setting_of}
-use Rattle.vax_templates.specs.Instructions.{Instruction, Relation, Jump, Calls, Ret, Operates, instruction_of, shape_of_pieces}
-use Rattle.vax_templates.specs.Standing.{◌>>=◌}
-use Rattle.vax_templates.specs.Targets.{Target, ToOwn, ToSlot, ToHome, ToMemory, ToZero, ToSaved}
-use Rattle.vax_templates.specs.Taking.{Arguments, all_evaluated}
-use Rattle.vax_templates.specs.Giving.{Given, Computes, Divides, Compares, Tests, given}
-use Rattle.vax_templates.specs.Deeds.{Last, Plain, Compared, Tested, Returning, Ended, Deed, leaves, ends}
-use Rattle.vax_templates.specs.Deeds.{ends_statement, is_relation, branches, is_movl, is_last_result, put, divided}
-use Rattle.vax_templates.specs.Deeds.{computed, acted}
-use Rattle.vax_templates.specs.Judging.{has_some, is_disordered, with_reads, checked, operated, instruction_did}
-use Rattle.vax_templates.specs.Judging.{returned, did_behind, read, line_did}
-use Rattle.vax_templates.specs.Found as found_
-use Rattle.vax_templates.specs.Progress.{Progress, start, at_line, kept, judged, lines_judged}
-use Rattle.vax_templates.specs.GiveLines.{given_by, given_line, shape_read, shape_given}
-use Rattle.vax_templates.specs.Dropped.{first_dropped, none_dropped}
-use Rattle.vax_templates.specs.Found.{with_divisors, ended, template_found, found}
+use Rattle.vax_target_writing.specs.vax_machine.specs.declared.function.Action.{Action}
+use Rattle.vax_target_writing.specs.vax_machine.specs.declared.function.Action.TheVariants as action
+use Rattle.vax_target_writing.specs.vax_machine.specs.Functions.{action_of}
+use Rattle.vax_target_writing.specs.vax_templates.specs.declared.form.Form.{Form}
+use Rattle.vax_target_writing.specs.vax_templates.specs.declared.setting.Hole.{Hole}
+use Rattle.vax_target_writing.specs.vax_templates.specs.declared.setting.Setting.{Setting}
+use Rattle.vax_target_writing.specs.vax_templates.specs.Settings.{hole_at, holes_of, setting_of}
+use Rattle.vax_target_writing.specs.vax_templates.specs.Instructions.{Instruction, Relation, Jump, Calls, Ret, Operates, instruction_of, shape_of_pieces}
+use Rattle.vax_target_writing.specs.vax_templates.specs.Standing.{◌>>=◌}
+use Rattle.vax_target_writing.specs.vax_templates.specs.Targets.{Target, ToOwn, ToSlot, ToHome, ToMemory, ToZero, ToSaved}
+use Rattle.vax_target_writing.specs.vax_templates.specs.Taking.{Arguments, all_evaluated}
+use Rattle.vax_target_writing.specs.vax_templates.specs.Giving.{Given, Computes, Divides, Compares, Tests, given}
+use Rattle.vax_target_writing.specs.vax_templates.specs.Deeds.{Last, Plain, Compared, Tested, Returning, Ended, Deed, leaves, ends}
+use Rattle.vax_target_writing.specs.vax_templates.specs.Deeds.{ends_statement, is_relation, branches, is_movl, is_last_result, put, divided}
+use Rattle.vax_target_writing.specs.vax_templates.specs.Deeds.{computed, acted}
+use Rattle.vax_target_writing.specs.vax_templates.specs.Judging.{has_some, is_disordered, with_reads, checked, operated, instruction_did}
+use Rattle.vax_target_writing.specs.vax_templates.specs.Judging.{returned, did_behind, read, line_did}
+use Rattle.vax_target_writing.specs.vax_templates.specs.Found as found_
+use Rattle.vax_target_writing.specs.vax_templates.specs.Progress.{Progress, start, at_line, kept, judged, lines_judged}
+use Rattle.vax_target_writing.specs.vax_templates.specs.GiveLines.{given_by, given_line, shape_read, shape_given}
+use Rattle.vax_target_writing.specs.vax_templates.specs.Dropped.{first_dropped, none_dropped}
+use Rattle.vax_target_writing.specs.vax_templates.specs.Found.{with_divisors, ended, template_found, found}
 use Rattle.vax_target_order.specs.Laws.{RulesDivideOnce, StatementsHaveLines}
 use Rattle.vax_target_writing.proofs.Each.{EachOk, bind_each, always_ok, if_ok, of_ok}
 

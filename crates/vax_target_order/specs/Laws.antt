@@ -1,11 +1,11 @@
 -- The laws of this crate: instructions are done in order, and what a template divides by and consists of.
 use Rattle.std.specs.Prelude.{◌≡◌, ◌≤◌, List, length, Some, Ok}
-use Rattle.md_reader.specs.declared.types.Kind.TheVariants as kind
-use Rattle.md_reader.specs.declared.types.Class.{Class}
-use Rattle.md_reader.specs.declared.types.Rule.{Rule}
-use Rattle.md_reader.specs.Patterns.{kind_at}
-use Rattle.sel_terms.specs.Effects.{EffectShape}
-use Rattle.vax_templates.specs.sel_target.specs.TemplateLaws.{RunsInOrder}
+use Rattle.vax_target_writing.specs.md_reader.specs.declared.types.Kind.TheVariants as kind
+use Rattle.vax_target_writing.specs.md_reader.specs.declared.types.Class.{Class}
+use Rattle.vax_target_writing.specs.md_reader.specs.declared.types.Rule.{Rule}
+use Rattle.vax_target_writing.specs.md_reader.specs.Patterns.{kind_at}
+use Rattle.vax_target_writing.specs.sel_terms.specs.Effects.{EffectShape}
+use Rattle.vax_target_writing.specs.sel_target.specs.TemplateLaws.{RunsInOrder}
 use Rattle.vax_target_writing.specs.vax_target_meaning.specs.Vax.{vax}
 
 -- instructions are done one after another

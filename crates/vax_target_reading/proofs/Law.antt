@@ -4,7 +4,7 @@ use Rattle.std.specs.Prelude.{IsSome}
 use Rattle.std.specs.List.{AllByRecursion}
 use Rattle.std.proofs.lemmas.Bool.{false_from_ne_true}
 use Rattle.std.proofs.lemmas.Option.{slice_get_within}
-use Rattle.vax_machine_lists.proofs.Longwords.{all_bytes}
+use Rattle.vax_target_spelling.specs.vax_machine_lists.proofs.Longwords.{all_bytes}
 use Rattle.gg_base.specs.Sizes.{bytes_of}
 use Rattle.gg_base.proofs.Facts.{slice_some}
 use Rattle.vax_target_spelling.specs.vax_target_meaning.specs.Reading.{is_own_place, names, reads}

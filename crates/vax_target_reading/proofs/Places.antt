@@ -11,7 +11,7 @@ use Rattle.gg_base.proofs.Facts.{is_zero}
 use Rattle.tree_core.specs.declared.token.Tok.TheVariants as tok
 use Rattle.tree_core.specs.declared.program.Object.{Object}
 use Rattle.tree_core.specs.Area.{fetched}
-use Rattle.tree_meaning.specs.State.{State as Trees, Extent}
+use Rattle.vax_target_spelling.specs.tree_meaning.specs.State.{State as Trees, Extent}
 use Rattle.vax_core.specs.declared.register.Reg.{Reg}
 use Rattle.vax_core.specs.declared.register.Reg.TheVariants.{Ap, Fp}
 use Rattle.vax_core.specs.declared.operand.Addr.{Addr}
@@ -21,11 +21,11 @@ use Rattle.vax_core.specs.Registers.{operand_bits}
 use Rattle.vax_core.specs.Homes.{home, argument_home}
 use Rattle.vax_machine.specs.State.{State, reg}
 use Rattle.vax_machine.specs.Memory.{read}
-use Rattle.vax_states.specs.Stack.{long_at, word_of, argument_of}
-use Rattle.vax_states.specs.Agreeing.{Agrees}
-use Rattle.vax_states.proofs.Keeping.{reg_small}
-use Rattle.vax_states.proofs.Law.{word_address}
-use Rattle.vax_states.proofs.Standing.{high_top, word_read, local_read, argument_read, area_read_so}
+use Rattle.vax_target_spelling.specs.vax_states.specs.Stack.{long_at, word_of, argument_of}
+use Rattle.vax_target_spelling.specs.vax_states.specs.Agreeing.{Agrees}
+use Rattle.vax_target_spelling.specs.vax_states.proofs.Keeping.{reg_small}
+use Rattle.vax_target_spelling.specs.vax_states.proofs.Law.{word_address}
+use Rattle.vax_target_spelling.specs.vax_states.proofs.Standing.{high_top, word_read, local_read, argument_read, area_read_so}
 use Rattle.vax_target_spelling.specs.vax_templates.specs.Filled.{spare, word_operand, slot_operand}
 use Rattle.vax_target_spelling.specs.vax_target_meaning.specs.Reading.{is_own, is_own_base, is_own_place, number_of, number_at, named, names, at_place, reads}
 use Rattle.vax_target_spelling.proofs.Own.{home_word, local_is}

@@ -19,9 +19,9 @@ use Rattle.vax_machine.specs.declared.memory.Region.TheVariants as regions
 use Rattle.vax_machine.specs.State.{State, reg, ◌>>=◌}
 use Rattle.vax_machine.specs.Area.{resolved}
 use Rattle.vax_machine.specs.Memory.{touched, number_at, read}
-use Rattle.vax_machine_lists.specs.Sound.{IsSound}
-use Rattle.vax_machine_lists.proofs.Longwords.{all_bytes}
-use Rattle.vax_states.proofs.Keeping.{reg_small}
+use Rattle.vax_target_spelling.specs.vax_machine_lists.specs.Sound.{IsSound}
+use Rattle.vax_target_spelling.specs.vax_machine_lists.proofs.Longwords.{all_bytes}
+use Rattle.vax_target_spelling.specs.vax_states.proofs.Keeping.{reg_small}
 use Rattle.tree_core.specs.Area.{fetched, is_inside}
 use Rattle.vax_target_spelling.specs.vax_target_meaning.specs.Reading as reading
 use Rattle.vax_target_spelling.specs.vax_target_meaning.specs.Reading.{number_of, longword, displaced, named, is_own, is_own_place, moved, names, at_place, in_memory, reads_by, reads}

@@ -2,18 +2,18 @@
 use Rattle.std.proofs.Common.{◌≡◌, ℕ, ◌≤◌, ◌++◌, Bool, true, false, cond, List, [], ◌∷◌, length, Option, Some, None, Result, Ok, Err, refl, sym, ap, subst, ◌∙◌, arith}
 use Rattle.std.specs.Prelude.{not, ◌&&◌}
 use Rattle.gg_base.proofs.Facts.{first_false, err_ok, ok_same}
-use Rattle.md_reader_pieces.specs.declared.piece.Line.{Line}
-use Rattle.md_reader_pieces.specs.declared.piece.Piece.{Piece}
-use Rattle.term_core.specs.Shape.{Shape, Constant}
-use Rattle.sel_terms.specs.Effects.{ActShape}
-use Rattle.sel_terms.specs.Effects as act
+use Rattle.vax_target_runs.specs.md_reader_pieces.specs.declared.piece.Line.{Line}
+use Rattle.vax_target_runs.specs.md_reader_pieces.specs.declared.piece.Piece.{Piece}
+use Rattle.vax_target_runs.specs.term_core.specs.Shape.{Shape, Constant}
+use Rattle.vax_target_runs.specs.sel_terms.specs.Effects.{ActShape}
+use Rattle.vax_target_runs.specs.sel_terms.specs.Effects as act
 use Rattle.vax_target_runs.specs.sel_target.specs.declared.fault.TemplateKind.{TemplateKind}
 use Rattle.vax_target_runs.specs.sel_target.specs.declared.fault.TemplateKind.TheVariants.{NotInstr, WrongSize, Order}
 use Rattle.vax_core.specs.declared.op.Op.{Op}
 use Rattle.vax_core.specs.Ops.{shape}
-use Rattle.vax_machine.specs.declared.function.Action.{Action}
-use Rattle.vax_machine.specs.declared.function.Action.TheVariants as action
-use Rattle.vax_machine.specs.Functions.{action_of}
+use Rattle.vax_target_runs.specs.vax_machine.specs.declared.function.Action.{Action}
+use Rattle.vax_target_runs.specs.vax_machine.specs.declared.function.Action.TheVariants as action
+use Rattle.vax_target_runs.specs.vax_machine.specs.Functions.{action_of}
 use Rattle.vax_target_runs.specs.vax_templates.specs.declared.form.Form.{Form}
 use Rattle.vax_target_runs.specs.vax_templates.specs.declared.setting.Hole.{Hole}
 use Rattle.vax_target_runs.specs.vax_templates.specs.declared.setting.Setting.{Setting}

@@ -4,17 +4,17 @@ use Rattle.std.specs.Prelude.{◌||◌}
 use Rattle.std.specs.List.{AllByRecursion, list_any, list_all}
 use Rattle.std.proofs.lemmas.Bool.{and_parts}
 use Rattle.gg_base.proofs.Facts.{err_ok, ok_same, either_is}
-use Rattle.md_reader_pieces.specs.declared.piece.Line.{Line}
-use Rattle.md_reader.specs.declared.types.Kind.{Kind}
-use Rattle.md_reader.specs.declared.types.Class.{Class}
-use Rattle.md_reader.specs.declared.types.Give.{Give}
-use Rattle.md_reader.specs.declared.types.Rule.{Rule}
-use Rattle.md_reader.specs.Patterns.{kind_at}
-use Rattle.term_core.specs.Shape.{Shape, Constant, Symbol, LastResult, Memory, Unary, Binary}
-use Rattle.term_core.specs.Order.{same_term}
-use Rattle.term_core.proofs.Alike.{term_same}
-use Rattle.sel_terms.specs.Effects.{ActShape, EffectShape}
-use Rattle.sel_terms.specs.Effects as act
+use Rattle.vax_target_runs.specs.md_reader_pieces.specs.declared.piece.Line.{Line}
+use Rattle.vax_target_runs.specs.md_reader.specs.declared.types.Kind.{Kind}
+use Rattle.vax_target_runs.specs.md_reader.specs.declared.types.Class.{Class}
+use Rattle.vax_target_runs.specs.md_reader.specs.declared.types.Give.{Give}
+use Rattle.vax_target_runs.specs.md_reader.specs.declared.types.Rule.{Rule}
+use Rattle.vax_target_runs.specs.md_reader.specs.Patterns.{kind_at}
+use Rattle.vax_target_runs.specs.term_core.specs.Shape.{Shape, Constant, Symbol, LastResult, Memory, Unary, Binary}
+use Rattle.vax_target_runs.specs.term_core.specs.Order.{same_term}
+use Rattle.vax_target_runs.specs.term_core.proofs.Alike.{term_same}
+use Rattle.vax_target_runs.specs.sel_terms.specs.Effects.{ActShape, EffectShape}
+use Rattle.vax_target_runs.specs.sel_terms.specs.Effects as act
 use Rattle.vax_target_runs.specs.sel_terms_meaning.specs.Meaning.{terms_of_act}
 use Rattle.vax_target_runs.specs.sel_target.specs.Values.{View, IsReadWhere}
 use Rattle.vax_target_runs.specs.sel_target.specs.EffectTerms.{terms_of}

@@ -9,28 +9,28 @@ use Rattle.gg_base.specs.declared.size.Size.{Size}
 use Rattle.gg_base.specs.declared.size.Size.TheVariants.{Long}
 use Rattle.gg_base.specs.Arithmetic.{add32}
 use Rattle.gg_base.proofs.Words.{low_long}
-use Rattle.tree_core.specs.declared.token.Tok.{Tok}
-use Rattle.tree_core.specs.declared.token.Tok.TheVariants as tok
-use Rattle.tree_core.specs.declared.token.AttKind.TheVariants as att_kind
-use Rattle.tree_core.specs.declared.tree.Att.{Att}
-use Rattle.tree_core.specs.declared.tree.Att.TheVariants as att
-use Rattle.tree_core.specs.declared.program.Object.{Object}
-use Rattle.tree_core.specs.declared.program.TreeProgram.{TreeProgram}
-use Rattle.tree_core.specs.Attributes.{attribute_of, is_of_kind, leaf_fits}
-use Rattle.tree_meaning.specs.State.{Extent}
-use Rattle.md_reader.specs.declared.types.Kind.{Kind}
-use Rattle.md_reader.specs.declared.types.Kind.TheVariants as kind
-use Rattle.md_reader.specs.declared.types.Class.{Class}
-use Rattle.md_reader.specs.declared.types.Sym.{Sym}
-use Rattle.md_reader.specs.declared.types.Sym.TheVariants as grammar_symbol
-use Rattle.md_reader.specs.declared.types.Give.{Give}
-use Rattle.md_reader.specs.declared.types.Give.TheVariants as give
-use Rattle.md_reader.specs.declared.types.Rule.{Rule}
-use Rattle.md_reader.specs.Patterns.{kind_at}
-use Rattle.term_core.specs.Shape.{Symbol}
-use Rattle.sel_terms.specs.Effects.{EffectShape}
-use Rattle.sel_terms.specs.RuleFacts.{size_of_kind, size_of_symbol, size_of_some, size_at}
-use Rattle.sel_terms.proofs.Facts.{size_behind}
+use Rattle.vax_target_runs.specs.tree_core.specs.declared.token.Tok.{Tok}
+use Rattle.vax_target_runs.specs.tree_core.specs.declared.token.Tok.TheVariants as tok
+use Rattle.vax_target_runs.specs.tree_core.specs.declared.token.AttKind.TheVariants as att_kind
+use Rattle.vax_target_runs.specs.tree_core.specs.declared.tree.Att.{Att}
+use Rattle.vax_target_runs.specs.tree_core.specs.declared.tree.Att.TheVariants as att
+use Rattle.vax_target_runs.specs.tree_core.specs.declared.program.Object.{Object}
+use Rattle.vax_target_runs.specs.tree_core.specs.declared.program.TreeProgram.{TreeProgram}
+use Rattle.vax_target_runs.specs.tree_core.specs.Attributes.{attribute_of, is_of_kind, leaf_fits}
+use Rattle.vax_target_runs.specs.tree_meaning.specs.State.{Extent}
+use Rattle.vax_target_runs.specs.md_reader.specs.declared.types.Kind.{Kind}
+use Rattle.vax_target_runs.specs.md_reader.specs.declared.types.Kind.TheVariants as kind
+use Rattle.vax_target_runs.specs.md_reader.specs.declared.types.Class.{Class}
+use Rattle.vax_target_runs.specs.md_reader.specs.declared.types.Sym.{Sym}
+use Rattle.vax_target_runs.specs.md_reader.specs.declared.types.Sym.TheVariants as grammar_symbol
+use Rattle.vax_target_runs.specs.md_reader.specs.declared.types.Give.{Give}
+use Rattle.vax_target_runs.specs.md_reader.specs.declared.types.Give.TheVariants as give
+use Rattle.vax_target_runs.specs.md_reader.specs.declared.types.Rule.{Rule}
+use Rattle.vax_target_runs.specs.md_reader.specs.Patterns.{kind_at}
+use Rattle.vax_target_runs.specs.term_core.specs.Shape.{Symbol}
+use Rattle.vax_target_runs.specs.sel_terms.specs.Effects.{EffectShape}
+use Rattle.vax_target_runs.specs.sel_terms.specs.RuleFacts.{size_of_kind, size_of_symbol, size_of_some, size_at}
+use Rattle.vax_target_runs.specs.sel_terms.proofs.Facts.{size_behind}
 use Rattle.vax_target_runs.specs.sel_target.specs.declared.attr.Attr.{Attr}
 use Rattle.vax_target_runs.specs.sel_target.specs.declared.attr.Attr.TheVariants as attr
 use Rattle.vax_target_runs.specs.sel_target.specs.Values.{View, address_of, own_operand, token_operand, token_worth}
@@ -42,8 +42,8 @@ use Rattle.vax_core.specs.declared.register.Reg.TheVariants.{R0}
 use Rattle.vax_core.specs.declared.operand.Base.TheVariants as bases
 use Rattle.vax_core.specs.declared.operand.Operand.{Operand}
 use Rattle.vax_core.specs.Homes.{home, at_home, argument_home}
-use Rattle.vax_machine.specs.State.{State, reg}
-use Rattle.vax_machine.specs.Area.{resolved_of}
+use Rattle.vax_target_runs.specs.vax_machine.specs.State.{State, reg}
+use Rattle.vax_target_runs.specs.vax_machine.specs.Area.{resolved_of}
 use Rattle.vax_target_runs.specs.vax_states.specs.Agreeing.{AreLabelled}
 use Rattle.vax_target_runs.specs.vax_states.proofs.Keeping.{reg_small}
 use Rattle.vax_target_runs.specs.vax_templates.specs.declared.setting.Hole.TheVariants as hole_kind

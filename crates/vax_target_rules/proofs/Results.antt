@@ -6,21 +6,21 @@ use Rattle.std.specs.Option.{option_map}
 use Rattle.std.proofs.lemmas.Option.{same_Some, none-some}
 use Rattle.gg_base.specs.declared.size.Size.TheVariants.{Long}
 use Rattle.gg_base.proofs.Facts.{err_ok, ok_same}
-use Rattle.tree_core.specs.declared.program.TreeProgram.{TreeProgram}
-use Rattle.tree_meaning.specs.State.{Extent}
-use Rattle.md_reader.specs.declared.types.Kind.{Kind}
-use Rattle.md_reader.specs.declared.types.Kind.TheVariants as kind
-use Rattle.md_reader.specs.declared.types.Class.{Class}
-use Rattle.md_reader.specs.declared.types.Sym.{Sym}
-use Rattle.md_reader.specs.declared.types.Give.{Give}
-use Rattle.md_reader.specs.declared.types.Give.TheVariants as give
-use Rattle.md_reader.specs.declared.types.Rule.{Rule}
-use Rattle.md_reader.specs.Patterns.{kind_at}
-use Rattle.md_reader.specs.Restrictions.{is_nothing}
-use Rattle.md_reader.specs.Rows.{plain_fits}
-use Rattle.md_reader.specs.Valid.{MayGive}
-use Rattle.term_core.specs.Shape.{Shape}
-use Rattle.sel_terms.specs.Effects.{ActShape, EffectShape, Value}
+use Rattle.vax_target_runs.specs.tree_core.specs.declared.program.TreeProgram.{TreeProgram}
+use Rattle.vax_target_runs.specs.tree_meaning.specs.State.{Extent}
+use Rattle.vax_target_runs.specs.md_reader.specs.declared.types.Kind.{Kind}
+use Rattle.vax_target_runs.specs.md_reader.specs.declared.types.Kind.TheVariants as kind
+use Rattle.vax_target_runs.specs.md_reader.specs.declared.types.Class.{Class}
+use Rattle.vax_target_runs.specs.md_reader.specs.declared.types.Sym.{Sym}
+use Rattle.vax_target_runs.specs.md_reader.specs.declared.types.Give.{Give}
+use Rattle.vax_target_runs.specs.md_reader.specs.declared.types.Give.TheVariants as give
+use Rattle.vax_target_runs.specs.md_reader.specs.declared.types.Rule.{Rule}
+use Rattle.vax_target_runs.specs.md_reader.specs.Patterns.{kind_at}
+use Rattle.vax_target_runs.specs.md_reader.specs.Restrictions.{is_nothing}
+use Rattle.vax_target_runs.specs.md_reader.specs.Rows.{plain_fits}
+use Rattle.vax_target_runs.specs.md_reader.specs.Valid.{MayGive}
+use Rattle.vax_target_runs.specs.term_core.specs.Shape.{Shape}
+use Rattle.vax_target_runs.specs.sel_terms.specs.Effects.{ActShape, EffectShape, Value}
 use Rattle.vax_target_runs.specs.sel_target.specs.declared.attr.Attr.{Attr}
 use Rattle.vax_target_runs.specs.sel_target.specs.declared.attr.Attr.TheVariants as attr
 use Rattle.vax_target_runs.specs.sel_target.specs.Meaning.{Spot, RegAt}
@@ -30,7 +30,7 @@ use Rattle.vax_target_runs.specs.sel_target.specs.Instances.{attr_touches, Avoid
 use Rattle.vax_target_runs.specs.sel_target.specs.Outcomes.{Sets}
 use Rattle.vax_core.specs.declared.operand.Operand.{Operand}
 use Rattle.vax_core.specs.Registers.{reg_number}
-use Rattle.vax_machine.specs.State.{State}
+use Rattle.vax_target_runs.specs.vax_machine.specs.State.{State}
 use Rattle.vax_target_runs.specs.vax_machine_lists.specs.Instructions.{Course, comes, exec}
 use Rattle.vax_target_runs.specs.vax_templates.specs.declared.setting.Own.TheVariants as own
 use Rattle.vax_target_runs.specs.vax_templates.specs.declared.setting.Hole.TheVariants as hole_kind

@@ -1,12 +1,12 @@
 -- The laws of this crate: what the lines of a rule leave.
 use Rattle.std.specs.Prelude.{◌≡◌, ℕ, List}
 use Rattle.gg_base.specs.declared.size.Size.TheVariants.{Long}
-use Rattle.tree_core.specs.declared.program.TreeProgram.{TreeProgram}
-use Rattle.tree_meaning.specs.State.{Extent}
-use Rattle.md_reader.specs.declared.types.Class.{Class}
-use Rattle.md_reader.specs.declared.types.Rule.{Rule}
-use Rattle.term_core.specs.Shape.{Shape}
-use Rattle.sel_terms.specs.Effects.{EffectShape, Value}
+use Rattle.vax_target_runs.specs.tree_core.specs.declared.program.TreeProgram.{TreeProgram}
+use Rattle.vax_target_runs.specs.tree_meaning.specs.State.{Extent}
+use Rattle.vax_target_runs.specs.md_reader.specs.declared.types.Class.{Class}
+use Rattle.vax_target_runs.specs.md_reader.specs.declared.types.Rule.{Rule}
+use Rattle.vax_target_runs.specs.term_core.specs.Shape.{Shape}
+use Rattle.vax_target_runs.specs.sel_terms.specs.Effects.{EffectShape, Value}
 use Rattle.vax_target_runs.specs.sel_target.specs.declared.attr.Attr.{Attr}
 use Rattle.vax_target_runs.specs.sel_target.specs.declared.attr.Attr.TheVariants as attr
 use Rattle.vax_target_runs.specs.sel_target.specs.Meaning.{RegAt}
@@ -14,7 +14,7 @@ use Rattle.vax_target_runs.specs.sel_target.specs.Values.{View, value}
 use Rattle.vax_target_runs.specs.sel_target.specs.Instances.{lines_of, Ready}
 use Rattle.vax_target_runs.specs.sel_target.specs.Outcomes.{Sets}
 use Rattle.vax_core.specs.declared.operand.Operand.{Operand}
-use Rattle.vax_machine.specs.State.{State}
+use Rattle.vax_target_runs.specs.vax_machine.specs.State.{State}
 use Rattle.vax_target_runs.specs.vax_target_meaning.specs.Vax.{vax}
 
 -- the result of a rule is in its register, and all else is kept

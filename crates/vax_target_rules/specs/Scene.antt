@@ -1,15 +1,15 @@
 -- The scene of a rule's lines, and that an instance of a rule is one in which they are run.
 use Rattle.std.specs.Prelude.{◌≡◌, ℕ, Bool, List, None}
-use Rattle.tree_core.specs.declared.program.TreeProgram.{TreeProgram}
-use Rattle.tree_meaning.specs.State.{Extent}
-use Rattle.md_reader.specs.declared.types.Class.{Class}
-use Rattle.md_reader.specs.declared.types.Rule.{Rule}
-use Rattle.sel_terms.specs.Effects.{EffectShape}
+use Rattle.vax_target_runs.specs.tree_core.specs.declared.program.TreeProgram.{TreeProgram}
+use Rattle.vax_target_runs.specs.tree_meaning.specs.State.{Extent}
+use Rattle.vax_target_runs.specs.md_reader.specs.declared.types.Class.{Class}
+use Rattle.vax_target_runs.specs.md_reader.specs.declared.types.Rule.{Rule}
+use Rattle.vax_target_runs.specs.sel_terms.specs.Effects.{EffectShape}
 use Rattle.vax_target_runs.specs.sel_target.specs.declared.attr.Attr.{Attr}
 use Rattle.vax_target_runs.specs.sel_target.specs.Values.{View}
 use Rattle.vax_target_runs.specs.sel_target.specs.Instances.{IsResult, Instance}
 use Rattle.vax_core.specs.declared.operand.Operand.{Operand}
-use Rattle.vax_machine.specs.State.{State}
+use Rattle.vax_target_runs.specs.vax_machine.specs.State.{State}
 use Rattle.vax_target_runs.specs.vax_templates.specs.Settings.{holes_of, setting_of}
 use Rattle.vax_target_runs.specs.vax_target_meaning.specs.Vax.{vax}
 use Rattle.vax_target_runs.specs.vax_target_operands.specs.Scenes.{Scene, Sees}

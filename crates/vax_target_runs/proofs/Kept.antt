@@ -9,7 +9,7 @@ use Rattle.gg_base.specs.declared.size.Size.TheVariants.{Long}
 use Rattle.gg_base.specs.Sizes.{bytes_of, low}
 use Rattle.gg_base.specs.Arithmetic.{add32, mul32}
 use Rattle.gg_base.specs.Numbers.{truth}
-use Rattle.tree_core.specs.declared.program.TreeProgram.{TreeProgram}
+use Rattle.vax_target_lines.specs.tree_core.specs.declared.program.TreeProgram.{TreeProgram}
 use Rattle.vax_target_lines.specs.tree_meaning.specs.State.{State as Trees, Extent}
 use Rattle.vax_target_lines.specs.sel_target.specs.Meaning.{Spot, RegAt}
 use Rattle.vax_target_lines.specs.sel_target.specs.Outcomes.{Untouched, Keeps}
@@ -20,10 +20,10 @@ use Rattle.vax_core.specs.declared.operand.Base.TheVariants as bases
 use Rattle.vax_core.specs.declared.operand.Operand.{Operand}
 use Rattle.vax_core.specs.Registers.{reg_number, base_register, is_named, operand_names, operand_bits}
 use Rattle.vax_core.proofs.RegisterLaws.{operand_named}
-use Rattle.vax_machine.specs.declared.function.Conditions.{Conditions}
-use Rattle.vax_machine.specs.State.{State, reg}
-use Rattle.vax_machine.specs.Area.{resolved}
-use Rattle.vax_machine.specs.Memory.{read, touched}
+use Rattle.vax_target_lines.specs.vax_machine.specs.declared.function.Conditions.{Conditions}
+use Rattle.vax_target_lines.specs.vax_machine.specs.State.{State, reg}
+use Rattle.vax_target_lines.specs.vax_machine.specs.Area.{resolved}
+use Rattle.vax_target_lines.specs.vax_machine.specs.Memory.{read, touched}
 use Rattle.vax_target_lines.specs.vax_states.specs.Stack.{long_at}
 use Rattle.vax_target_lines.specs.vax_states.specs.Agreeing.{HasRoom}
 use Rattle.vax_target_lines.specs.vax_states.proofs.Standing.{kept}

@@ -4,9 +4,9 @@ use Rattle.std.proofs.Common.{Result, Ok, Err, refl, sym, ap, subst, ◌∙◌, 
 use Rattle.std.specs.Prelude.{slice_index, slice_set}
 use Rattle.std.specs.List.{AllByRecursion}
 use Rattle.gg_base.proofs.Facts.{err_ok, ok_same}
-use Rattle.md_reader_pieces.specs.declared.piece.Line.{Line}
-use Rattle.md_reader_pieces.specs.declared.piece.Piece.{Piece}
-use Rattle.term_core.specs.Shape.{Shape}
+use Rattle.vax_target_lines.specs.md_reader_pieces.specs.declared.piece.Line.{Line}
+use Rattle.vax_target_lines.specs.md_reader_pieces.specs.declared.piece.Piece.{Piece}
+use Rattle.vax_target_lines.specs.term_core.specs.Shape.{Shape}
 use Rattle.vax_target_lines.specs.sel_terms.specs.Effects.{ActShape, Return}
 use Rattle.vax_target_lines.specs.sel_target.specs.declared.fault.TemplateKind.{TemplateKind}
 use Rattle.vax_target_lines.specs.sel_target.specs.declared.attr.Attr.TheVariants as attr
@@ -16,8 +16,8 @@ use Rattle.vax_core.specs.declared.register.Reg.{Reg}
 use Rattle.vax_core.specs.declared.register.Reg.TheVariants.{R0}
 use Rattle.vax_core.specs.Registers.{reg_number}
 use Rattle.vax_core.specs.declared.code.Instr.{Instr}
-use Rattle.vax_machine.specs.declared.function.Conditions.{Conditions}
-use Rattle.vax_machine.specs.State.{State, with_reg, with_conditions}
+use Rattle.vax_target_lines.specs.vax_machine.specs.declared.function.Conditions.{Conditions}
+use Rattle.vax_target_lines.specs.vax_machine.specs.State.{State, with_reg, with_conditions}
 use Rattle.vax_target_lines.specs.vax_machine_lists.specs.Sound.{IsSound}
 use Rattle.vax_target_lines.specs.vax_machine_lists.specs.Instructions.{Course, Ending, Comes, Goes, Calls, Returns, Stops, ends, comes, followed, performed, exec}
 use Rattle.vax_target_lines.specs.vax_machine_lists.proofs.Soundness.{conditions_sound}

@@ -4,12 +4,12 @@ use Rattle.std.specs.Prelude.{nat_lt, nat_le, slice_get}
 use Rattle.std.specs.Int.{bit_at}
 use Rattle.gg_base.specs.declared.size.Size.{Size}
 use Rattle.gg_base.specs.declared.size.Size.TheVariants.{Long}
-use Rattle.tree_core.specs.declared.token.Tok.{Tok}
-use Rattle.tree_core.specs.declared.token.Tok.TheVariants as tok
-use Rattle.tree_core.specs.declared.tree.Att.{Att}
-use Rattle.tree_core.specs.declared.tree.Att.TheVariants as att
-use Rattle.tree_core.specs.declared.program.TreeProgram.{TreeProgram}
-use Rattle.term_core.specs.Shape.{Shape, Symbol}
+use Rattle.vax_target_lines.specs.tree_core.specs.declared.token.Tok.{Tok}
+use Rattle.vax_target_lines.specs.tree_core.specs.declared.token.Tok.TheVariants as tok
+use Rattle.vax_target_lines.specs.tree_core.specs.declared.tree.Att.{Att}
+use Rattle.vax_target_lines.specs.tree_core.specs.declared.tree.Att.TheVariants as att
+use Rattle.vax_target_lines.specs.tree_core.specs.declared.program.TreeProgram.{TreeProgram}
+use Rattle.vax_target_lines.specs.term_core.specs.Shape.{Shape, Symbol}
 use Rattle.vax_target_lines.specs.sel_target.specs.declared.attr.Attr.{Attr}
 use Rattle.vax_target_lines.specs.sel_target.specs.declared.attr.Attr.TheVariants as attr
 use Rattle.vax_target_lines.specs.sel_target.specs.Meaning.{RegAt}
@@ -19,8 +19,8 @@ use Rattle.vax_core.specs.declared.operand.Operand.{Operand}
 use Rattle.vax_core.specs.Homes.{at_home}
 use Rattle.vax_core.specs.Registers.{reg_number, base_register, operand_bits}
 use Rattle.vax_core.proofs.RegisterLaws.{none_named}
-use Rattle.vax_machine.specs.State.{State}
-use Rattle.vax_machine.specs.Area.{resolved}
+use Rattle.vax_target_lines.specs.vax_machine.specs.State.{State}
+use Rattle.vax_target_lines.specs.vax_machine.specs.Area.{resolved}
 use Rattle.vax_target_lines.specs.vax_templates.specs.declared.setting.Hole.{Hole}
 use Rattle.vax_target_lines.specs.vax_templates.specs.declared.setting.Hole.TheVariants as hole_kind
 use Rattle.vax_target_lines.specs.vax_templates.specs.Judging.{is_operand}

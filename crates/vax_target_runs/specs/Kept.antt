@@ -2,8 +2,8 @@
 use Rattle.std.specs.Prelude.{◌≡◌, ℕ, ◌<◌, List, slice_index, [], ◌∷◌}
 use Rattle.vax_target_lines.specs.sel_target.specs.Meaning.{RegAt}
 use Rattle.vax_target_lines.specs.sel_target.specs.Outcomes.{Keeps}
-use Rattle.vax_machine.specs.declared.function.Conditions.{Conditions}
-use Rattle.vax_machine.specs.State.{State}
+use Rattle.vax_target_lines.specs.vax_machine.specs.declared.function.Conditions.{Conditions}
+use Rattle.vax_target_lines.specs.vax_machine.specs.State.{State}
 use Rattle.vax_target_lines.specs.vax_machine_lists.specs.Sound.{IsSound}
 use Rattle.vax_target_lines.specs.vax_target_meaning.specs.Vax.{vax}
 

@@ -1,15 +1,15 @@
 -- What the lines of a template do one after another.
 use Rattle.std.specs.Prelude.{◌≡◌, ◌<◌, ◌⊎◌, ℕ, Bool, true, false, List, [], ◌∷◌, map, Option, Some, None, Ok}
 use Rattle.std.specs.List.{AllByRecursion}
-use Rattle.md_reader_pieces.specs.declared.piece.Line.{Line}
-use Rattle.term_core.specs.Shape.{Shape}
+use Rattle.vax_target_lines.specs.md_reader_pieces.specs.declared.piece.Line.{Line}
+use Rattle.vax_target_lines.specs.term_core.specs.Shape.{Shape}
 use Rattle.vax_target_lines.specs.sel_terms.specs.Effects.{ActShape, Return}
 use Rattle.vax_target_lines.specs.sel_target.specs.Meaning.{RegAt}
 use Rattle.vax_target_lines.specs.sel_target.specs.Instances.{attr_touches}
 use Rattle.vax_core.specs.Registers.{reg_number}
 use Rattle.vax_core.specs.declared.code.Instr.{Instr}
-use Rattle.vax_machine.specs.declared.turn.Stop.TheVariants.{Trapped}
-use Rattle.vax_machine.specs.State.{State}
+use Rattle.vax_target_lines.specs.vax_machine.specs.declared.turn.Stop.TheVariants.{Trapped}
+use Rattle.vax_target_lines.specs.vax_machine.specs.State.{State}
 use Rattle.vax_target_lines.specs.vax_machine_lists.specs.Instructions.{Course, Stops, ends, comes, exec}
 use Rattle.vax_target_lines.specs.vax_templates.specs.declared.setting.Own.TheVariants as own
 use Rattle.vax_target_lines.specs.vax_templates.specs.Deeds.{Last, Plain, Returning, Ended}

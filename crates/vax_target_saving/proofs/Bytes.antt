@@ -3,13 +3,13 @@ use Rattle.std.proofs.Common.{◌≡◌, ◌⊎◌, inl, inr, ℕ, zero, suc, �
 use Rattle.std.specs.Prelude.{slice_index, slice_set}
 use Rattle.std.specs.Int.{w16, w32, to_le_bytes}
 use Rattle.std.proofs.lemmas.Nat.{from_le_bytes-to_le_bytes_2, le_bytes_4}
-use Rattle.sel_target.proofs.AreaBytes.{take_index}
+use Rattle.vax_target_spelling.specs.sel_target.proofs.AreaBytes.{take_index}
 use Rattle.gg_base.specs.declared.size.Size.{Size}
 use Rattle.gg_base.specs.declared.size.Size.TheVariants.{Byte, Word, Long}
 use Rattle.gg_base.specs.Sizes.{bytes_of, low}
 use Rattle.gg_base.specs.LittleEndian.{number_in, with_number}
-use Rattle.vax_machine_lists.specs.Sound.{AllBelow}
-use Rattle.vax_machine_lists.proofs.Longwords.{number-with, below_take, below_drop, below_get, with_below}
+use Rattle.vax_target_spelling.specs.vax_machine_lists.specs.Sound.{AllBelow}
+use Rattle.vax_target_spelling.specs.vax_machine_lists.proofs.Longwords.{number-with, below_take, below_drop, below_get, with_below}
 
 -- ---- some bytes put over others
 

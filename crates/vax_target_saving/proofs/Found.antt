@@ -3,19 +3,19 @@ use Rattle.std.proofs.Common.{◌≡◌, ℕ, Bool, true, false, cond, Option, S
 use Rattle.std.specs.List.{list_all}
 use Rattle.gg_base.proofs.Facts.{err_ok, ok_same}
 use Rattle.md_reader_pieces.specs.declared.piece.Line.{Line}
-use Rattle.md_reader.specs.declared.types.Give.TheVariants as give
+use Rattle.vax_target_spelling.specs.md_reader.specs.declared.types.Give.TheVariants as give
 use Rattle.term_core.specs.Shape.{Shape}
-use Rattle.sel_terms.specs.Effects.{ActShape, EffectShape, Value}
-use Rattle.sel_target.specs.declared.fault.TemplateKind.{TemplateKind}
-use Rattle.vax_templates.specs.declared.setting.Hole.{Hole}
-use Rattle.vax_templates.specs.declared.setting.Setting.{Setting}
-use Rattle.vax_templates.specs.Standing.{◌>>=◌}
-use Rattle.vax_templates.specs.Deeds.{Last, Plain, Compared, Tested, Returning, Ended, Deed}
-use Rattle.vax_templates.specs.Judging.{line_did}
-use Rattle.vax_templates.specs.Progress.{Progress, start, kept_or_put, at_line, kept, progressed}
-use Rattle.vax_templates.specs.GiveLines.{left_value, last_deed, given_line}
-use Rattle.vax_templates.specs.Dropped.{effect_contains, first_dropped, none_dropped}
-use Rattle.vax_templates.specs.Found.{with_divisors, checked, ended, template_found}
+use Rattle.vax_target_spelling.specs.sel_terms.specs.Effects.{ActShape, EffectShape, Value}
+use Rattle.vax_target_spelling.specs.sel_target.specs.declared.fault.TemplateKind.{TemplateKind}
+use Rattle.vax_target_spelling.specs.vax_templates.specs.declared.setting.Hole.{Hole}
+use Rattle.vax_target_spelling.specs.vax_templates.specs.declared.setting.Setting.{Setting}
+use Rattle.vax_target_spelling.specs.vax_templates.specs.Standing.{◌>>=◌}
+use Rattle.vax_target_spelling.specs.vax_templates.specs.Deeds.{Last, Plain, Compared, Tested, Returning, Ended, Deed}
+use Rattle.vax_target_spelling.specs.vax_templates.specs.Judging.{line_did}
+use Rattle.vax_target_spelling.specs.vax_templates.specs.Progress.{Progress, start, kept_or_put, at_line, kept, progressed}
+use Rattle.vax_target_spelling.specs.vax_templates.specs.GiveLines.{left_value, last_deed, given_line}
+use Rattle.vax_target_spelling.specs.vax_templates.specs.Dropped.{effect_contains, first_dropped, none_dropped}
+use Rattle.vax_target_spelling.specs.vax_templates.specs.Found.{with_divisors, checked, ended, template_found}
 
 -- a line did this, and its effect is that, in which all stands that it read
 pub record LineFound (s : Setting) (holes : List Hole) (l : Line) (e : EffectShape) : Type 0 where

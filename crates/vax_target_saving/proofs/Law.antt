@@ -1,8 +1,8 @@
 -- The laws of a target on what is saved and reloaded, as one record.
 use Rattle.std.proofs.Common.{◌≡◌, Bool, true, false, [], ◌∷◌, refl}
 use Rattle.std.specs.Prelude.{◌&&◌, ◌||◌}
-use Rattle.sel_target.specs.declared.attr.Attr.TheVariants as attr
-use Rattle.sel_target.specs.SavingLaws.{SavesAndReloads}
+use Rattle.vax_target_spelling.specs.sel_target.specs.declared.attr.Attr.TheVariants as attr
+use Rattle.vax_target_spelling.specs.sel_target.specs.SavingLaws.{SavesAndReloads}
 use Rattle.vax_core.specs.declared.code.Instr.{Instr}
 use Rattle.vax_core.specs.Ops.{shape}
 use Rattle.vax_core.specs.Valid.{are_operands, is_target}

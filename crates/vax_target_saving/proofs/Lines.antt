@@ -6,14 +6,14 @@ use Rattle.gg_base.specs.declared.size.Size.{Size}
 use Rattle.gg_base.proofs.Facts.{ok_same}
 use Rattle.tree_core.specs.declared.program.TreeProgram.{TreeProgram}
 use Rattle.md_reader_pieces.specs.declared.piece.Line.{Line}
-use Rattle.md_reader.specs.declared.types.Kind.{Kind}
-use Rattle.md_reader.specs.declared.types.Give.TheVariants as give
+use Rattle.vax_target_spelling.specs.md_reader.specs.declared.types.Kind.{Kind}
+use Rattle.vax_target_spelling.specs.md_reader.specs.declared.types.Give.TheVariants as give
 use Rattle.term_core.specs.Shape.{Shape}
-use Rattle.sel_terms.specs.Effects.{EffectShape, StoreHome}
-use Rattle.sel_target.specs.declared.attr.Attr.{Attr}
-use Rattle.sel_target.specs.declared.attr.Attr.TheVariants as attr
-use Rattle.sel_target.specs.Courses as courses
-use Rattle.sel_target.specs.Values.{View, value, IsRead}
+use Rattle.vax_target_spelling.specs.sel_terms.specs.Effects.{EffectShape, StoreHome}
+use Rattle.vax_target_spelling.specs.sel_target.specs.declared.attr.Attr.{Attr}
+use Rattle.vax_target_spelling.specs.sel_target.specs.declared.attr.Attr.TheVariants as attr
+use Rattle.vax_target_spelling.specs.sel_target.specs.Courses as courses
+use Rattle.vax_target_spelling.specs.sel_target.specs.Values.{View, value, IsRead}
 use Rattle.vax_core.specs.declared.register.Reg.TheVariants.{Fp}
 use Rattle.vax_core.specs.declared.operand.Operand.{Operand}
 use Rattle.vax_core.specs.declared.code.Instr.{Instr}
@@ -24,11 +24,11 @@ use Rattle.vax_machine.specs.declared.operands.Location.{Location}
 use Rattle.vax_machine.specs.declared.operands.Location.TheVariants as locations
 use Rattle.vax_machine.specs.State.{State, reg, with_conditions, ◌>>=◌}
 use Rattle.vax_machine.specs.Operands.{located}
-use Rattle.vax_machine_lists.specs.Instructions.{Course, course_of, followed, performed, exec}
-use Rattle.vax_states.specs.Stack.{word_of}
-use Rattle.vax_templates.specs.Settings.{saved_hole, saved_setting, is_reload}
-use Rattle.vax_templates.specs.Deeds.{Last, Plain, Ended}
-use Rattle.vax_templates.specs.Found.{saved_found, template_found}
+use Rattle.vax_target_spelling.specs.vax_machine_lists.specs.Instructions.{Course, course_of, followed, performed, exec}
+use Rattle.vax_target_spelling.specs.vax_states.specs.Stack.{word_of}
+use Rattle.vax_target_spelling.specs.vax_templates.specs.Settings.{saved_hole, saved_setting, is_reload}
+use Rattle.vax_target_spelling.specs.vax_templates.specs.Deeds.{Last, Plain, Ended}
+use Rattle.vax_target_spelling.specs.vax_templates.specs.Found.{saved_found, template_found}
 use Rattle.vax_target_spelling.specs.vax_target_meaning.specs.Reading.{displaced, names}
 use Rattle.vax_target_spelling.specs.vax_target_meaning.specs.Running as running
 use Rattle.vax_target_spelling.specs.vax_target_meaning.specs.Vax.{vax}

@@ -3,28 +3,28 @@ use Rattle.std.proofs.Common.{◌≡◌, ℕ, ◌&&◌, Bool, cond, Option, Some
 use Rattle.std.proofs.lemmas.Option.{none-some}
 use Rattle.md_reader_pieces.specs.declared.piece.Piece.{Piece}
 use Rattle.term_core.specs.Shape.{Shape, Constant}
-use Rattle.sel_terms.specs.Effects as effects
-use Rattle.sel_terms.specs.Effects.{ActShape, StoreHome, StoreAt, Branch, Push, Save}
-use Rattle.sel_target.specs.declared.fault.TemplateKind.TheVariants.{NotInstr, WrongSize, Order}
+use Rattle.vax_target_spelling.specs.sel_terms.specs.Effects as effects
+use Rattle.vax_target_spelling.specs.sel_terms.specs.Effects.{ActShape, StoreHome, StoreAt, Branch, Push, Save}
+use Rattle.vax_target_spelling.specs.sel_target.specs.declared.fault.TemplateKind.TheVariants.{NotInstr, WrongSize, Order}
 use Rattle.vax_core.specs.declared.op.Op.{Op}
 use Rattle.vax_core.specs.Ops.{shape}
 use Rattle.vax_machine.specs.declared.function.Action.{Action}
 use Rattle.vax_machine.specs.declared.function.Action.TheVariants as action
 use Rattle.vax_machine.specs.Functions.{action_of}
-use Rattle.vax_templates.specs.declared.form.Form.{Form}
-use Rattle.vax_templates.specs.declared.setting.Hole.{Hole}
-use Rattle.vax_templates.specs.declared.setting.Setting.{Setting}
-use Rattle.vax_templates.specs.Settings.{hole_at}
-use Rattle.vax_templates.specs.Instructions.{Instruction, Relation, Jump, Calls, Ret, Operates, instruction_of}
-use Rattle.vax_templates.specs.Standing.{◌>>=◌}
-use Rattle.vax_templates.specs.Targets.{Target, ToOwn, ToSlot, ToHome, ToMemory, ToZero, ToSaved}
-use Rattle.vax_templates.specs.Taking.{Arguments, all_evaluated}
-use Rattle.vax_templates.specs.Giving.{Given, Computes, Divides, Compares, Tests, given}
-use Rattle.vax_templates.specs.Deeds.{Last, Plain, Compared, Tested, Returning, Ended, Deed, leaves, ends}
-use Rattle.vax_templates.specs.Deeds.{ends_statement, is_relation, branches, is_movl, is_last_result, put, divided}
-use Rattle.vax_templates.specs.Deeds.{computed, acted}
-use Rattle.vax_templates.specs.Judging.{is_disordered, in_order, with_reads, checked, operated, instruction_did}
-use Rattle.vax_templates.specs.Judging.{returned, did_behind, read, line_did}
+use Rattle.vax_target_spelling.specs.vax_templates.specs.declared.form.Form.{Form}
+use Rattle.vax_target_spelling.specs.vax_templates.specs.declared.setting.Hole.{Hole}
+use Rattle.vax_target_spelling.specs.vax_templates.specs.declared.setting.Setting.{Setting}
+use Rattle.vax_target_spelling.specs.vax_templates.specs.Settings.{hole_at}
+use Rattle.vax_target_spelling.specs.vax_templates.specs.Instructions.{Instruction, Relation, Jump, Calls, Ret, Operates, instruction_of}
+use Rattle.vax_target_spelling.specs.vax_templates.specs.Standing.{◌>>=◌}
+use Rattle.vax_target_spelling.specs.vax_templates.specs.Targets.{Target, ToOwn, ToSlot, ToHome, ToMemory, ToZero, ToSaved}
+use Rattle.vax_target_spelling.specs.vax_templates.specs.Taking.{Arguments, all_evaluated}
+use Rattle.vax_target_spelling.specs.vax_templates.specs.Giving.{Given, Computes, Divides, Compares, Tests, given}
+use Rattle.vax_target_spelling.specs.vax_templates.specs.Deeds.{Last, Plain, Compared, Tested, Returning, Ended, Deed, leaves, ends}
+use Rattle.vax_target_spelling.specs.vax_templates.specs.Deeds.{ends_statement, is_relation, branches, is_movl, is_last_result, put, divided}
+use Rattle.vax_target_spelling.specs.vax_templates.specs.Deeds.{computed, acted}
+use Rattle.vax_target_spelling.specs.vax_templates.specs.Judging.{is_disordered, in_order, with_reads, checked, operated, instruction_did}
+use Rattle.vax_target_spelling.specs.vax_templates.specs.Judging.{returned, did_behind, read, line_did}
 use Rattle.vax_target_spelling.specs.vax_target_writing.proofs.Each.{EachOk, bind_each, always_ok, if_ok, of_ok}
 
 abbrev pub IsPlain : Deed → Type 0

@@ -5,11 +5,11 @@ use Rattle.std.proofs.lemmas.Bool.{false≢true, and_parts}
 use Rattle.term_core.specs.Shape.{Shape, Constant, Symbol, LastResult, Memory, Unary, Binary}
 use Rattle.term_core.specs.Order.{same_term}
 use Rattle.term_core.proofs.Alike.{term_same}
-use Rattle.sel_terms.specs.Effects.{EffectShape, Value, StoreHome}
-use Rattle.sel_target.specs.Values.{View, IsRead}
+use Rattle.vax_target_spelling.specs.sel_terms.specs.Effects.{EffectShape, Value, StoreHome}
+use Rattle.vax_target_spelling.specs.sel_target.specs.Values.{View, IsRead}
 use Rattle.gg_base.specs.declared.size.Size.{Size}
 use Rattle.gg_base.proofs.Facts.{either_is}
-use Rattle.vax_templates.specs.Dropped.{contains, act_contains, effect_contains}
+use Rattle.vax_target_spelling.specs.vax_templates.specs.Dropped.{contains, act_contains, effect_contains}
 
 itself : (v : View) (part t : Shape) → same_term part t ≡ true → IsRead v t → IsRead v part
 itself v part t e h = subst (IsRead v) (sym (term_same part t e)) h

@@ -3,26 +3,26 @@ use Rattle.std.proofs.Common.{◌≡◌, ℕ, ◌^◌, ◌<◌, true, Option, So
 use Rattle.std.specs.List.{AllByRecursion}
 use Rattle.gg_base.specs.declared.size.Size.TheVariants.{Long}
 use Rattle.md_reader_pieces.specs.declared.piece.Line.{Line}
-use Rattle.md_reader.specs.declared.types.Kind.TheVariants as kind
+use Rattle.vax_target_spelling.specs.md_reader.specs.declared.types.Kind.TheVariants as kind
 use Rattle.term_core.specs.Shape.{Shape, Symbol}
 use Rattle.term_core.proofs.Values.{small}
-use Rattle.sel_terms.specs.Effects.{EffectShape, Value}
-use Rattle.sel_terms.proofs.Facts.{same_Value}
-use Rattle.sel_target.specs.declared.attr.Attr.TheVariants as attr
-use Rattle.sel_target.specs.Values.{value, term_state, IsRead}
+use Rattle.vax_target_spelling.specs.sel_terms.specs.Effects.{EffectShape, Value}
+use Rattle.vax_target_spelling.specs.sel_terms.proofs.Facts.{same_Value}
+use Rattle.vax_target_spelling.specs.sel_target.specs.declared.attr.Attr.TheVariants as attr
+use Rattle.vax_target_spelling.specs.sel_target.specs.Values.{value, term_state, IsRead}
 use Rattle.vax_core.specs.Homes.{home}
 use Rattle.vax_core.specs.Registers.{reg_number}
 use Rattle.vax_machine.specs.declared.function.Conditions.{Conditions}
 use Rattle.vax_machine.specs.State.{State, with_reg, with_conditions}
-use Rattle.vax_machine_lists.specs.Instructions.{performed}
-use Rattle.vax_machine_lists.specs.Sound.{IsSound}
-use Rattle.vax_machine_lists.proofs.Soundness.{conditions_sound}
-use Rattle.vax_states.proofs.Keeping.{sound_register}
-use Rattle.vax_templates.specs.declared.setting.Hole.TheVariants as hole_kind
-use Rattle.vax_templates.specs.Settings.{saved_setting}
-use Rattle.vax_templates.specs.Deeds.{Last, Plain}
-use Rattle.vax_templates.specs.Found.{saved_found}
-use Rattle.vax_templates.specs.Filled.{numbered}
+use Rattle.vax_target_spelling.specs.vax_machine_lists.specs.Instructions.{performed}
+use Rattle.vax_target_spelling.specs.vax_machine_lists.specs.Sound.{IsSound}
+use Rattle.vax_target_spelling.specs.vax_machine_lists.proofs.Soundness.{conditions_sound}
+use Rattle.vax_target_spelling.specs.vax_states.proofs.Keeping.{sound_register}
+use Rattle.vax_target_spelling.specs.vax_templates.specs.declared.setting.Hole.TheVariants as hole_kind
+use Rattle.vax_target_spelling.specs.vax_templates.specs.Settings.{saved_setting}
+use Rattle.vax_target_spelling.specs.vax_templates.specs.Deeds.{Last, Plain}
+use Rattle.vax_target_spelling.specs.vax_templates.specs.Found.{saved_found}
+use Rattle.vax_target_spelling.specs.vax_templates.specs.Filled.{numbered}
 use Rattle.vax_target_spelling.specs.vax_target_meaning.specs.Vax.{vax}
 use Rattle.vax_target_runs.specs.vax_target_operands.specs.Scenes.{worth}
 use Rattle.vax_target_runs.specs.vax_target_lines.specs.Lines.{DoesLine, terms_of_last}

@@ -6,23 +6,23 @@ use Rattle.gg_base.specs.declared.size.Size.TheVariants.{Long}
 use Rattle.gg_base.specs.Arithmetic.{add32, neg32}
 use Rattle.gg_base.specs.Sizes.{low}
 use Rattle.tree_core.specs.declared.program.TreeProgram.{TreeProgram}
-use Rattle.tree_meaning.specs.State.{Extent}
-use Rattle.md_reader.specs.declared.types.Kind.TheVariants as kind
+use Rattle.vax_target_spelling.specs.tree_meaning.specs.State.{Extent}
+use Rattle.vax_target_spelling.specs.md_reader.specs.declared.types.Kind.TheVariants as kind
 use Rattle.term_core.specs.Shape.{Shape}
 use Rattle.term_core.proofs.Values.{small}
-use Rattle.sel_target.specs.declared.attr.Attr.{Attr}
-use Rattle.sel_target.specs.declared.attr.Attr.TheVariants as attr
-use Rattle.sel_target.specs.Meaning.{WordAt}
-use Rattle.sel_target.specs.Values.{View, value, term_state}
-use Rattle.sel_target.specs.Outcomes.{Sets, SetsName}
-use Rattle.sel_target.specs.SavingLaws.{IsSet, IsSlot, saving}
+use Rattle.vax_target_spelling.specs.sel_target.specs.declared.attr.Attr.{Attr}
+use Rattle.vax_target_spelling.specs.sel_target.specs.declared.attr.Attr.TheVariants as attr
+use Rattle.vax_target_spelling.specs.sel_target.specs.Meaning.{WordAt}
+use Rattle.vax_target_spelling.specs.sel_target.specs.Values.{View, value, term_state}
+use Rattle.vax_target_spelling.specs.sel_target.specs.Outcomes.{Sets, SetsName}
+use Rattle.vax_target_spelling.specs.sel_target.specs.SavingLaws.{IsSet, IsSlot, saving}
 use Rattle.md_reader_pieces.specs.declared.piece.Line.{Line}
 use Rattle.vax_core.specs.declared.register.Reg.TheVariants.{Fp}
 use Rattle.vax_core.specs.declared.operand.Operand.{Operand}
 use Rattle.vax_core.specs.Homes.{at_home}
 use Rattle.vax_machine.specs.State.{State, reg}
 use Rattle.vax_machine.specs.Memory.{read}
-use Rattle.vax_states.specs.Stack.{word_of}
+use Rattle.vax_target_spelling.specs.vax_states.specs.Stack.{word_of}
 use Rattle.vax_target_spelling.specs.vax_target_meaning.specs.Reading.{number_of, number_at, named, moved, names}
 use Rattle.vax_target_spelling.specs.vax_target_meaning.specs.Vax.{vax}
 use Rattle.vax_target_spelling.proofs.Own.{home_word}

@@ -8,19 +8,19 @@ use Rattle.gg_base.specs.declared.size.Size.TheVariants.{Long}
 use Rattle.gg_base.specs.Sizes.{bytes_of}
 use Rattle.gg_base.proofs.Words.{is_long}
 use Rattle.tree_core.specs.declared.program.TreeProgram.{TreeProgram}
-use Rattle.tree_meaning.specs.State.{Extent}
-use Rattle.md_reader.specs.declared.types.Kind.{Kind}
-use Rattle.md_reader.specs.declared.types.Kind.TheVariants as kind
+use Rattle.vax_target_spelling.specs.tree_meaning.specs.State.{Extent}
+use Rattle.vax_target_spelling.specs.md_reader.specs.declared.types.Kind.{Kind}
+use Rattle.vax_target_spelling.specs.md_reader.specs.declared.types.Kind.TheVariants as kind
 use Rattle.term_core.specs.Shape.{Symbol}
-use Rattle.sel_target.specs.declared.attr.Attr.{Attr}
-use Rattle.sel_target.specs.declared.attr.Attr.TheVariants as attr
-use Rattle.sel_target.specs.Values.{View, value, worth}
-use Rattle.sel_target.specs.SavingLaws.{IsValue, operand, register}
+use Rattle.vax_target_spelling.specs.sel_target.specs.declared.attr.Attr.{Attr}
+use Rattle.vax_target_spelling.specs.sel_target.specs.declared.attr.Attr.TheVariants as attr
+use Rattle.vax_target_spelling.specs.sel_target.specs.Values.{View, value, worth}
+use Rattle.vax_target_spelling.specs.sel_target.specs.SavingLaws.{IsValue, operand, register}
 use Rattle.vax_core.specs.declared.operand.Operand.{Operand}
 use Rattle.vax_machine.specs.State.{State}
-use Rattle.vax_templates.specs.declared.setting.Hole.TheVariants as hole_kind
-use Rattle.vax_templates.specs.Settings.{hole_or_other, hole_at, saved_hole, saved_setting}
-use Rattle.vax_templates.specs.Filled.{attr_at}
+use Rattle.vax_target_spelling.specs.vax_templates.specs.declared.setting.Hole.TheVariants as hole_kind
+use Rattle.vax_target_spelling.specs.vax_templates.specs.Settings.{hole_or_other, hole_at, saved_hole, saved_setting}
+use Rattle.vax_target_spelling.specs.vax_templates.specs.Filled.{attr_at}
 use Rattle.vax_target_spelling.specs.vax_target_meaning.specs.Fitting.{fits, is_place}
 use Rattle.vax_target_spelling.specs.vax_target_meaning.specs.Reading.{named, moved, names}
 use Rattle.vax_target_spelling.specs.vax_target_meaning.specs.Vax.{vax}

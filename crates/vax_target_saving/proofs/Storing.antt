@@ -7,7 +7,7 @@ use Rattle.vax_core.specs.declared.register.Reg.TheVariants.{Fp}
 use Rattle.vax_core.specs.Homes.{home}
 use Rattle.vax_machine.specs.State.{State, reg}
 use Rattle.vax_machine.specs.Memory.{read}
-use Rattle.vax_states.specs.Stack.{word_of}
+use Rattle.vax_target_spelling.specs.vax_states.specs.Stack.{word_of}
 use Rattle.vax_target_spelling.specs.vax_target_meaning.specs.Reading.{number_of, number_at, reads}
 use Rattle.vax_target_spelling.proofs.Own.{home_word}
 use Rattle.vax_target_saving.specs.Laws.{with_word, FreeWordsStore}

@@ -12,8 +12,8 @@ use Rattle.gg_base.specs.Sizes.{bytes_of, low}
 use Rattle.gg_base.specs.LittleEndian.{with_number}
 use Rattle.tree_core.specs.declared.program.Object.{Object}
 use Rattle.tree_core.specs.Area.{fetched}
-use Rattle.tree_meaning.specs.State.{State as Trees, Extent}
-use Rattle.sel_target.specs.Meaning.{is_word}
+use Rattle.vax_target_spelling.specs.tree_meaning.specs.State.{State as Trees, Extent}
+use Rattle.vax_target_spelling.specs.sel_target.specs.Meaning.{is_word}
 use Rattle.vax_core.specs.declared.register.Reg.{Reg}
 use Rattle.vax_core.specs.declared.register.Reg.TheVariants.{Ap, Fp, Sp}
 use Rattle.vax_core.specs.declared.operand.Addr.{Addr}
@@ -29,14 +29,14 @@ use Rattle.vax_machine.specs.declared.memory.Region.TheVariants as regions
 use Rattle.vax_machine.specs.State.{State, reg, with_conditions, access, frame, ◌>>=◌}
 use Rattle.vax_machine.specs.Area.{resolved_of}
 use Rattle.vax_machine.specs.Memory.{touched, number_at, with_number_at, read, written}
-use Rattle.vax_machine_lists.specs.Sound.{AllBelow}
-use Rattle.vax_machine_lists.proofs.Soundness.{conditions_sound}
-use Rattle.vax_states.specs.Stack.{word_of}
-use Rattle.vax_states.specs.Agreeing.{Agrees, HasRoom}
-use Rattle.vax_states.proofs.Pieces.{word_low, word_high, words_free}
-use Rattle.vax_states.proofs.Standing.{high_top, fp_high_is, word_written}
-use Rattle.vax_templates.specs.FrameWords.{word_below, word_with_name, word_behind}
-use Rattle.vax_templates.specs.FrameWords as words
+use Rattle.vax_target_spelling.specs.vax_machine_lists.specs.Sound.{AllBelow}
+use Rattle.vax_target_spelling.specs.vax_machine_lists.proofs.Soundness.{conditions_sound}
+use Rattle.vax_target_spelling.specs.vax_states.specs.Stack.{word_of}
+use Rattle.vax_target_spelling.specs.vax_states.specs.Agreeing.{Agrees, HasRoom}
+use Rattle.vax_target_spelling.specs.vax_states.proofs.Pieces.{word_low, word_high, words_free}
+use Rattle.vax_target_spelling.specs.vax_states.proofs.Standing.{high_top, fp_high_is, word_written}
+use Rattle.vax_target_spelling.specs.vax_templates.specs.FrameWords.{word_below, word_with_name, word_behind}
+use Rattle.vax_target_spelling.specs.vax_templates.specs.FrameWords as words
 use Rattle.vax_target_spelling.specs.vax_target_meaning.specs.Reading as reading
 use Rattle.vax_target_spelling.specs.vax_target_meaning.specs.Reading.{is_argument, is_own, is_own_base, is_own_place, number_of, displaced, named, moved, names, in_memory, reads}
 use Rattle.vax_target_saving.proofs.Bytes.{number_outside, number_there, merged_long, as_long}

@@ -6,21 +6,21 @@ use Rattle.gg_base.specs.declared.size.Size.TheVariants.{Long}
 use Rattle.gg_base.specs.Sizes.{bytes_of, low}
 use Rattle.gg_base.specs.LittleEndian.{with_number}
 use Rattle.tree_core.specs.declared.program.TreeProgram.{TreeProgram}
-use Rattle.tree_meaning.specs.State.{State as Trees, Extent}
+use Rattle.vax_target_spelling.specs.tree_meaning.specs.State.{State as Trees, Extent}
 use Rattle.md_reader_pieces.specs.declared.piece.Line.{Line}
-use Rattle.md_reader.specs.declared.types.Kind.TheVariants as kind
-use Rattle.sel_target.specs.declared.attr.Attr.{Attr}
-use Rattle.sel_target.specs.declared.attr.Attr.TheVariants as attr
-use Rattle.sel_target.specs.Meaning.{RegAt, WordAt, IsFree}
-use Rattle.sel_target.specs.Values.{View, value, worth}
-use Rattle.sel_target.specs.Outcomes.{Keeps, Sets, SetsName}
-use Rattle.sel_target.specs.SavingLaws.{Saves, Reloads, IsValue, IsSet, IsSlot, saving, reloading, SavesAndReloads}
+use Rattle.vax_target_spelling.specs.md_reader.specs.declared.types.Kind.TheVariants as kind
+use Rattle.vax_target_spelling.specs.sel_target.specs.declared.attr.Attr.{Attr}
+use Rattle.vax_target_spelling.specs.sel_target.specs.declared.attr.Attr.TheVariants as attr
+use Rattle.vax_target_spelling.specs.sel_target.specs.Meaning.{RegAt, WordAt, IsFree}
+use Rattle.vax_target_spelling.specs.sel_target.specs.Values.{View, value, worth}
+use Rattle.vax_target_spelling.specs.sel_target.specs.Outcomes.{Keeps, Sets, SetsName}
+use Rattle.vax_target_spelling.specs.sel_target.specs.SavingLaws.{Saves, Reloads, IsValue, IsSet, IsSlot, saving, reloading, SavesAndReloads}
 use Rattle.vax_core.specs.declared.operand.Operand.{Operand}
 use Rattle.vax_core.specs.declared.register.Reg.TheVariants.{Fp}
 use Rattle.vax_machine.specs.declared.function.Conditions.{Conditions}
 use Rattle.vax_machine.specs.State.{State, reg, with_conditions}
 use Rattle.vax_machine.specs.Memory.{written}
-use Rattle.vax_states.specs.Stack.{word_of}
+use Rattle.vax_target_spelling.specs.vax_states.specs.Stack.{word_of}
 use Rattle.vax_target_spelling.specs.vax_target_meaning.specs.Vax.{vax}
 
 -- a number of a size stored in word w of the innermost frame, with new condition codes

@@ -12,24 +12,24 @@ use Rattle.tree_core.specs.declared.tree.Att.TheVariants as att
 use Rattle.tree_core.specs.declared.program.TreeProgram.{TreeProgram}
 use Rattle.tree_core.specs.Attributes.{attribute_of, is_of_kind}
 use Rattle.md_reader_pieces.specs.declared.piece.Line.{Line}
-use Rattle.md_reader.specs.declared.types.Kind.{Kind}
-use Rattle.md_reader.specs.declared.types.Kind.TheVariants as kind
-use Rattle.md_reader.specs.declared.types.Class.{Class}
-use Rattle.md_reader.specs.declared.types.Sym.{Sym}
-use Rattle.md_reader.specs.declared.types.Sym.TheVariants as grammar_symbol
-use Rattle.md_reader.specs.declared.types.Give.TheVariants as give
-use Rattle.md_reader.specs.Patterns.{kind_at}
+use Rattle.vax_templates.specs.md_reader.specs.declared.types.Kind.{Kind}
+use Rattle.vax_templates.specs.md_reader.specs.declared.types.Kind.TheVariants as kind
+use Rattle.vax_templates.specs.md_reader.specs.declared.types.Class.{Class}
+use Rattle.vax_templates.specs.md_reader.specs.declared.types.Sym.{Sym}
+use Rattle.vax_templates.specs.md_reader.specs.declared.types.Sym.TheVariants as grammar_symbol
+use Rattle.vax_templates.specs.md_reader.specs.declared.types.Give.TheVariants as give
+use Rattle.vax_templates.specs.md_reader.specs.Patterns.{kind_at}
 use Rattle.term_core.specs.Shape.{Shape, Symbol}
-use Rattle.sel_terms.specs.Effects as effects
-use Rattle.sel_terms.specs.Effects.{ActShape, EffectShape}
-use Rattle.sel_terms.specs.Same.{same_size}
-use Rattle.sel_target.specs.declared.attr.Attr.{Attr}
-use Rattle.sel_target.specs.declared.attr.Attr.TheVariants as attr
-use Rattle.sel_target.specs.declared.fault.TemplateKind.{TemplateKind}
-use Rattle.sel_target.specs.declared.fault.TemplateKind.TheVariants.{NotInstr, WrongSize}
-use Rattle.sel_target.specs.Meaning.{Fault}
-use Rattle.sel_target.specs.Values.{own_operand}
-use Rattle.sel_target.specs.Instances.{hole, KindFits, SymFits, Fit}
+use Rattle.vax_templates.specs.sel_terms.specs.Effects as effects
+use Rattle.vax_templates.specs.sel_terms.specs.Effects.{ActShape, EffectShape}
+use Rattle.vax_templates.specs.sel_terms.specs.Same.{same_size}
+use Rattle.vax_templates.specs.sel_target.specs.declared.attr.Attr.{Attr}
+use Rattle.vax_templates.specs.sel_target.specs.declared.attr.Attr.TheVariants as attr
+use Rattle.vax_templates.specs.sel_target.specs.declared.fault.TemplateKind.{TemplateKind}
+use Rattle.vax_templates.specs.sel_target.specs.declared.fault.TemplateKind.TheVariants.{NotInstr, WrongSize}
+use Rattle.vax_templates.specs.sel_target.specs.Meaning.{Fault}
+use Rattle.vax_templates.specs.sel_target.specs.Values.{own_operand}
+use Rattle.vax_templates.specs.sel_target.specs.Instances.{hole, KindFits, SymFits, Fit}
 use Rattle.vax_core.specs.declared.operand.Operand.{Operand}
 use Rattle.vax_templates.specs.declared.form.Base.{Base}
 use Rattle.vax_templates.specs.declared.form.Base.TheVariants as base

@@ -3,16 +3,16 @@ use Rattle.std.proofs.Common.{◌≡◌, ℕ, Bool, true, false, cond, Option, S
 use Rattle.gg_base.specs.declared.size.Size.{Size}
 use Rattle.gg_base.specs.declared.size.Size.TheVariants.{Byte, Long}
 use Rattle.gg_base.proofs.Facts.{err_ok, ok_same}
-use Rattle.md_reader.specs.declared.types.Kind.TheVariants as kind
+use Rattle.vax_templates.specs.md_reader.specs.declared.types.Kind.TheVariants as kind
 use Rattle.term_core.specs.Shape.{Shape}
-use Rattle.sel_terms.specs.Effects as effects
-use Rattle.sel_terms.specs.Effects.{ActShape}
-use Rattle.sel_terms.specs.Same.{same_size}
-use Rattle.sel_target.specs.declared.fault.TemplateKind.{TemplateKind}
-use Rattle.sel_target.specs.declared.fault.TemplateKind.TheVariants.{WrongSize}
-use Rattle.sel_target.specs.Values.{IsRead}
+use Rattle.vax_templates.specs.sel_terms.specs.Effects as effects
+use Rattle.vax_templates.specs.sel_terms.specs.Effects.{ActShape}
+use Rattle.vax_templates.specs.sel_terms.specs.Same.{same_size}
+use Rattle.vax_templates.specs.sel_target.specs.declared.fault.TemplateKind.{TemplateKind}
+use Rattle.vax_templates.specs.sel_target.specs.declared.fault.TemplateKind.TheVariants.{WrongSize}
+use Rattle.vax_templates.specs.sel_target.specs.Values.{IsRead}
 use Rattle.vax_core.specs.declared.operand.Operand.{Operand}
-use Rattle.vax_machine.specs.State.{State}
+use Rattle.vax_target_reading.specs.vax_machine.specs.State.{State}
 use Rattle.vax_templates.specs.declared.form.Base.{Base}
 use Rattle.vax_templates.specs.declared.form.Form.{Form}
 use Rattle.vax_templates.specs.Standing.{Where, Immediate, Register, OwnRegister, RegisterZero, Value, Place, Local}

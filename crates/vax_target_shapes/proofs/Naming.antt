@@ -8,15 +8,15 @@ use Rattle.gg_base.proofs.Facts.{err_ok, ok_same}
 use Rattle.tree_core.specs.Area as trees
 use Rattle.term_core.specs.Shape.{Shape, Symbol, Memory}
 use Rattle.term_core.proofs.Values.{small}
-use Rattle.sel_target.specs.declared.fault.TemplateKind.{TemplateKind}
-use Rattle.sel_target.specs.Values.{term_state, IsRead}
-use Rattle.sel_target.proofs.AreaBytes.{fetched_is}
+use Rattle.vax_templates.specs.sel_target.specs.declared.fault.TemplateKind.{TemplateKind}
+use Rattle.vax_templates.specs.sel_target.specs.Values.{term_state, IsRead}
+use Rattle.vax_templates.specs.sel_target.proofs.AreaBytes.{fetched_is}
 use Rattle.vax_core.specs.declared.register.Reg.{Reg}
 use Rattle.vax_core.specs.declared.operand.Addr.{Addr}
 use Rattle.vax_core.specs.declared.operand.Base.TheVariants as bases
 use Rattle.vax_core.specs.declared.operand.Operand.{Operand}
-use Rattle.vax_machine.specs.State.{State, reg}
-use Rattle.vax_machine.specs.Area.{resolved}
+use Rattle.vax_target_reading.specs.vax_machine.specs.State.{State, reg}
+use Rattle.vax_target_reading.specs.vax_machine.specs.Area.{resolved}
 use Rattle.vax_templates.specs.declared.form.Base.{Base}
 use Rattle.vax_templates.specs.declared.form.Base.TheVariants as base
 use Rattle.vax_templates.specs.declared.form.Form.{Form}

@@ -10,18 +10,18 @@ use Rattle.gg_base.specs.Sizes.{low}
 use Rattle.term_core.specs.declared.operator.UnaryOp.TheVariants as unary_op
 use Rattle.term_core.specs.Shape.{Shape, Symbol, LastResult, Memory, Unary}
 use Rattle.term_core.proofs.Values.{small}
-use Rattle.sel_terms.specs.Effects as effects
-use Rattle.sel_terms.specs.Same.{same_size}
-use Rattle.sel_terms.proofs.Alike.{equal_sizes}
-use Rattle.sel_target.specs.declared.fault.TemplateKind.{TemplateKind}
-use Rattle.sel_target.specs.declared.fault.TemplateKind.TheVariants.{WrongSize}
-use Rattle.sel_target.specs.Values.{term_state, IsRead}
+use Rattle.vax_templates.specs.sel_terms.specs.Effects as effects
+use Rattle.vax_templates.specs.sel_terms.specs.Same.{same_size}
+use Rattle.vax_templates.specs.sel_terms.proofs.Alike.{equal_sizes}
+use Rattle.vax_templates.specs.sel_target.specs.declared.fault.TemplateKind.{TemplateKind}
+use Rattle.vax_templates.specs.sel_target.specs.declared.fault.TemplateKind.TheVariants.{WrongSize}
+use Rattle.vax_templates.specs.sel_target.specs.Values.{term_state, IsRead}
 use Rattle.vax_core.specs.declared.register.Reg.TheVariants.{R0}
 use Rattle.vax_core.specs.declared.operand.Addr.{Addr}
 use Rattle.vax_core.specs.declared.operand.Base.TheVariants as bases
 use Rattle.vax_core.specs.declared.operand.Operand.{Operand}
-use Rattle.vax_machine.specs.State.{State, reg}
-use Rattle.vax_machine.specs.Area.{resolved}
+use Rattle.vax_target_reading.specs.vax_machine.specs.State.{State, reg}
+use Rattle.vax_target_reading.specs.vax_machine.specs.Area.{resolved}
 use Rattle.vax_templates.specs.declared.form.Base.{Base}
 use Rattle.vax_templates.specs.declared.form.Base.TheVariants as base
 use Rattle.vax_templates.specs.declared.form.Form.{Form}

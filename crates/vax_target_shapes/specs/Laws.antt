@@ -4,18 +4,18 @@ use Rattle.gg_base.specs.declared.size.Size.{Size}
 use Rattle.tree_core.specs.declared.program.TreeProgram.{TreeProgram}
 use Rattle.md_reader_pieces.specs.declared.piece.Line.{Line}
 use Rattle.md_reader_pieces.specs.declared.piece.Piece.TheVariants as piece
-use Rattle.md_reader.specs.declared.types.Kind.TheVariants as kind
-use Rattle.md_reader.specs.declared.types.Class.{Class}
-use Rattle.md_reader.specs.declared.types.Give.TheVariants as give
-use Rattle.md_reader.specs.declared.types.Rule.{Rule}
-use Rattle.md_reader.specs.Patterns.{kind_at}
+use Rattle.vax_templates.specs.md_reader.specs.declared.types.Kind.TheVariants as kind
+use Rattle.vax_templates.specs.md_reader.specs.declared.types.Class.{Class}
+use Rattle.vax_templates.specs.md_reader.specs.declared.types.Give.TheVariants as give
+use Rattle.vax_templates.specs.md_reader.specs.declared.types.Rule.{Rule}
+use Rattle.vax_templates.specs.md_reader.specs.Patterns.{kind_at}
 use Rattle.term_core.specs.Shape.{Shape, Symbol}
-use Rattle.sel_terms.specs.Effects.{EffectShape, Value, Address, PlaceHome, PlaceAt}
-use Rattle.sel_target.specs.declared.attr.Attr.{Attr}
-use Rattle.sel_target.specs.Instances.{hole, Fit}
-use Rattle.sel_target.specs.Values.{IsRead, own_operand}
+use Rattle.vax_templates.specs.sel_terms.specs.Effects.{EffectShape, Value, Address, PlaceHome, PlaceAt}
+use Rattle.vax_templates.specs.sel_target.specs.declared.attr.Attr.{Attr}
+use Rattle.vax_templates.specs.sel_target.specs.Instances.{hole, Fit}
+use Rattle.vax_templates.specs.sel_target.specs.Values.{IsRead, own_operand}
 use Rattle.vax_core.specs.declared.operand.Operand.{Operand}
-use Rattle.vax_machine.specs.State.{State}
+use Rattle.vax_target_reading.specs.vax_machine.specs.State.{State}
 use Rattle.vax_templates.specs.declared.form.Form.{Form}
 use Rattle.vax_templates.specs.Filled.{filled}
 use Rattle.vax_templates.specs.GiveLines.{shape_given}

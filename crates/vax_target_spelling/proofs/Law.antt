@@ -1,6 +1,6 @@
 -- The laws, of operands and of shapes.
 use Rattle.std.proofs.Common.{refl}
-use Rattle.vax_templates.proofs.Homes.{local_bits, argument_bits}
+use Rattle.vax_target_writing.specs.vax_templates.proofs.Homes.{local_bits, argument_bits}
 use Rattle.vax_target_spelling.specs.Laws.{AlikeAreEqual, RegistersSpell, WordsSpell, ShapesTouch, HolesAreThemselves}
 use Rattle.vax_target_spelling.proofs.Own.{same_is, register_bits, home_word, at_home_word, local_word, argument_word}
 use Rattle.vax_target_spelling.proofs.Shapes.{shape_touches, alone_is}

@@ -5,8 +5,8 @@ use Rattle.std.proofs.lemmas.Bool.{lt-ltb, le-leb}
 use Rattle.gg_base.proofs.Facts.{is_zero}
 use Rattle.gg_base.proofs.Words.{neg_twice}
 use Rattle.gg_base.specs.Numbers.{truth}
-use Rattle.tree_core.specs.declared.token.Tok.TheVariants as tok
-use Rattle.vax_templates.specs.sel_target.specs.Meaning.{Spot, RegAt, WordAt, touches, is_word}
+use Rattle.vax_target_writing.specs.tree_core.specs.declared.token.Tok.TheVariants as tok
+use Rattle.vax_target_writing.specs.sel_target.specs.Meaning.{Spot, RegAt, WordAt, touches, is_word}
 use Rattle.vax_core.specs.declared.register.Reg.{Reg}
 use Rattle.vax_core.specs.declared.operand.Base.{Base}
 use Rattle.vax_core.specs.declared.operand.Base.TheVariants as bases
@@ -16,8 +16,8 @@ use Rattle.vax_core.specs.Same.{same_operand}
 use Rattle.vax_core.specs.Homes.{home, at_home, argument_home}
 use Rattle.vax_core.proofs.RegisterLaws.{operand_named}
 use Rattle.vax_core.proofs.SameLaws.{operand_is}
-use Rattle.vax_templates.specs.FrameWords.{word_below, word_of}
-use Rattle.vax_templates.specs.Filled.{alone, spare, numbered, word_operand, slot_operand}
+use Rattle.vax_target_writing.specs.vax_templates.specs.FrameWords.{word_below, word_of}
+use Rattle.vax_target_writing.specs.vax_templates.specs.Filled.{alone, spare, numbered, word_operand, slot_operand}
 use Rattle.vax_target_writing.specs.vax_target_meaning.specs.Vax.{vax}
 
 pub same_is : (a b : Operand) → (same_operand a b ≡ true) ↔ (a ≡ b)

@@ -7,63 +7,63 @@ use Rattle.gg_base.specs.declared.size.Size.TheVariants.{Byte, Long}
 use Rattle.gg_base.specs.Arithmetic.{neg32}
 use Rattle.gg_base.proofs.Facts.{not_zero, one_less, either_is}
 use Rattle.std.proofs.lemmas.Bool.{false≢true, or_left, or_right}
-use Rattle.tree_core.specs.declared.token.Tok.{Tok}
-use Rattle.tree_core.specs.declared.token.Tok.TheVariants as tok
-use Rattle.tree_core.specs.declared.token.AttKind.TheVariants as att_kind
-use Rattle.tree_core.specs.declared.tree.Att.{Att}
-use Rattle.tree_core.specs.declared.tree.Att.TheVariants as att
-use Rattle.tree_core.specs.declared.program.TreeProgram.{TreeProgram}
-use Rattle.tree_core.specs.Attributes.{attribute_of, is_of_kind}
-use Rattle.md_reader_pieces.specs.declared.piece.Piece.TheVariants as piece
-use Rattle.md_reader_pieces.specs.declared.piece.Line.{Line}
-use Rattle.md_reader.specs.declared.types.Kind.{Kind}
-use Rattle.md_reader.specs.declared.types.Kind.TheVariants as kind
-use Rattle.md_reader.specs.declared.types.Class.{Class}
-use Rattle.md_reader.specs.declared.types.Sym.{Sym}
-use Rattle.md_reader.specs.declared.types.Sym.TheVariants as grammar_symbol
-use Rattle.md_reader.specs.declared.types.Give.TheVariants as give
-use Rattle.md_reader.specs.declared.types.Rule.{Rule}
-use Rattle.md_reader.specs.Patterns.{kind_at}
-use Rattle.term_core.specs.Shape.{Shape}
-use Rattle.vax_templates.specs.sel_terms.specs.Effects.{ActShape, EffectShape}
-use Rattle.vax_templates.specs.sel_target.specs.declared.attr.Attr.{Attr}
-use Rattle.vax_templates.specs.sel_target.specs.declared.attr.Attr.TheVariants as attr
-use Rattle.vax_templates.specs.sel_target.specs.declared.fault.TemplateKind.{TemplateKind}
-use Rattle.vax_templates.specs.sel_target.specs.Meaning.{Fault, Spot, RegAt, WordAt, touches, is_word}
-use Rattle.vax_templates.specs.sel_target.specs.Values.{own_operand}
-use Rattle.vax_templates.specs.sel_target.specs.Instances.{hole, attr_touches, KindFits, SymFits, Fit}
+use Rattle.vax_target_writing.specs.tree_core.specs.declared.token.Tok.{Tok}
+use Rattle.vax_target_writing.specs.tree_core.specs.declared.token.Tok.TheVariants as tok
+use Rattle.vax_target_writing.specs.tree_core.specs.declared.token.AttKind.TheVariants as att_kind
+use Rattle.vax_target_writing.specs.tree_core.specs.declared.tree.Att.{Att}
+use Rattle.vax_target_writing.specs.tree_core.specs.declared.tree.Att.TheVariants as att
+use Rattle.vax_target_writing.specs.tree_core.specs.declared.program.TreeProgram.{TreeProgram}
+use Rattle.vax_target_writing.specs.tree_core.specs.Attributes.{attribute_of, is_of_kind}
+use Rattle.vax_target_writing.specs.md_reader_pieces.specs.declared.piece.Piece.TheVariants as piece
+use Rattle.vax_target_writing.specs.md_reader_pieces.specs.declared.piece.Line.{Line}
+use Rattle.vax_target_writing.specs.md_reader.specs.declared.types.Kind.{Kind}
+use Rattle.vax_target_writing.specs.md_reader.specs.declared.types.Kind.TheVariants as kind
+use Rattle.vax_target_writing.specs.md_reader.specs.declared.types.Class.{Class}
+use Rattle.vax_target_writing.specs.md_reader.specs.declared.types.Sym.{Sym}
+use Rattle.vax_target_writing.specs.md_reader.specs.declared.types.Sym.TheVariants as grammar_symbol
+use Rattle.vax_target_writing.specs.md_reader.specs.declared.types.Give.TheVariants as give
+use Rattle.vax_target_writing.specs.md_reader.specs.declared.types.Rule.{Rule}
+use Rattle.vax_target_writing.specs.md_reader.specs.Patterns.{kind_at}
+use Rattle.vax_target_writing.specs.term_core.specs.Shape.{Shape}
+use Rattle.vax_target_writing.specs.sel_terms.specs.Effects.{ActShape, EffectShape}
+use Rattle.vax_target_writing.specs.sel_target.specs.declared.attr.Attr.{Attr}
+use Rattle.vax_target_writing.specs.sel_target.specs.declared.attr.Attr.TheVariants as attr
+use Rattle.vax_target_writing.specs.sel_target.specs.declared.fault.TemplateKind.{TemplateKind}
+use Rattle.vax_target_writing.specs.sel_target.specs.Meaning.{Fault, Spot, RegAt, WordAt, touches, is_word}
+use Rattle.vax_target_writing.specs.sel_target.specs.Values.{own_operand}
+use Rattle.vax_target_writing.specs.sel_target.specs.Instances.{hole, attr_touches, KindFits, SymFits, Fit}
 use Rattle.vax_core.specs.declared.register.Reg.{Reg}
 use Rattle.vax_core.specs.declared.operand.Addr.{Addr}
 use Rattle.vax_core.specs.declared.operand.Base.TheVariants as bases
 use Rattle.vax_core.specs.declared.operand.Operand.{Operand}
 use Rattle.vax_core.specs.Homes.{home, at_home, argument_home}
-use Rattle.vax_templates.specs.declared.form.Base.TheVariants as base
-use Rattle.vax_templates.specs.declared.form.Base.{Base as FormBase}
-use Rattle.vax_templates.specs.declared.form.Form.{Form}
-use Rattle.vax_templates.specs.declared.setting.Hole.{Hole}
-use Rattle.vax_templates.specs.declared.setting.Hole.TheVariants as hole_kind
-use Rattle.vax_templates.specs.declared.setting.Own.{Own}
-use Rattle.vax_templates.specs.declared.setting.Own.TheVariants as own
-use Rattle.vax_templates.specs.declared.setting.Opening.{Opening}
-use Rattle.vax_templates.specs.declared.setting.Opening.TheVariants as opening
-use Rattle.vax_templates.specs.declared.setting.Setting.{Setting}
-use Rattle.vax_templates.specs.Settings.{hole_of_token, hole_of_kind, hole_of, holes_of, hole_or_other, hole_at, own_of, opening_by, setting_of}
-use Rattle.vax_templates.specs.FrameWords.{word_behind}
-use Rattle.vax_templates.specs.Instructions.{shape_of_pieces}
-use Rattle.vax_templates.specs.Standing.{Where, Immediate, Register, OwnRegister, RegisterZero, Value, Place, Local}
-use Rattle.vax_templates.specs.Standing.{SavedPlace, Saved, At, ◌>>=◌, where_own, where_hole, where_zero}
-use Rattle.vax_templates.specs.Standing.{where_deferred, at, displaced, pointed, negated, itself, where_base, moved}
-use Rattle.vax_templates.specs.Standing.{where_indexed, form_where}
-use Rattle.vax_templates.specs.HoleTerms.{constant_of, register_of, own_value, register_term, number_term}
-use Rattle.vax_templates.specs.HoleTerms.{absolute_term}
-use Rattle.vax_templates.specs.Taking.{fetched}
-use Rattle.vax_templates.specs.Progress.{Progress, start, at_line, lines_judged}
-use Rattle.vax_templates.specs.GiveLines.{given_line, register_given, base_number, number_given, address_given}
-use Rattle.vax_templates.specs.GiveLines.{value_given, place_given, without_index, shape_given, shape_read}
-use Rattle.vax_templates.specs.GiveLines.{given_shape}
-use Rattle.vax_templates.specs.Found.{ended, template_found, checked, with_divisors, found}
-use Rattle.vax_templates.specs.Filled.{alone, spare, numbered, register_in, attr_at, addr_in, addr_number, number_addr, object_addr, word_operand, slot_operand}
-use Rattle.vax_templates.specs.Filled.{slot_deferred, argument_deferred, operand_in, deferred_in, filled_base, with_index, filled, filled_or_spare, filled_operand}
+use Rattle.vax_target_writing.specs.vax_templates.specs.declared.form.Base.TheVariants as base
+use Rattle.vax_target_writing.specs.vax_templates.specs.declared.form.Base.{Base as FormBase}
+use Rattle.vax_target_writing.specs.vax_templates.specs.declared.form.Form.{Form}
+use Rattle.vax_target_writing.specs.vax_templates.specs.declared.setting.Hole.{Hole}
+use Rattle.vax_target_writing.specs.vax_templates.specs.declared.setting.Hole.TheVariants as hole_kind
+use Rattle.vax_target_writing.specs.vax_templates.specs.declared.setting.Own.{Own}
+use Rattle.vax_target_writing.specs.vax_templates.specs.declared.setting.Own.TheVariants as own
+use Rattle.vax_target_writing.specs.vax_templates.specs.declared.setting.Opening.{Opening}
+use Rattle.vax_target_writing.specs.vax_templates.specs.declared.setting.Opening.TheVariants as opening
+use Rattle.vax_target_writing.specs.vax_templates.specs.declared.setting.Setting.{Setting}
+use Rattle.vax_target_writing.specs.vax_templates.specs.Settings.{hole_of_token, hole_of_kind, hole_of, holes_of, hole_or_other, hole_at, own_of, opening_by, setting_of}
+use Rattle.vax_target_writing.specs.vax_templates.specs.FrameWords.{word_behind}
+use Rattle.vax_target_writing.specs.vax_templates.specs.Instructions.{shape_of_pieces}
+use Rattle.vax_target_writing.specs.vax_templates.specs.Standing.{Where, Immediate, Register, OwnRegister, RegisterZero, Value, Place, Local}
+use Rattle.vax_target_writing.specs.vax_templates.specs.Standing.{SavedPlace, Saved, At, ◌>>=◌, where_own, where_hole, where_zero}
+use Rattle.vax_target_writing.specs.vax_templates.specs.Standing.{where_deferred, at, displaced, pointed, negated, itself, where_base, moved}
+use Rattle.vax_target_writing.specs.vax_templates.specs.Standing.{where_indexed, form_where}
+use Rattle.vax_target_writing.specs.vax_templates.specs.HoleTerms.{constant_of, register_of, own_value, register_term, number_term}
+use Rattle.vax_target_writing.specs.vax_templates.specs.HoleTerms.{absolute_term}
+use Rattle.vax_target_writing.specs.vax_templates.specs.Taking.{fetched}
+use Rattle.vax_target_writing.specs.vax_templates.specs.Progress.{Progress, start, at_line, lines_judged}
+use Rattle.vax_target_writing.specs.vax_templates.specs.GiveLines.{given_line, register_given, base_number, number_given, address_given}
+use Rattle.vax_target_writing.specs.vax_templates.specs.GiveLines.{value_given, place_given, without_index, shape_given, shape_read}
+use Rattle.vax_target_writing.specs.vax_templates.specs.GiveLines.{given_shape}
+use Rattle.vax_target_writing.specs.vax_templates.specs.Found.{ended, template_found, checked, with_divisors, found}
+use Rattle.vax_target_writing.specs.vax_templates.specs.Filled.{alone, spare, numbered, register_in, attr_at, addr_in, addr_number, number_addr, object_addr, word_operand, slot_operand}
+use Rattle.vax_target_writing.specs.vax_templates.specs.Filled.{slot_deferred, argument_deferred, operand_in, deferred_in, filled_base, with_index, filled, filled_or_spare, filled_operand}
 use Rattle.vax_target_writing.specs.vax_target_meaning.specs.Vax.{vax}
 use Rattle.vax_target_writing.specs.vax_target_meaning.proofs.Own.{attr_alone}
 use Rattle.vax_target_writing.proofs.Each.{EachOk, bind_each, always_ok, still_ok, of_ok}
@@ -550,8 +550,8 @@ shape_touches q classes rule e l hs s is gives fit =
 -- ---- a hole alone
 
 alone_filled : (q : TreeProgram) (i : ℕ) (hs : List (Attr Operand)) → filled_operand q (piece.Hole i ∷ []) hs ≡ operand_in q (attr_at hs attr.Nothing i)
-unfolding Rattle.vax_templates.specs.Forms.form_front Rattle.vax_templates.specs.Forms.base_front Rattle.vax_templates.specs.Forms.number_spelled
-    Rattle.vax_templates.specs.Forms.index_front Rattle.vax_templates.specs.Marks.at_front filled_base
+unfolding Rattle.vax_target_writing.specs.vax_templates.specs.Forms.form_front Rattle.vax_target_writing.specs.vax_templates.specs.Forms.base_front Rattle.vax_target_writing.specs.vax_templates.specs.Forms.number_spelled
+    Rattle.vax_target_writing.specs.vax_templates.specs.Forms.index_front Rattle.vax_target_writing.specs.vax_templates.specs.Marks.at_front filled_base
 alone_filled q i hs = refl
 
 pub nth_is : (hs : List (Attr Operand)) (k : ℕ) → attr_at hs attr.Nothing (suc k) ≡ unwrap_or (slice_get hs k) attr.Nothing

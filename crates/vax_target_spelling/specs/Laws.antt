@@ -2,17 +2,17 @@
 use Rattle.std.specs.Prelude.{◌≡◌, ◌↔◌, ℕ, ◌^◌, ◌<◌, List, [], ◌∷◌, Some, None, Ok, true}
 use Rattle.std.specs.List.{list_any}
 use Rattle.gg_base.specs.declared.limits.TheConstants.{NEED_LIMIT}
-use Rattle.tree_core.specs.declared.program.TreeProgram.{TreeProgram}
-use Rattle.md_reader_pieces.specs.declared.piece.Line.{Line}
-use Rattle.md_reader_pieces.specs.declared.piece.Piece.TheVariants as piece
-use Rattle.md_reader.specs.declared.types.Class.{Class}
-use Rattle.md_reader.specs.declared.types.Give.TheVariants as give
-use Rattle.md_reader.specs.declared.types.Rule.{Rule}
-use Rattle.vax_templates.specs.sel_terms.specs.Effects.{EffectShape}
-use Rattle.vax_templates.specs.sel_target.specs.declared.attr.Attr.{Attr}
-use Rattle.vax_templates.specs.sel_target.specs.Meaning.{Spot, touches}
-use Rattle.vax_templates.specs.sel_target.specs.Values.{own_operand}
-use Rattle.vax_templates.specs.sel_target.specs.Instances.{hole, attr_touches, Fit}
+use Rattle.vax_target_writing.specs.tree_core.specs.declared.program.TreeProgram.{TreeProgram}
+use Rattle.vax_target_writing.specs.md_reader_pieces.specs.declared.piece.Line.{Line}
+use Rattle.vax_target_writing.specs.md_reader_pieces.specs.declared.piece.Piece.TheVariants as piece
+use Rattle.vax_target_writing.specs.md_reader.specs.declared.types.Class.{Class}
+use Rattle.vax_target_writing.specs.md_reader.specs.declared.types.Give.TheVariants as give
+use Rattle.vax_target_writing.specs.md_reader.specs.declared.types.Rule.{Rule}
+use Rattle.vax_target_writing.specs.sel_terms.specs.Effects.{EffectShape}
+use Rattle.vax_target_writing.specs.sel_target.specs.declared.attr.Attr.{Attr}
+use Rattle.vax_target_writing.specs.sel_target.specs.Meaning.{Spot, touches}
+use Rattle.vax_target_writing.specs.sel_target.specs.Values.{own_operand}
+use Rattle.vax_target_writing.specs.sel_target.specs.Instances.{hole, attr_touches, Fit}
 use Rattle.vax_core.specs.declared.operand.Operand.{Operand}
 use Rattle.vax_target_writing.specs.vax_target_meaning.specs.Vax.{vax}
 

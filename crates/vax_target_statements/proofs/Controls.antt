@@ -24,20 +24,20 @@ use Rattle.md_reader.specs.declared.types.Rule.{Rule}
 use Rattle.md_reader.specs.Restrictions.{symbol_at, is_branch}
 use Rattle.md_reader.specs.Valid.{MayRestrict}
 use Rattle.term_core.specs.Shape.{Shape}
-use Rattle.sel_terms.specs.Effects.{EffectShape}
-use Rattle.sel_target.specs.declared.attr.Attr.{Attr}
-use Rattle.sel_target.specs.declared.attr.Attr.TheVariants as attr
-use Rattle.sel_target.specs.Values.{View, value}
-use Rattle.sel_target.specs.EffectTerms.{IsSignedBy}
-use Rattle.sel_target.specs.Instances.{hole, Ready}
-use Rattle.sel_target.specs.StatementLaws.{att_of}
+use Rattle.vax_target_rules.specs.sel_terms.specs.Effects.{EffectShape}
+use Rattle.vax_target_rules.specs.sel_target.specs.declared.attr.Attr.{Attr}
+use Rattle.vax_target_rules.specs.sel_target.specs.declared.attr.Attr.TheVariants as attr
+use Rattle.vax_target_rules.specs.sel_target.specs.Values.{View, value}
+use Rattle.vax_target_rules.specs.sel_target.specs.EffectTerms.{IsSignedBy}
+use Rattle.vax_target_rules.specs.sel_target.specs.Instances.{hole, Ready}
+use Rattle.vax_target_rules.specs.sel_target.specs.StatementLaws.{att_of}
 use Rattle.vax_core.specs.declared.op.Op.TheVariants as ops
 use Rattle.vax_core.specs.declared.operand.Operand.{Operand}
 use Rattle.vax_machine.specs.Functions.{passes}
 use Rattle.vax_machine.specs.State.{State}
-use Rattle.vax_machine_lists.specs.Instructions.{Course, Goes, ends, branching, performed}
-use Rattle.vax_templates.specs.Settings.{is_signed}
-use Rattle.vax_templates.specs.FilledLines.{op_of_relation, op_of_att, op_in, label_of_att, label_in, label_among, branch_to}
+use Rattle.vax_target_rules.specs.vax_machine_lists.specs.Instructions.{Course, Goes, ends, branching, performed}
+use Rattle.vax_target_rules.specs.vax_templates.specs.Settings.{is_signed}
+use Rattle.vax_target_rules.specs.vax_templates.specs.FilledLines.{op_of_relation, op_of_att, op_in, label_of_att, label_in, label_among, branch_to}
 use Rattle.vax_target_rules.specs.vax_target_meaning.specs.Running.{course_of}
 use Rattle.vax_target_rules.specs.vax_target_meaning.specs.Vax.{vax, stands}
 use Rattle.vax_target_rules.specs.vax_target_operands.specs.Scenes.{Scene, worth, filling_at}

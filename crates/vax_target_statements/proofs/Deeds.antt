@@ -15,11 +15,11 @@ use Rattle.md_reader.specs.declared.types.Class.{Class}
 use Rattle.md_reader.specs.declared.types.Rule.{Rule}
 use Rattle.term_core.specs.Shape.{Shape}
 use Rattle.term_core.proofs.Values.{small}
-use Rattle.sel_terms.specs.Effects.{ActShape, EffectShape}
-use Rattle.sel_target.specs.declared.attr.Attr.{Attr}
-use Rattle.sel_target.specs.Values.{View, term_state, value}
-use Rattle.sel_target.specs.Instances.{hole, Ready}
-use Rattle.sel_target.specs.StatementLaws.{IsStep}
+use Rattle.vax_target_rules.specs.sel_terms.specs.Effects.{ActShape, EffectShape}
+use Rattle.vax_target_rules.specs.sel_target.specs.declared.attr.Attr.{Attr}
+use Rattle.vax_target_rules.specs.sel_target.specs.Values.{View, term_state, value}
+use Rattle.vax_target_rules.specs.sel_target.specs.Instances.{hole, Ready}
+use Rattle.vax_target_rules.specs.sel_target.specs.StatementLaws.{IsStep}
 use Rattle.vax_core.specs.declared.register.Reg.TheVariants.{R0}
 use Rattle.vax_core.specs.declared.operand.Operand.{Operand}
 use Rattle.vax_machine.specs.declared.turn.Stop.{Stop}
@@ -30,9 +30,9 @@ use Rattle.vax_machine.specs.State.{State, reg, with_conditions, ◌>>=◌}
 use Rattle.vax_machine.specs.Operands.{put}
 use Rattle.vax_machine.specs.Functions.{valued}
 use Rattle.vax_machine.specs.Step.{pushing}
-use Rattle.vax_machine_lists.specs.Instructions as lists
-use Rattle.vax_machine_lists.specs.Instructions.{Course, exec}
-use Rattle.vax_states.proofs.Standing.{area_written_so, push_written}
+use Rattle.vax_target_rules.specs.vax_machine_lists.specs.Instructions as lists
+use Rattle.vax_target_rules.specs.vax_machine_lists.specs.Instructions.{Course, exec}
+use Rattle.vax_target_rules.specs.vax_states.proofs.Standing.{area_written_so, push_written}
 use Rattle.vax_target_rules.specs.vax_target_meaning.specs.Running.{course_of}
 use Rattle.vax_target_rules.specs.vax_target_meaning.specs.Vax.{vax, stands}
 use Rattle.vax_target_rules.specs.vax_target_operands.specs.Scenes.{Scene, worth, filling_at}

@@ -19,10 +19,10 @@ use Rattle.md_reader.specs.declared.types.Sym.{Sym}
 use Rattle.md_reader.specs.declared.types.Sym.TheVariants as grammar_symbol
 use Rattle.md_reader.specs.Patterns.{kind_at, kids_of, Trees, no_tree, node, onto, sorted_test, IsSorted}
 use Rattle.md_reader.specs.Restrictions.{is_branch}
-use Rattle.sel_target.specs.declared.attr.Attr.{Attr}
-use Rattle.sel_target.specs.declared.attr.Attr.TheVariants as attr
-use Rattle.sel_target.specs.Instances.{SymFits, Fit}
-use Rattle.sel_target.proofs.Facts.{no_token}
+use Rattle.vax_target_rules.specs.sel_target.specs.declared.attr.Attr.{Attr}
+use Rattle.vax_target_rules.specs.sel_target.specs.declared.attr.Attr.TheVariants as attr
+use Rattle.vax_target_rules.specs.sel_target.specs.Instances.{SymFits, Fit}
+use Rattle.vax_target_rules.specs.sel_target.proofs.Facts.{no_token}
 use Rattle.vax_core.specs.declared.operand.Operand.{Operand}
 use Rattle.vax_target_rules.specs.vax_target_meaning.specs.Vax.{vax}
 

@@ -23,28 +23,28 @@ use Rattle.md_reader.specs.declared.types.Rule.{Rule}
 use Rattle.md_reader.specs.Patterns.{kind_at}
 use Rattle.term_core.specs.Shape.{Shape}
 use Rattle.term_core.proofs.Values.{small}
-use Rattle.sel_terms.specs.Effects.{EffectShape}
-use Rattle.sel_target.specs.declared.attr.Attr.{Attr}
-use Rattle.sel_target.specs.declared.attr.Attr.TheVariants as attr
-use Rattle.sel_target.specs.Meaning.{Spot, RegAt, touches}
-use Rattle.sel_target.specs.Values.{View, term_state, value, own_operand, PlaceIs, local as is_local, argument as is_argument, memory as is_memory}
-use Rattle.sel_target.specs.Instances.{hole, some_touches, attr_touches, IsResult, Ready}
-use Rattle.sel_target.specs.StatementLaws.{HomeIs}
+use Rattle.vax_target_rules.specs.sel_terms.specs.Effects.{EffectShape}
+use Rattle.vax_target_rules.specs.sel_target.specs.declared.attr.Attr.{Attr}
+use Rattle.vax_target_rules.specs.sel_target.specs.declared.attr.Attr.TheVariants as attr
+use Rattle.vax_target_rules.specs.sel_target.specs.Meaning.{Spot, RegAt, touches}
+use Rattle.vax_target_rules.specs.sel_target.specs.Values.{View, term_state, value, own_operand, PlaceIs, local as is_local, argument as is_argument, memory as is_memory}
+use Rattle.vax_target_rules.specs.sel_target.specs.Instances.{hole, some_touches, attr_touches, IsResult, Ready}
+use Rattle.vax_target_rules.specs.sel_target.specs.StatementLaws.{HomeIs}
 use Rattle.vax_core.specs.declared.register.Reg.TheVariants.{Ap, Fp}
 use Rattle.vax_core.specs.declared.operand.Operand.{Operand}
 use Rattle.vax_core.specs.Homes.{home, argument_home, word_addr}
 use Rattle.vax_core.specs.Registers.{reg_number, operand_bits}
 use Rattle.vax_machine.specs.declared.operands.Location.TheVariants as locations
 use Rattle.vax_machine.specs.State.{State, reg}
-use Rattle.vax_machine_lists.specs.Instructions.{Course}
-use Rattle.vax_states.specs.Stack.{word_of, argument_of}
-use Rattle.vax_states.proofs.Standing.{local_written, argument_written, high_top}
-use Rattle.vax_states.proofs.Keeping.{reg_small}
-use Rattle.vax_states.proofs.Law.{word_address}
-use Rattle.vax_templates.specs.declared.setting.Own.TheVariants as own
-use Rattle.vax_templates.specs.Settings.{holes_of, setting_of, own_of, is_reuse}
-use Rattle.vax_templates.specs.GiveLines.{given_by}
-use Rattle.vax_templates.specs.Filled.{spare, word_operand, slot_operand, operand_in, register_in}
+use Rattle.vax_target_rules.specs.vax_machine_lists.specs.Instructions.{Course}
+use Rattle.vax_target_rules.specs.vax_states.specs.Stack.{word_of, argument_of}
+use Rattle.vax_target_rules.specs.vax_states.proofs.Standing.{local_written, argument_written, high_top}
+use Rattle.vax_target_rules.specs.vax_states.proofs.Keeping.{reg_small}
+use Rattle.vax_target_rules.specs.vax_states.proofs.Law.{word_address}
+use Rattle.vax_target_rules.specs.vax_templates.specs.declared.setting.Own.TheVariants as own
+use Rattle.vax_target_rules.specs.vax_templates.specs.Settings.{holes_of, setting_of, own_of, is_reuse}
+use Rattle.vax_target_rules.specs.vax_templates.specs.GiveLines.{given_by}
+use Rattle.vax_target_rules.specs.vax_templates.specs.Filled.{spare, word_operand, slot_operand, operand_in, register_in}
 use Rattle.vax_target_rules.specs.vax_target_meaning.specs.Reading.{names, displaced}
 use Rattle.vax_target_rules.specs.vax_target_meaning.specs.Vax.{vax, stands}
 use Rattle.vax_target_rules.specs.vax_target_meaning.proofs.Own.{attr_alone}

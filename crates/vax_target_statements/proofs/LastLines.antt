@@ -14,32 +14,32 @@ use Rattle.md_reader.specs.declared.types.Give.TheVariants as give
 use Rattle.md_reader.specs.declared.types.Rule.{Rule}
 use Rattle.md_reader.specs.Patterns.{kind_at}
 use Rattle.term_core.specs.Shape.{Shape}
-use Rattle.sel_terms.specs.Effects.{ActShape, EffectShape, Value, Number, Address, PlaceHome, PlaceAt}
-use Rattle.sel_target.specs.declared.fault.TemplateKind.{TemplateKind}
-use Rattle.sel_target.specs.declared.fault.TemplateKind.TheVariants.{NotInstr, WrongSize}
-use Rattle.sel_target.specs.declared.attr.Attr.{Attr}
-use Rattle.sel_target.specs.Values.{View}
-use Rattle.sel_target.specs.Instances.{Ready}
+use Rattle.vax_target_rules.specs.sel_terms.specs.Effects.{ActShape, EffectShape, Value, Number, Address, PlaceHome, PlaceAt}
+use Rattle.vax_target_rules.specs.sel_target.specs.declared.fault.TemplateKind.{TemplateKind}
+use Rattle.vax_target_rules.specs.sel_target.specs.declared.fault.TemplateKind.TheVariants.{NotInstr, WrongSize}
+use Rattle.vax_target_rules.specs.sel_target.specs.declared.attr.Attr.{Attr}
+use Rattle.vax_target_rules.specs.sel_target.specs.Values.{View}
+use Rattle.vax_target_rules.specs.sel_target.specs.Instances.{Ready}
 use Rattle.vax_core.specs.declared.operand.Operand.{Operand}
 use Rattle.vax_machine.specs.declared.function.Conditions.{Conditions}
 use Rattle.vax_machine.specs.State.{State, with_conditions}
-use Rattle.vax_machine_lists.specs.Instructions.{Course, exec}
-use Rattle.vax_machine_lists.proofs.Soundness.{conditions_sound}
-use Rattle.vax_states.specs.Agreeing.{HasRoom}
-use Rattle.vax_templates.specs.declared.form.Base.{Base}
-use Rattle.vax_templates.specs.declared.form.Base.TheVariants as base
-use Rattle.vax_templates.specs.declared.form.Form.{Form}
-use Rattle.vax_templates.specs.declared.setting.Hole.{Hole}
-use Rattle.vax_templates.specs.declared.setting.Setting.{Setting}
-use Rattle.vax_templates.specs.Settings.{holes_of, setting_of, hole_at}
-use Rattle.vax_templates.specs.Instructions.{shape_of_pieces}
-use Rattle.vax_templates.specs.Standing.{Where, Immediate, Register, OwnRegister, RegisterZero, Value as ValueAt}
-use Rattle.vax_templates.specs.Standing.{Place, Local, SavedPlace, Saved, At, form_where, ◌>>=◌}
-use Rattle.vax_templates.specs.HoleTerms.{constant_of}
-use Rattle.vax_templates.specs.Taking.{fetched}
-use Rattle.vax_templates.specs.Deeds.{Last, Plain, Compared, Tested, Returning, Ended}
-use Rattle.vax_templates.specs.GiveLines.{left_value, last_deed, register_given, number_given, base_number}
-use Rattle.vax_templates.specs.GiveLines.{address_given, value_given, place_given, shape_given, shape_read, given_by}
+use Rattle.vax_target_rules.specs.vax_machine_lists.specs.Instructions.{Course, exec}
+use Rattle.vax_target_rules.specs.vax_machine_lists.proofs.Soundness.{conditions_sound}
+use Rattle.vax_target_rules.specs.vax_states.specs.Agreeing.{HasRoom}
+use Rattle.vax_target_rules.specs.vax_templates.specs.declared.form.Base.{Base}
+use Rattle.vax_target_rules.specs.vax_templates.specs.declared.form.Base.TheVariants as base
+use Rattle.vax_target_rules.specs.vax_templates.specs.declared.form.Form.{Form}
+use Rattle.vax_target_rules.specs.vax_templates.specs.declared.setting.Hole.{Hole}
+use Rattle.vax_target_rules.specs.vax_templates.specs.declared.setting.Setting.{Setting}
+use Rattle.vax_target_rules.specs.vax_templates.specs.Settings.{holes_of, setting_of, hole_at}
+use Rattle.vax_target_rules.specs.vax_templates.specs.Instructions.{shape_of_pieces}
+use Rattle.vax_target_rules.specs.vax_templates.specs.Standing.{Where, Immediate, Register, OwnRegister, RegisterZero, Value as ValueAt}
+use Rattle.vax_target_rules.specs.vax_templates.specs.Standing.{Place, Local, SavedPlace, Saved, At, form_where, ◌>>=◌}
+use Rattle.vax_target_rules.specs.vax_templates.specs.HoleTerms.{constant_of}
+use Rattle.vax_target_rules.specs.vax_templates.specs.Taking.{fetched}
+use Rattle.vax_target_rules.specs.vax_templates.specs.Deeds.{Last, Plain, Compared, Tested, Returning, Ended}
+use Rattle.vax_target_rules.specs.vax_templates.specs.GiveLines.{left_value, last_deed, register_given, number_given, base_number}
+use Rattle.vax_target_rules.specs.vax_templates.specs.GiveLines.{address_given, value_given, place_given, shape_given, shape_read, given_by}
 use Rattle.vax_target_rules.specs.vax_target_meaning.specs.Vax.{vax, stands}
 use Rattle.vax_target_rules.specs.vax_target_operands.specs.Scenes.{Scene}
 use Rattle.vax_target_rules.specs.vax_target_operands.proofs.Binds.{chained}

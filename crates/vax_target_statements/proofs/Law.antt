@@ -8,11 +8,11 @@ use Rattle.tree_meaning.specs.Steps.{deed_step}
 use Rattle.md_reader.specs.declared.types.Class.{Class}
 use Rattle.md_reader.specs.declared.types.Rule.{Rule}
 use Rattle.term_core.specs.Shape.{Shape}
-use Rattle.sel_terms.specs.Effects.{ActShape, EffectShape, Value, Number, Address, PlaceHome, PlaceAt, StoreHome, StoreAt, Branch, Push, Call, Save, Return, Jump}
-use Rattle.sel_target.specs.declared.attr.Attr.{Attr}
-use Rattle.sel_target.specs.Values.{View}
-use Rattle.sel_target.specs.Instances.{Ready}
-use Rattle.sel_target.specs.StatementLaws.{DoesAct}
+use Rattle.vax_target_rules.specs.sel_terms.specs.Effects.{ActShape, EffectShape, Value, Number, Address, PlaceHome, PlaceAt, StoreHome, StoreAt, Branch, Push, Call, Save, Return, Jump}
+use Rattle.vax_target_rules.specs.sel_target.specs.declared.attr.Attr.{Attr}
+use Rattle.vax_target_rules.specs.sel_target.specs.Values.{View}
+use Rattle.vax_target_rules.specs.sel_target.specs.Instances.{Ready}
+use Rattle.vax_target_rules.specs.sel_target.specs.StatementLaws.{DoesAct}
 use Rattle.vax_core.specs.declared.operand.Operand.{Operand}
 use Rattle.vax_machine.specs.State.{State}
 use Rattle.vax_target_rules.specs.vax_target_meaning.specs.Vax.{vax}

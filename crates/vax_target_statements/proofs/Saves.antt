@@ -22,15 +22,15 @@ use Rattle.md_reader.specs.declared.types.Sym.TheVariants as grammar_symbol
 use Rattle.md_reader.specs.declared.types.Rule.{Rule}
 use Rattle.md_reader.specs.Patterns.{kind_at}
 use Rattle.term_core.specs.Shape.{LastResult}
-use Rattle.sel_terms.specs.Effects.{ActShape, EffectShape, Save}
-use Rattle.sel_target.specs.declared.attr.Attr.{Attr}
-use Rattle.sel_target.specs.declared.attr.Attr.TheVariants as attr
-use Rattle.sel_target.specs.Values.{View, term_state}
+use Rattle.vax_target_rules.specs.sel_terms.specs.Effects.{ActShape, EffectShape, Save}
+use Rattle.vax_target_rules.specs.sel_target.specs.declared.attr.Attr.{Attr}
+use Rattle.vax_target_rules.specs.sel_target.specs.declared.attr.Attr.TheVariants as attr
+use Rattle.vax_target_rules.specs.sel_target.specs.Values.{View, term_state}
 use Rattle.term_core.proofs.Values.{small}
-use Rattle.sel_target.specs.EffectTerms.{begins_with_save}
-use Rattle.sel_target.specs.Instances.{hole, InFrame, SymFits, Ready}
-use Rattle.sel_target.specs.StatementLaws.{att_of}
-use Rattle.sel_target.proofs.Facts.{no_token}
+use Rattle.vax_target_rules.specs.sel_target.specs.EffectTerms.{begins_with_save}
+use Rattle.vax_target_rules.specs.sel_target.specs.Instances.{hole, InFrame, SymFits, Ready}
+use Rattle.vax_target_rules.specs.sel_target.specs.StatementLaws.{att_of}
+use Rattle.vax_target_rules.specs.sel_target.proofs.Facts.{no_token}
 use Rattle.vax_core.specs.declared.register.Reg.TheVariants.{R0, Ap, Fp}
 use Rattle.vax_core.specs.declared.operand.Base.{Base}
 use Rattle.vax_core.specs.declared.operand.Base.TheVariants as bases
@@ -39,22 +39,22 @@ use Rattle.vax_core.specs.declared.operand.Operand.{Operand}
 use Rattle.vax_core.specs.Homes.{home, argument_home, word_addr}
 use Rattle.vax_machine.specs.declared.operands.Location.TheVariants as locations
 use Rattle.vax_machine.specs.State.{State, reg}
-use Rattle.vax_machine_lists.specs.Instructions.{Course}
-use Rattle.vax_states.specs.Stack.{word_of}
-use Rattle.vax_states.proofs.Standing.{local_written}
-use Rattle.vax_states.proofs.Keeping.{reg_small}
-use Rattle.vax_states.proofs.Law.{word_address}
-use Rattle.vax_templates.specs.declared.setting.Hole.{Hole}
-use Rattle.vax_templates.specs.declared.setting.Hole.TheVariants as hole_kind
-use Rattle.vax_templates.specs.declared.setting.Setting.{Setting}
-use Rattle.vax_templates.specs.Settings.{hole_of_token, hole_of, holes_of, hole_or_other, hole_at, setting_of}
-use Rattle.vax_templates.specs.Deeds.{Last, Plain, Compared, Tested, Returning, Ended}
-use Rattle.vax_templates.specs.GiveLines.{last_deed, given_by}
-use Rattle.vax_templates.specs.Progress.{start}
+use Rattle.vax_target_rules.specs.vax_machine_lists.specs.Instructions.{Course}
+use Rattle.vax_target_rules.specs.vax_states.specs.Stack.{word_of}
+use Rattle.vax_target_rules.specs.vax_states.proofs.Standing.{local_written}
+use Rattle.vax_target_rules.specs.vax_states.proofs.Keeping.{reg_small}
+use Rattle.vax_target_rules.specs.vax_states.proofs.Law.{word_address}
+use Rattle.vax_target_rules.specs.vax_templates.specs.declared.setting.Hole.{Hole}
+use Rattle.vax_target_rules.specs.vax_templates.specs.declared.setting.Hole.TheVariants as hole_kind
+use Rattle.vax_target_rules.specs.vax_templates.specs.declared.setting.Setting.{Setting}
+use Rattle.vax_target_rules.specs.vax_templates.specs.Settings.{hole_of_token, hole_of, holes_of, hole_or_other, hole_at, setting_of}
+use Rattle.vax_target_rules.specs.vax_templates.specs.Deeds.{Last, Plain, Compared, Tested, Returning, Ended}
+use Rattle.vax_target_rules.specs.vax_templates.specs.GiveLines.{last_deed, given_by}
+use Rattle.vax_target_rules.specs.vax_templates.specs.Progress.{start}
 use Rattle.vax_target_rules.proofs.Founds.{IsFound}
 use Rattle.vax_target_rules.proofs.Instances.{mapped_at, role_is}
 use Rattle.vax_target_rules.proofs.Results.{found_so}
-use Rattle.vax_templates.specs.Filled.{spare, word_operand, slot_operand, leaf_operand, operand_in}
+use Rattle.vax_target_rules.specs.vax_templates.specs.Filled.{spare, word_operand, slot_operand, leaf_operand, operand_in}
 use Rattle.vax_target_rules.specs.vax_target_meaning.specs.Reading.{displaced}
 use Rattle.vax_target_rules.specs.vax_target_meaning.specs.Vax.{vax, stands}
 use Rattle.vax_target_rules.specs.vax_target_operands.specs.Scenes.{Scene, worth, filling_at, IsSavedLocal}

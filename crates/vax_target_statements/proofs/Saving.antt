@@ -7,10 +7,10 @@ use Rattle.gg_base.proofs.Facts.{err_ok, ok_same}
 use Rattle.md_reader_pieces.specs.declared.piece.Line.{Line}
 use Rattle.md_reader_pieces.specs.declared.piece.Piece.{Piece}
 use Rattle.term_core.specs.Shape.{Shape, Constant}
-use Rattle.sel_terms.specs.Effects.{ActShape, StoreHome, StoreAt, Save, Push, Jump, Call, Branch, Return}
-use Rattle.sel_terms.specs.Same.{same_size}
-use Rattle.sel_target.specs.declared.fault.TemplateKind.{TemplateKind}
-use Rattle.sel_target.specs.declared.fault.TemplateKind.TheVariants.{NotInstr}
+use Rattle.vax_target_rules.specs.sel_terms.specs.Effects.{ActShape, StoreHome, StoreAt, Save, Push, Jump, Call, Branch, Return}
+use Rattle.vax_target_rules.specs.sel_terms.specs.Same.{same_size}
+use Rattle.vax_target_rules.specs.sel_target.specs.declared.fault.TemplateKind.{TemplateKind}
+use Rattle.vax_target_rules.specs.sel_target.specs.declared.fault.TemplateKind.TheVariants.{NotInstr}
 use Rattle.vax_core.specs.declared.op.Op.{Op}
 use Rattle.vax_core.specs.declared.op.Access.{Access}
 use Rattle.vax_core.specs.declared.op.Access.TheVariants as accesses
@@ -19,38 +19,38 @@ use Rattle.vax_core.specs.Ops.{shape}
 use Rattle.vax_machine.specs.declared.function.Action.{Action}
 use Rattle.vax_machine.specs.declared.function.Action.TheVariants as action
 use Rattle.vax_machine.specs.Functions.{action_of}
-use Rattle.vax_templates.specs.declared.form.Base.{Base}
-use Rattle.vax_templates.specs.declared.form.Base.TheVariants as base
-use Rattle.vax_templates.specs.declared.form.Form.{Form}
-use Rattle.vax_templates.specs.declared.setting.Hole.{Hole}
-use Rattle.vax_templates.specs.declared.setting.Hole.TheVariants as hole_kind
-use Rattle.vax_templates.specs.declared.setting.Own.{Own}
-use Rattle.vax_templates.specs.declared.setting.Own.TheVariants as own
-use Rattle.vax_templates.specs.declared.setting.Opening.{Opening}
-use Rattle.vax_templates.specs.declared.setting.Opening.TheVariants as opening
-use Rattle.vax_templates.specs.declared.setting.Setting.{Setting}
-use Rattle.vax_templates.specs.Settings.{hole_at}
-use Rattle.vax_templates.specs.Instructions.{Instruction, Relation, Jump as JumpLine, Calls as CallsLine, Ret, Operates, instruction_of}
-use Rattle.vax_templates.specs.Standing.{Where, Immediate, Register, OwnRegister, RegisterZero, Value, Place, Local}
-use Rattle.vax_templates.specs.Standing.{SavedPlace, Saved, At, where_own, where_hole, where_zero, where_deferred, at}
-use Rattle.vax_templates.specs.Standing.{sum, displaced, pointed, negated, itself, where_base, scaled, moved}
-use Rattle.vax_templates.specs.Standing.{where_indexed, form_where, ◌>>=◌}
-use Rattle.vax_templates.specs.HoleTerms.{constant_of, absolute_term, number_term, own_value, register_term}
-use Rattle.vax_templates.specs.Targets.{Target, ToOwn, ToSlot, ToHome, ToMemory, ToZero, ToSaved, own_target}
-use Rattle.vax_templates.specs.Targets.{memory_target, zero_target, targeted}
-use Rattle.vax_templates.specs.Taking.{Taken, last_result, cut_term, fetched, written}
-use Rattle.vax_templates.specs.Taking.{both, taken, evaluated, Arguments, no_arguments, last_of, in_front}
-use Rattle.vax_templates.specs.Taking.{all_evaluated}
-use Rattle.vax_templates.specs.Giving.{Given, Computes, Divides, Compares, Tests, given}
-use Rattle.vax_templates.specs.Deeds.{Last, Plain, Compared, Tested, Returning, Ended, Deed, leaves, ends_statement}
-use Rattle.vax_templates.specs.Deeds.{is_relation, branches, is_movl, is_last_result, puts, put, divided, computed}
-use Rattle.vax_templates.specs.Deeds.{acted}
-use Rattle.vax_templates.specs.Judging.{is_disordered, with_reads, checked, operated, instruction_did}
-use Rattle.vax_templates.specs.Judging.{returned, did_behind, line_did}
-use Rattle.vax_templates.specs.Deeds as deeds
-use Rattle.vax_templates.specs.Judging as judging
-use Rattle.vax_templates.specs.Progress.{Progress, judged, lines_judged}
-use Rattle.vax_templates.proofs.Judgements.{statement_of, sized_plain, ok_plain, addressed_plain, in_order_is}
+use Rattle.vax_target_rules.specs.vax_templates.specs.declared.form.Base.{Base}
+use Rattle.vax_target_rules.specs.vax_templates.specs.declared.form.Base.TheVariants as base
+use Rattle.vax_target_rules.specs.vax_templates.specs.declared.form.Form.{Form}
+use Rattle.vax_target_rules.specs.vax_templates.specs.declared.setting.Hole.{Hole}
+use Rattle.vax_target_rules.specs.vax_templates.specs.declared.setting.Hole.TheVariants as hole_kind
+use Rattle.vax_target_rules.specs.vax_templates.specs.declared.setting.Own.{Own}
+use Rattle.vax_target_rules.specs.vax_templates.specs.declared.setting.Own.TheVariants as own
+use Rattle.vax_target_rules.specs.vax_templates.specs.declared.setting.Opening.{Opening}
+use Rattle.vax_target_rules.specs.vax_templates.specs.declared.setting.Opening.TheVariants as opening
+use Rattle.vax_target_rules.specs.vax_templates.specs.declared.setting.Setting.{Setting}
+use Rattle.vax_target_rules.specs.vax_templates.specs.Settings.{hole_at}
+use Rattle.vax_target_rules.specs.vax_templates.specs.Instructions.{Instruction, Relation, Jump as JumpLine, Calls as CallsLine, Ret, Operates, instruction_of}
+use Rattle.vax_target_rules.specs.vax_templates.specs.Standing.{Where, Immediate, Register, OwnRegister, RegisterZero, Value, Place, Local}
+use Rattle.vax_target_rules.specs.vax_templates.specs.Standing.{SavedPlace, Saved, At, where_own, where_hole, where_zero, where_deferred, at}
+use Rattle.vax_target_rules.specs.vax_templates.specs.Standing.{sum, displaced, pointed, negated, itself, where_base, scaled, moved}
+use Rattle.vax_target_rules.specs.vax_templates.specs.Standing.{where_indexed, form_where, ◌>>=◌}
+use Rattle.vax_target_rules.specs.vax_templates.specs.HoleTerms.{constant_of, absolute_term, number_term, own_value, register_term}
+use Rattle.vax_target_rules.specs.vax_templates.specs.Targets.{Target, ToOwn, ToSlot, ToHome, ToMemory, ToZero, ToSaved, own_target}
+use Rattle.vax_target_rules.specs.vax_templates.specs.Targets.{memory_target, zero_target, targeted}
+use Rattle.vax_target_rules.specs.vax_templates.specs.Taking.{Taken, last_result, cut_term, fetched, written}
+use Rattle.vax_target_rules.specs.vax_templates.specs.Taking.{both, taken, evaluated, Arguments, no_arguments, last_of, in_front}
+use Rattle.vax_target_rules.specs.vax_templates.specs.Taking.{all_evaluated}
+use Rattle.vax_target_rules.specs.vax_templates.specs.Giving.{Given, Computes, Divides, Compares, Tests, given}
+use Rattle.vax_target_rules.specs.vax_templates.specs.Deeds.{Last, Plain, Compared, Tested, Returning, Ended, Deed, leaves, ends_statement}
+use Rattle.vax_target_rules.specs.vax_templates.specs.Deeds.{is_relation, branches, is_movl, is_last_result, puts, put, divided, computed}
+use Rattle.vax_target_rules.specs.vax_templates.specs.Deeds.{acted}
+use Rattle.vax_target_rules.specs.vax_templates.specs.Judging.{is_disordered, with_reads, checked, operated, instruction_did}
+use Rattle.vax_target_rules.specs.vax_templates.specs.Judging.{returned, did_behind, line_did}
+use Rattle.vax_target_rules.specs.vax_templates.specs.Deeds as deeds
+use Rattle.vax_target_rules.specs.vax_templates.specs.Judging as judging
+use Rattle.vax_target_rules.specs.vax_templates.specs.Progress.{Progress, judged, lines_judged}
+use Rattle.vax_target_rules.specs.vax_templates.proofs.Judgements.{statement_of, sized_plain, ok_plain, addressed_plain, in_order_is}
 use Rattle.vax_target_rules.specs.vax_target_operands.proofs.Binds.{chained, cond_ok}
 use Rattle.vax_target_rules.specs.vax_target_runs.proofs.Law.{judged_is}
 

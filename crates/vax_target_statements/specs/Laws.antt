@@ -6,11 +6,11 @@ use Rattle.tree_meaning.specs.Deeds.{Deed}
 use Rattle.tree_meaning.specs.Steps.{deed_step}
 use Rattle.md_reader.specs.declared.types.Class.{Class}
 use Rattle.md_reader.specs.declared.types.Rule.{Rule}
-use Rattle.sel_terms.specs.Effects.{ActShape, EffectShape, StoreHome, StoreAt, Branch, Push, Save, Return, Jump}
-use Rattle.sel_target.specs.declared.attr.Attr.{Attr}
-use Rattle.sel_target.specs.Values.{View}
-use Rattle.sel_target.specs.Instances.{lines_of, Ready}
-use Rattle.sel_target.specs.StatementLaws.{IsStep, DoesAct}
+use Rattle.vax_target_rules.specs.sel_terms.specs.Effects.{ActShape, EffectShape, StoreHome, StoreAt, Branch, Push, Save, Return, Jump}
+use Rattle.vax_target_rules.specs.sel_target.specs.declared.attr.Attr.{Attr}
+use Rattle.vax_target_rules.specs.sel_target.specs.Values.{View}
+use Rattle.vax_target_rules.specs.sel_target.specs.Instances.{lines_of, Ready}
+use Rattle.vax_target_rules.specs.sel_target.specs.StatementLaws.{IsStep, DoesAct}
 use Rattle.vax_core.specs.declared.operand.Operand.{Operand}
 use Rattle.vax_machine.specs.State.{State}
 use Rattle.vax_target_rules.specs.vax_target_meaning.specs.Vax.{vax}

@@ -1,6 +1,6 @@
 -- What a part of the judging of a line answers, by the definition that computes it.
 use Rattle.std.specs.Prelude.{◌≡◌, Result, Ok, Err}
-use Rattle.sel_target.specs.declared.fault.TemplateKind.{TemplateKind}
+use Rattle.vax_templates.specs.sel_target.specs.declared.fault.TemplateKind.{TemplateKind}
 use Rattle.vax_target_forms.specs.declared.refusal.Refusal.{Refusal}
 use Rattle.vax_target_forms.specs.declared.refusal.Refusal.TheVariants as refusals
 

@@ -2,38 +2,38 @@
 use Rattle.std.proofs.Common.{◌≡◌, ℕ, ◌++◌, Bool, true, false, cond, List, [], ◌∷◌, map, Option, Some, None, Result, Ok, Err, refl, sym, ap, subst, ◌∙◌}
 use Rattle.std.specs.List.{AllByRecursion}
 use Rattle.gg_base.proofs.Facts.{ok_same}
-use Rattle.tree_core.specs.declared.program.TreeProgram.{TreeProgram}
-use Rattle.tree_meaning.specs.State.{Extent}
+use Rattle.vax_target_rules.specs.tree_core.specs.declared.program.TreeProgram.{TreeProgram}
+use Rattle.vax_target_rules.specs.tree_meaning.specs.State.{Extent}
 use Rattle.md_reader_pieces.specs.declared.piece.Line.{Line}
-use Rattle.md_reader.specs.declared.types.Kind.{Kind}
-use Rattle.md_reader.specs.declared.types.Kind.TheVariants as kind
-use Rattle.md_reader.specs.declared.types.Class.{Class}
-use Rattle.md_reader.specs.declared.types.Sym.{Sym}
-use Rattle.md_reader.specs.declared.types.Give.{Give}
-use Rattle.md_reader.specs.declared.types.Give.TheVariants as give
-use Rattle.md_reader.specs.declared.types.Rule.{Rule}
-use Rattle.md_reader.specs.Patterns.{kind_at}
-use Rattle.md_reader.specs.Restrictions.{is_nothing}
-use Rattle.md_reader.specs.Rows.{plain_fits, shape_fits}
-use Rattle.md_reader.specs.Valid.{MayGive}
+use Rattle.vax_target_rules.specs.md_reader.specs.declared.types.Kind.{Kind}
+use Rattle.vax_target_rules.specs.md_reader.specs.declared.types.Kind.TheVariants as kind
+use Rattle.vax_target_rules.specs.md_reader.specs.declared.types.Class.{Class}
+use Rattle.vax_target_rules.specs.md_reader.specs.declared.types.Sym.{Sym}
+use Rattle.vax_target_rules.specs.md_reader.specs.declared.types.Give.{Give}
+use Rattle.vax_target_rules.specs.md_reader.specs.declared.types.Give.TheVariants as give
+use Rattle.vax_target_rules.specs.md_reader.specs.declared.types.Rule.{Rule}
+use Rattle.vax_target_rules.specs.md_reader.specs.Patterns.{kind_at}
+use Rattle.vax_target_rules.specs.md_reader.specs.Restrictions.{is_nothing}
+use Rattle.vax_target_rules.specs.md_reader.specs.Rows.{plain_fits, shape_fits}
+use Rattle.vax_target_rules.specs.md_reader.specs.Valid.{MayGive}
 use Rattle.term_core.specs.Shape.{Shape}
-use Rattle.sel_terms.specs.Effects.{ActShape, EffectShape}
-use Rattle.sel_target.specs.sel_terms_meaning.specs.Meaning.{terms_of_act}
-use Rattle.sel_target.specs.declared.attr.Attr.{Attr}
-use Rattle.sel_target.specs.Courses.{traps}
-use Rattle.sel_target.specs.Values.{View, IsReadWhere, value}
-use Rattle.sel_target.specs.Instances.{IsResult, Instance}
+use Rattle.vax_target_rules.specs.sel_terms.specs.Effects.{ActShape, EffectShape}
+use Rattle.vax_target_rules.specs.sel_terms_meaning.specs.Meaning.{terms_of_act}
+use Rattle.vax_target_rules.specs.sel_target.specs.declared.attr.Attr.{Attr}
+use Rattle.vax_target_rules.specs.sel_target.specs.Courses.{traps}
+use Rattle.vax_target_rules.specs.sel_target.specs.Values.{View, IsReadWhere, value}
+use Rattle.vax_target_rules.specs.sel_target.specs.Instances.{IsResult, Instance}
 use Rattle.vax_core.specs.declared.operand.Operand.{Operand}
 use Rattle.vax_core.specs.declared.code.Instr.{Instr}
 use Rattle.vax_machine.specs.State.{State}
-use Rattle.vax_machine_lists.specs.Instructions.{Course, followed, exec}
-use Rattle.vax_templates.specs.declared.setting.Hole.{Hole}
-use Rattle.vax_templates.specs.declared.setting.Setting.{Setting}
-use Rattle.vax_templates.specs.Settings.{holes_of, setting_of}
-use Rattle.vax_templates.specs.Standing.{◌>>=◌}
-use Rattle.vax_templates.specs.Deeds.{Last, Plain, Compared, Tested, Returning, Ended}
-use Rattle.vax_templates.specs.Progress.{Progress, start, judged, lines_judged}
-use Rattle.vax_templates.specs.GiveLines.{last_deed, given_by}
+use Rattle.vax_target_rules.specs.vax_machine_lists.specs.Instructions.{Course, followed, exec}
+use Rattle.vax_target_rules.specs.vax_templates.specs.declared.setting.Hole.{Hole}
+use Rattle.vax_target_rules.specs.vax_templates.specs.declared.setting.Setting.{Setting}
+use Rattle.vax_target_rules.specs.vax_templates.specs.Settings.{holes_of, setting_of}
+use Rattle.vax_target_rules.specs.vax_templates.specs.Standing.{◌>>=◌}
+use Rattle.vax_target_rules.specs.vax_templates.specs.Deeds.{Last, Plain, Compared, Tested, Returning, Ended}
+use Rattle.vax_target_rules.specs.vax_templates.specs.Progress.{Progress, start, judged, lines_judged}
+use Rattle.vax_target_rules.specs.vax_templates.specs.GiveLines.{last_deed, given_by}
 use Rattle.vax_target_rules.specs.vax_target_meaning.specs.Running.{course_of, run}
 use Rattle.vax_target_rules.specs.vax_target_meaning.specs.Vax.{vax}
 use Rattle.vax_target_rules.specs.vax_target_operands.specs.Scenes.{Scene, Sees}

@@ -10,12 +10,12 @@ use Rattle.term_core.specs.declared.operator.BinaryOp.{BinaryOp}
 use Rattle.term_core.specs.Shape.{Shape, Constant, Symbol, LastResult, Memory, Unary, Binary}
 use Rattle.term_core.specs.Value.{State}
 use Rattle.term_core.specs.Value as term
-use Rattle.term_core_accesses.specs.Accesses.{is_division, divides_well}
-use Rattle.sel_terms.specs.Effects.{ActShape, StoreAt, StoreHome, Save, Push, Jump, Call, Branch}
-use Rattle.sel_terms.specs.Same.{same_size}
-use Rattle.sel_target.specs.declared.fault.TemplateKind.{TemplateKind}
-use Rattle.sel_target.specs.declared.fault.TemplateKind.TheVariants.{NotInstr}
-use Rattle.sel_target.specs.Values.{View, term_state, IsReadWhere}
+use Rattle.vax_target_rules.specs.term_core_accesses.specs.Accesses.{is_division, divides_well}
+use Rattle.vax_target_rules.specs.sel_terms.specs.Effects.{ActShape, StoreAt, StoreHome, Save, Push, Jump, Call, Branch}
+use Rattle.vax_target_rules.specs.sel_terms.specs.Same.{same_size}
+use Rattle.vax_target_rules.specs.sel_target.specs.declared.fault.TemplateKind.{TemplateKind}
+use Rattle.vax_target_rules.specs.sel_target.specs.declared.fault.TemplateKind.TheVariants.{NotInstr}
+use Rattle.vax_target_rules.specs.sel_target.specs.Values.{View, term_state, IsReadWhere}
 use Rattle.vax_core.specs.declared.op.Op.{Op}
 use Rattle.vax_core.specs.declared.op.Access.{Access}
 use Rattle.vax_core.specs.declared.op.Access.TheVariants as accesses
@@ -26,40 +26,40 @@ use Rattle.vax_machine.specs.declared.function.Function.TheVariants as functions
 use Rattle.vax_machine.specs.declared.function.Action.{Action}
 use Rattle.vax_machine.specs.declared.function.Action.TheVariants as action
 use Rattle.vax_machine.specs.Functions.{action_of}
-use Rattle.vax_templates.specs.declared.form.Number.{Number}
-use Rattle.vax_templates.specs.declared.form.Number.TheVariants as number
-use Rattle.vax_templates.specs.declared.form.Base.{Base}
-use Rattle.vax_templates.specs.declared.form.Base.TheVariants as base
-use Rattle.vax_templates.specs.declared.form.Form.{Form}
-use Rattle.vax_templates.specs.declared.setting.Hole.{Hole}
-use Rattle.vax_templates.specs.declared.setting.Hole.TheVariants as hole_kind
-use Rattle.vax_templates.specs.declared.setting.Own.{Own}
-use Rattle.vax_templates.specs.declared.setting.Own.TheVariants as own
-use Rattle.vax_templates.specs.declared.setting.Opening.{Opening}
-use Rattle.vax_templates.specs.declared.setting.Opening.TheVariants as opening
-use Rattle.vax_templates.specs.declared.setting.Setting.{Setting}
-use Rattle.vax_templates.specs.Settings.{hole_at}
-use Rattle.vax_templates.specs.Instructions.{Instruction, Relation, Jump as JumpLine, Calls as CallsLine, Ret, Operates, instruction_of}
-use Rattle.vax_templates.specs.Standing.{Where, Immediate, Register, OwnRegister, RegisterZero, Value, Place, Local}
-use Rattle.vax_templates.specs.Standing.{SavedPlace, Saved, At, where_own, where_hole, where_zero, through}
-use Rattle.vax_templates.specs.Standing.{where_deferred, at, sum, displaced, pointed, negated, itself, where_base}
-use Rattle.vax_templates.specs.Standing.{scaled, moved, where_indexed, form_where, ◌>>=◌}
-use Rattle.vax_templates.specs.HoleTerms.{constant_of, address_of, absolute_term, number_term, own_value, register_of}
-use Rattle.vax_templates.specs.HoleTerms.{register_term}
-use Rattle.vax_templates.specs.Targets.{Target, ToOwn, ToSlot, ToHome, ToMemory, ToZero, ToSaved, own_target}
-use Rattle.vax_templates.specs.Targets.{memory_target, zero_target, targeted}
-use Rattle.vax_templates.specs.Taking.{Taken, taken_term, taken_read, taken_missized, last_result}
-use Rattle.vax_templates.specs.Taking.{cut_term, fetched, pointer_read, addressed, written, both, taken, evaluated}
-use Rattle.vax_templates.specs.Taking.{Arguments, no_arguments, last_of, in_front, all_evaluated}
-use Rattle.vax_templates.specs.Giving.{Given, Computes, Divides, Compares, Tests, given, extended, truncated}
-use Rattle.vax_templates.specs.Deeds.{Plain, Compared, Tested, Returning, Ended, Deed, leaves}
-use Rattle.vax_templates.specs.Deeds.{is_relation, is_movl, is_last_result, puts, put, divided, computed}
-use Rattle.vax_templates.specs.Deeds.{acted}
-use Rattle.vax_templates.specs.Judging.{is_disordered, with_reads, checked, operated, instruction_did}
-use Rattle.vax_templates.specs.Judging.{did_behind, line_did}
-use Rattle.vax_templates.specs.Deeds as deeds
-use Rattle.vax_templates.specs.Judging as judging
-use Rattle.vax_templates.proofs.Judgements.{statement_of, in_order_is}
+use Rattle.vax_target_rules.specs.vax_templates.specs.declared.form.Number.{Number}
+use Rattle.vax_target_rules.specs.vax_templates.specs.declared.form.Number.TheVariants as number
+use Rattle.vax_target_rules.specs.vax_templates.specs.declared.form.Base.{Base}
+use Rattle.vax_target_rules.specs.vax_templates.specs.declared.form.Base.TheVariants as base
+use Rattle.vax_target_rules.specs.vax_templates.specs.declared.form.Form.{Form}
+use Rattle.vax_target_rules.specs.vax_templates.specs.declared.setting.Hole.{Hole}
+use Rattle.vax_target_rules.specs.vax_templates.specs.declared.setting.Hole.TheVariants as hole_kind
+use Rattle.vax_target_rules.specs.vax_templates.specs.declared.setting.Own.{Own}
+use Rattle.vax_target_rules.specs.vax_templates.specs.declared.setting.Own.TheVariants as own
+use Rattle.vax_target_rules.specs.vax_templates.specs.declared.setting.Opening.{Opening}
+use Rattle.vax_target_rules.specs.vax_templates.specs.declared.setting.Opening.TheVariants as opening
+use Rattle.vax_target_rules.specs.vax_templates.specs.declared.setting.Setting.{Setting}
+use Rattle.vax_target_rules.specs.vax_templates.specs.Settings.{hole_at}
+use Rattle.vax_target_rules.specs.vax_templates.specs.Instructions.{Instruction, Relation, Jump as JumpLine, Calls as CallsLine, Ret, Operates, instruction_of}
+use Rattle.vax_target_rules.specs.vax_templates.specs.Standing.{Where, Immediate, Register, OwnRegister, RegisterZero, Value, Place, Local}
+use Rattle.vax_target_rules.specs.vax_templates.specs.Standing.{SavedPlace, Saved, At, where_own, where_hole, where_zero, through}
+use Rattle.vax_target_rules.specs.vax_templates.specs.Standing.{where_deferred, at, sum, displaced, pointed, negated, itself, where_base}
+use Rattle.vax_target_rules.specs.vax_templates.specs.Standing.{scaled, moved, where_indexed, form_where, ◌>>=◌}
+use Rattle.vax_target_rules.specs.vax_templates.specs.HoleTerms.{constant_of, address_of, absolute_term, number_term, own_value, register_of}
+use Rattle.vax_target_rules.specs.vax_templates.specs.HoleTerms.{register_term}
+use Rattle.vax_target_rules.specs.vax_templates.specs.Targets.{Target, ToOwn, ToSlot, ToHome, ToMemory, ToZero, ToSaved, own_target}
+use Rattle.vax_target_rules.specs.vax_templates.specs.Targets.{memory_target, zero_target, targeted}
+use Rattle.vax_target_rules.specs.vax_templates.specs.Taking.{Taken, taken_term, taken_read, taken_missized, last_result}
+use Rattle.vax_target_rules.specs.vax_templates.specs.Taking.{cut_term, fetched, pointer_read, addressed, written, both, taken, evaluated}
+use Rattle.vax_target_rules.specs.vax_templates.specs.Taking.{Arguments, no_arguments, last_of, in_front, all_evaluated}
+use Rattle.vax_target_rules.specs.vax_templates.specs.Giving.{Given, Computes, Divides, Compares, Tests, given, extended, truncated}
+use Rattle.vax_target_rules.specs.vax_templates.specs.Deeds.{Plain, Compared, Tested, Returning, Ended, Deed, leaves}
+use Rattle.vax_target_rules.specs.vax_templates.specs.Deeds.{is_relation, is_movl, is_last_result, puts, put, divided, computed}
+use Rattle.vax_target_rules.specs.vax_templates.specs.Deeds.{acted}
+use Rattle.vax_target_rules.specs.vax_templates.specs.Judging.{is_disordered, with_reads, checked, operated, instruction_did}
+use Rattle.vax_target_rules.specs.vax_templates.specs.Judging.{did_behind, line_did}
+use Rattle.vax_target_rules.specs.vax_templates.specs.Deeds as deeds
+use Rattle.vax_target_rules.specs.vax_templates.specs.Judging as judging
+use Rattle.vax_target_rules.specs.vax_templates.proofs.Judgements.{statement_of, in_order_is}
 use Rattle.vax_target_rules.specs.vax_target_operands.proofs.Binds.{chained, cond_ok}
 use Rattle.vax_target_rules.specs.vax_target_lines.specs.Lines.{terms_of_last}
 

@@ -1,15 +1,15 @@
 -- The law of this crate: where a divisor is zero, the lines of a rule trap.
 use Rattle.std.specs.Prelude.{◌≡◌, ℕ, List, [], ◌∷◌, false}
-use Rattle.tree_core.specs.declared.program.TreeProgram.{TreeProgram}
-use Rattle.tree_meaning.specs.State.{Extent}
-use Rattle.md_reader.specs.declared.types.Class.{Class}
-use Rattle.md_reader.specs.declared.types.Rule.{Rule}
+use Rattle.vax_target_rules.specs.tree_core.specs.declared.program.TreeProgram.{TreeProgram}
+use Rattle.vax_target_rules.specs.tree_meaning.specs.State.{Extent}
+use Rattle.vax_target_rules.specs.md_reader.specs.declared.types.Class.{Class}
+use Rattle.vax_target_rules.specs.md_reader.specs.declared.types.Rule.{Rule}
 use Rattle.term_core.specs.Shape.{Shape}
-use Rattle.sel_terms.specs.Effects.{EffectShape}
-use Rattle.sel_target.specs.declared.attr.Attr.{Attr}
-use Rattle.sel_target.specs.Courses.{traps}
-use Rattle.sel_target.specs.Values.{View, value}
-use Rattle.sel_target.specs.Instances.{IsResult, lines_of, Instance}
+use Rattle.vax_target_rules.specs.sel_terms.specs.Effects.{EffectShape}
+use Rattle.vax_target_rules.specs.sel_target.specs.declared.attr.Attr.{Attr}
+use Rattle.vax_target_rules.specs.sel_target.specs.Courses.{traps}
+use Rattle.vax_target_rules.specs.sel_target.specs.Values.{View, value}
+use Rattle.vax_target_rules.specs.sel_target.specs.Instances.{IsResult, lines_of, Instance}
 use Rattle.vax_core.specs.declared.operand.Operand.{Operand}
 use Rattle.vax_machine.specs.State.{State}
 use Rattle.vax_target_rules.specs.vax_target_meaning.specs.Vax.{vax}

@@ -1,3 +1,3 @@
 pub mod Laws
 pub use Rattle.vax_target_rules
-pub use Rattle.sel_target
+pub use Rattle.vax_target_rules.specs.sel_target as sel_target

@@ -2,7 +2,7 @@
 use Rattle.std.proofs.Common.{◌≡◌, Bool, true, false, cond, Option, Some, None, Result, Ok, Err, List, [], ◌∷◌, map, refl, subst, option_map}
 use Rattle.std.specs.Option.{option_and_then, option_map_or}
 use Rattle.std.specs.List.{AllByRecursion}
-use Rattle.vax_templates.specs.Standing.{◌>>=◌}
+use Rattle.vax_target_meaning.specs.vax_templates.specs.Standing.{◌>>=◌}
 
 -- of what is found
 abbrev pub Each : {A : Type 0} → (A → Type 0) → Option A → Type 0

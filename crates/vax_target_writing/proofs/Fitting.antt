@@ -14,17 +14,17 @@ use Rattle.tree_core.specs.declared.tree.Att.TheVariants as att
 use Rattle.tree_core.specs.declared.program.Object.{Object}
 use Rattle.tree_core.specs.declared.program.TreeProgram.{TreeProgram}
 use Rattle.tree_core.specs.Attributes.{attribute_of, is_of_kind}
-use Rattle.md_reader.specs.declared.types.Kind.{Kind}
-use Rattle.md_reader.specs.declared.types.Kind.TheVariants as kind
-use Rattle.md_reader.specs.declared.types.Class.{Class}
-use Rattle.md_reader.specs.declared.types.Sym.{Sym}
-use Rattle.md_reader.specs.declared.types.Sym.TheVariants as grammar_symbol
-use Rattle.md_reader.specs.declared.types.Give.{Give}
-use Rattle.md_reader.specs.declared.types.Give.TheVariants as give
-use Rattle.md_reader.specs.Patterns.{kind_at}
-use Rattle.vax_templates.specs.sel_target.specs.declared.attr.Attr.{Attr}
-use Rattle.vax_templates.specs.sel_target.specs.declared.attr.Attr.TheVariants as attr
-use Rattle.vax_templates.specs.sel_target.specs.Instances.{InFrame, KindFits, SymFits, Fit, IsResult}
+use Rattle.vax_target_meaning.specs.md_reader.specs.declared.types.Kind.{Kind}
+use Rattle.vax_target_meaning.specs.md_reader.specs.declared.types.Kind.TheVariants as kind
+use Rattle.vax_target_meaning.specs.md_reader.specs.declared.types.Class.{Class}
+use Rattle.vax_target_meaning.specs.md_reader.specs.declared.types.Sym.{Sym}
+use Rattle.vax_target_meaning.specs.md_reader.specs.declared.types.Sym.TheVariants as grammar_symbol
+use Rattle.vax_target_meaning.specs.md_reader.specs.declared.types.Give.{Give}
+use Rattle.vax_target_meaning.specs.md_reader.specs.declared.types.Give.TheVariants as give
+use Rattle.vax_target_meaning.specs.md_reader.specs.Patterns.{kind_at}
+use Rattle.vax_target_meaning.specs.sel_target.specs.declared.attr.Attr.{Attr}
+use Rattle.vax_target_meaning.specs.sel_target.specs.declared.attr.Attr.TheVariants as attr
+use Rattle.vax_target_meaning.specs.sel_target.specs.Instances.{InFrame, KindFits, SymFits, Fit, IsResult}
 use Rattle.vax_core.specs.declared.register.Reg.{Reg}
 use Rattle.vax_core.specs.declared.operand.Base.{Base}
 use Rattle.vax_core.specs.declared.operand.Base.TheVariants as bases
@@ -32,12 +32,12 @@ use Rattle.vax_core.specs.declared.operand.Operand.{Operand}
 use Rattle.vax_core.specs.Homes.{home, at_home, argument_home}
 use Rattle.vax_core.specs.Valid.{is_name, is_long, is_named_addr, is_base, is_index, is_memory}
 use Rattle.vax_core.proofs.ValidLaws.{named_is_addr}
-use Rattle.vax_templates.specs.Settings.{hole_of_token, hole_of_kind, hole_of, holes_of, own_of}
-use Rattle.vax_templates.specs.Filled.{spare, label_of, addr_of_att, word_operand, slot_operand, slot_deferred}
-use Rattle.vax_templates.specs.Filled.{operand_in}
+use Rattle.vax_target_meaning.specs.vax_templates.specs.Settings.{hole_of_token, hole_of_kind, hole_of, holes_of, own_of}
+use Rattle.vax_target_meaning.specs.vax_templates.specs.Filled.{spare, label_of, addr_of_att, word_operand, slot_operand, slot_deferred}
+use Rattle.vax_target_meaning.specs.vax_templates.specs.Filled.{operand_in}
 use Rattle.vax_target_meaning.specs.Fitting.{steps, is_place, fits, CanWrite}
 use Rattle.vax_target_meaning.specs.Vax.{vax}
-use Rattle.vax_templates.specs.sel_target.specs.Spelled.{IsSpelled, TokenIsSpelled, AreSpelled}
+use Rattle.vax_target_meaning.specs.sel_target.specs.Spelled.{IsSpelled, TokenIsSpelled, AreSpelled}
 use Rattle.vax_target_writing.proofs.Operands.{IsMemory, IsPlain, IsNumber, IsObject, IsLocal, Spells, AllSpell, OwnSpells}
 
 -- ---- tests
@@ -67,7 +67,7 @@ argument_memory k e = subst (λ b. IsMemory (cond b (argument_home k) spare)) (s
 
 argument_deferred : (k : ℕ) → nat_le k 255 ≡ true → IsPlain (slot_deferred tok.Arg k)
 argument_deferred k e =
-    subst (λ b. IsPlain (cond b (Rattle.vax_templates.specs.Filled.argument_deferred k) spare)) (sym e)
+    subst (λ b. IsPlain (cond b (Rattle.vax_target_meaning.specs.vax_templates.specs.Filled.argument_deferred k) spare)) (sym e)
     (record { memory = record { memory = refl; base = few_long k (leb-true k 255 e) }; bare = refl })
 
 -- ---- operands that fit

@@ -5,32 +5,32 @@ use Rattle.std.proofs.lemmas.Bool.{and_from}
 use Rattle.gg_base.specs.declared.size.Size.{Size}
 use Rattle.gg_base.specs.declared.size.Size.TheVariants.{Byte, Long}
 use Rattle.tree_core.specs.declared.program.TreeProgram.{TreeProgram}
-use Rattle.md_reader_pieces.specs.declared.piece.Line.{Line}
-use Rattle.md_reader.specs.declared.types.Kind.{Kind}
-use Rattle.md_reader.specs.declared.types.Kind.TheVariants as kind
-use Rattle.md_reader.specs.declared.types.Give.TheVariants as give
-use Rattle.vax_templates.specs.sel_terms.specs.Effects.{ActShape, EffectShape}
-use Rattle.vax_templates.specs.sel_target.specs.declared.attr.Attr.{Attr}
-use Rattle.vax_templates.specs.sel_target.specs.declared.attr.Attr.TheVariants as attr
-use Rattle.vax_templates.specs.sel_target.specs.declared.fault.TemplateKind.{TemplateKind}
-use Rattle.vax_templates.specs.sel_target.specs.Meaning.{Fault}
-use Rattle.vax_templates.specs.sel_target.specs.Instances.{IsResult}
+use Rattle.vax_target_meaning.specs.md_reader_pieces.specs.declared.piece.Line.{Line}
+use Rattle.vax_target_meaning.specs.md_reader.specs.declared.types.Kind.{Kind}
+use Rattle.vax_target_meaning.specs.md_reader.specs.declared.types.Kind.TheVariants as kind
+use Rattle.vax_target_meaning.specs.md_reader.specs.declared.types.Give.TheVariants as give
+use Rattle.vax_target_meaning.specs.sel_terms.specs.Effects.{ActShape, EffectShape}
+use Rattle.vax_target_meaning.specs.sel_target.specs.declared.attr.Attr.{Attr}
+use Rattle.vax_target_meaning.specs.sel_target.specs.declared.attr.Attr.TheVariants as attr
+use Rattle.vax_target_meaning.specs.sel_target.specs.declared.fault.TemplateKind.{TemplateKind}
+use Rattle.vax_target_meaning.specs.sel_target.specs.Meaning.{Fault}
+use Rattle.vax_target_meaning.specs.sel_target.specs.Instances.{IsResult}
 use Rattle.vax_core.specs.declared.operand.Operand.{Operand}
-use Rattle.vax_templates.specs.declared.form.Base.{Base as FormBase}
-use Rattle.vax_templates.specs.declared.form.Form.{Form}
-use Rattle.vax_templates.specs.declared.setting.Hole.{Hole}
-use Rattle.vax_templates.specs.declared.setting.Setting.{Setting}
-use Rattle.vax_templates.specs.Settings.{holes_of, setting_of}
-use Rattle.vax_templates.specs.Instructions.{shape_of_pieces}
-use Rattle.vax_templates.specs.Standing.{Where, Immediate, Register, OwnRegister, RegisterZero, Value, Place, Local}
-use Rattle.vax_templates.specs.Standing.{SavedPlace, Saved, At, where_base, where_indexed, form_where, ◌>>=◌}
-use Rattle.vax_templates.specs.Taking.{fetched}
-use Rattle.vax_templates.specs.Progress.{Progress, start, at_line, lines_judged}
-use Rattle.vax_templates.specs.GiveLines.{given_line, register_given, base_number, address_given, value_given}
-use Rattle.vax_templates.specs.GiveLines.{home_given, place_given, without_index, shape_given, shape_read}
-use Rattle.vax_templates.specs.GiveLines.{given_shape}
-use Rattle.vax_templates.specs.Found.{ended, template_found, checked, with_divisors, found}
-use Rattle.vax_templates.specs.Filled.{filled_base, filled, filled_or_spare, filled_operand}
+use Rattle.vax_target_meaning.specs.vax_templates.specs.declared.form.Base.{Base as FormBase}
+use Rattle.vax_target_meaning.specs.vax_templates.specs.declared.form.Form.{Form}
+use Rattle.vax_target_meaning.specs.vax_templates.specs.declared.setting.Hole.{Hole}
+use Rattle.vax_target_meaning.specs.vax_templates.specs.declared.setting.Setting.{Setting}
+use Rattle.vax_target_meaning.specs.vax_templates.specs.Settings.{holes_of, setting_of}
+use Rattle.vax_target_meaning.specs.vax_templates.specs.Instructions.{shape_of_pieces}
+use Rattle.vax_target_meaning.specs.vax_templates.specs.Standing.{Where, Immediate, Register, OwnRegister, RegisterZero, Value, Place, Local}
+use Rattle.vax_target_meaning.specs.vax_templates.specs.Standing.{SavedPlace, Saved, At, where_base, where_indexed, form_where, ◌>>=◌}
+use Rattle.vax_target_meaning.specs.vax_templates.specs.Taking.{fetched}
+use Rattle.vax_target_meaning.specs.vax_templates.specs.Progress.{Progress, start, at_line, lines_judged}
+use Rattle.vax_target_meaning.specs.vax_templates.specs.GiveLines.{given_line, register_given, base_number, address_given, value_given}
+use Rattle.vax_target_meaning.specs.vax_templates.specs.GiveLines.{home_given, place_given, without_index, shape_given, shape_read}
+use Rattle.vax_target_meaning.specs.vax_templates.specs.GiveLines.{given_shape}
+use Rattle.vax_target_meaning.specs.vax_templates.specs.Found.{ended, template_found, checked, with_divisors, found}
+use Rattle.vax_target_meaning.specs.vax_templates.specs.Filled.{filled_base, filled, filled_or_spare, filled_operand}
 use Rattle.vax_target_meaning.specs.Fitting.{is_place, fits}
 use Rattle.vax_target_meaning.specs.Vax.{vax}
 use Rattle.vax_target_writing.specs.Laws.{ShapesFit}

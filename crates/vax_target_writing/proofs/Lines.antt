@@ -4,26 +4,26 @@ use Rattle.std.specs.Prelude.{codes}
 use Rattle.std.specs.Option.{option_and_then}
 use Rattle.std.specs.List.{AllByRecursion, list_any}
 use Rattle.std.proofs.lemmas.Bool.{or_right}
-use Rattle.md_reader.proofs.Inversion.{All-push}
-use Rattle.md_reader_text.specs.Words.{same}
-use Rattle.md_reader_pieces.specs.declared.piece.Piece.{Piece}
-use Rattle.md_reader_pieces.specs.declared.piece.Piece.TheVariants as piece
+use Rattle.vax_target_meaning.specs.md_reader.proofs.Inversion.{All-push}
+use Rattle.vax_target_meaning.specs.md_reader_text.specs.Words.{same}
+use Rattle.vax_target_meaning.specs.md_reader_pieces.specs.declared.piece.Piece.{Piece}
+use Rattle.vax_target_meaning.specs.md_reader_pieces.specs.declared.piece.Piece.TheVariants as piece
 use Rattle.vax_core.specs.declared.op.Op.{Op}
 use Rattle.vax_core.specs.declared.op.OperandKind.{OperandKind}
 use Rattle.vax_core.specs.Ops.{shape}
 use Rattle.vax_core.specs.Mnemonics.{op_of}
-use Rattle.vax_machine.specs.declared.function.Action.{Action}
-use Rattle.vax_machine.specs.declared.function.Action.TheVariants.{Compute, Push, Branch, Call, Return}
-use Rattle.vax_machine.specs.declared.function.Test.{Test}
-use Rattle.vax_machine.specs.declared.function.Test.TheVariants as test
-use Rattle.vax_machine.specs.Functions.{action_of}
-use Rattle.vax_templates.specs.declared.form.Mark.{Mark}
-use Rattle.vax_templates.specs.declared.form.Mark.TheVariants as mark
-use Rattle.vax_templates.specs.declared.form.Form.{Form}
-use Rattle.vax_templates.specs.Marks.{marks_of, is_byte, strip, hole_front}
-use Rattle.vax_templates.specs.Forms.{form_front}
-use Rattle.vax_templates.specs.Instructions.{Instruction, Relation, Jump, Calls, Ret, Operates, forms_from, is_label, is_call, behind_blank, only, is_empty, jumps, operates}
-use Rattle.vax_templates.specs.Instructions.{behind, relation_behind, relation, with_op, word_len, word_of, marks_behind, instruction_of, whole, shape_of_pieces}
+use Rattle.vax_target_meaning.specs.vax_machine.specs.declared.function.Action.{Action}
+use Rattle.vax_target_meaning.specs.vax_machine.specs.declared.function.Action.TheVariants.{Compute, Push, Branch, Call, Return}
+use Rattle.vax_target_meaning.specs.vax_machine.specs.declared.function.Test.{Test}
+use Rattle.vax_target_meaning.specs.vax_machine.specs.declared.function.Test.TheVariants as test
+use Rattle.vax_target_meaning.specs.vax_machine.specs.Functions.{action_of}
+use Rattle.vax_target_meaning.specs.vax_templates.specs.declared.form.Mark.{Mark}
+use Rattle.vax_target_meaning.specs.vax_templates.specs.declared.form.Mark.TheVariants as mark
+use Rattle.vax_target_meaning.specs.vax_templates.specs.declared.form.Form.{Form}
+use Rattle.vax_target_meaning.specs.vax_templates.specs.Marks.{marks_of, is_byte, strip, hole_front}
+use Rattle.vax_target_meaning.specs.vax_templates.specs.Forms.{form_front}
+use Rattle.vax_target_meaning.specs.vax_templates.specs.Instructions.{Instruction, Relation, Jump, Calls, Ret, Operates, forms_from, is_label, is_call, behind_blank, only, is_empty, jumps, operates}
+use Rattle.vax_target_meaning.specs.vax_templates.specs.Instructions.{behind, relation_behind, relation, with_op, word_len, word_of, marks_behind, instruction_of, whole, shape_of_pieces}
 use Rattle.vax_target_writing.proofs.Each.{Each, map_or_each, and_then_each, map_each, always, if_each}
 use Rattle.vax_target_writing.proofs.Longs.{IsLongForm, IsLongFront, form_long}
 

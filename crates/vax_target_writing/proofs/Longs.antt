@@ -3,15 +3,15 @@ use Rattle.std.proofs.Common.{◌≡◌, ℕ, ◌-◌, ◌^◌, ◌<◌, Bool, t
 use Rattle.std.specs.Prelude.{nat_le}
 use Rattle.std.specs.Option.{option_and_then}
 use Rattle.std.proofs.lemmas.Bool.Decides.{nat_tests}
-use Rattle.vax_templates.specs.declared.form.Mark.{Mark}
-use Rattle.vax_templates.specs.declared.form.Number.{Number}
-use Rattle.vax_templates.specs.declared.form.Number.TheVariants as number
-use Rattle.vax_templates.specs.declared.form.Base.{Base}
-use Rattle.vax_templates.specs.declared.form.Base.TheVariants as base
-use Rattle.vax_templates.specs.declared.form.Form.{Form}
-use Rattle.vax_templates.specs.Marks.{strip, hole_front, number_front, positive, negative, below_zero, signed_front, at_front}
-use Rattle.vax_templates.specs.Forms.{number_spelled, near, far, deferred_front, immediate_front, negative_hole, named_front, base_front, index_front, indexed, form_front}
-use Rattle.vax_templates.specs.Forms.{of_symbol, itself, of_number, of_hole, alone, register_zero, with_index}
+use Rattle.vax_target_meaning.specs.vax_templates.specs.declared.form.Mark.{Mark}
+use Rattle.vax_target_meaning.specs.vax_templates.specs.declared.form.Number.{Number}
+use Rattle.vax_target_meaning.specs.vax_templates.specs.declared.form.Number.TheVariants as number
+use Rattle.vax_target_meaning.specs.vax_templates.specs.declared.form.Base.{Base}
+use Rattle.vax_target_meaning.specs.vax_templates.specs.declared.form.Base.TheVariants as base
+use Rattle.vax_target_meaning.specs.vax_templates.specs.declared.form.Form.{Form}
+use Rattle.vax_target_meaning.specs.vax_templates.specs.Marks.{strip, hole_front, number_front, positive, negative, below_zero, signed_front, at_front}
+use Rattle.vax_target_meaning.specs.vax_templates.specs.Forms.{number_spelled, near, far, deferred_front, immediate_front, negative_hole, named_front, base_front, index_front, indexed, form_front}
+use Rattle.vax_target_meaning.specs.vax_templates.specs.Forms.{of_symbol, itself, of_number, of_hole, alone, register_zero, with_index}
 use Rattle.vax_target_writing.proofs.Each.{Each, map_or_each, and_then_each, map_each, always, if_each}
 
 abbrev pub IsLongNumber : Number → Type 0

@@ -23,26 +23,26 @@ use Rattle.tree_core.specs.declared.program.TreeFn.{TreeFn}
 use Rattle.tree_core.specs.declared.program.TreeProgram.{TreeProgram}
 use Rattle.tree_core.specs.Attributes.{attribute_of, is_of_kind}
 use Rattle.tree_core.specs.Names.{label_name, function_label}
-use Rattle.md_reader_pieces.specs.declared.piece.Piece.{Piece}
-use Rattle.md_reader_pieces.specs.declared.piece.Piece.TheVariants as piece
-use Rattle.md_reader_pieces.specs.declared.piece.Line.{Line}
-use Rattle.md_reader.specs.declared.types.Class.{Class}
-use Rattle.md_reader.specs.declared.types.Sym.{Sym}
-use Rattle.md_reader.specs.declared.types.Sym.TheVariants as grammar_symbol
-use Rattle.md_reader.specs.Patterns.{kind_at}
-use Rattle.md_reader.specs.Restrictions.{is_branch, is_jump, is_call}
-use Rattle.md_reader.specs.Rows.{any_symbol, behind_j, hole_behind, relation_fits, piece_fits, pieces_fit, line_fits}
-use Rattle.md_reader.specs.Valid.{MayWrite}
-use Rattle.vax_templates.specs.sel_target.specs.declared.attr.Attr.{Attr}
-use Rattle.vax_templates.specs.sel_target.specs.declared.attr.Attr.TheVariants as attr
-use Rattle.vax_templates.specs.sel_target.specs.Instances.{SymFits, Fit}
+use Rattle.vax_target_meaning.specs.md_reader_pieces.specs.declared.piece.Piece.{Piece}
+use Rattle.vax_target_meaning.specs.md_reader_pieces.specs.declared.piece.Piece.TheVariants as piece
+use Rattle.vax_target_meaning.specs.md_reader_pieces.specs.declared.piece.Line.{Line}
+use Rattle.vax_target_meaning.specs.md_reader.specs.declared.types.Class.{Class}
+use Rattle.vax_target_meaning.specs.md_reader.specs.declared.types.Sym.{Sym}
+use Rattle.vax_target_meaning.specs.md_reader.specs.declared.types.Sym.TheVariants as grammar_symbol
+use Rattle.vax_target_meaning.specs.md_reader.specs.Patterns.{kind_at}
+use Rattle.vax_target_meaning.specs.md_reader.specs.Restrictions.{is_branch, is_jump, is_call}
+use Rattle.vax_target_meaning.specs.md_reader.specs.Rows.{any_symbol, behind_j, hole_behind, relation_fits, piece_fits, pieces_fit, line_fits}
+use Rattle.vax_target_meaning.specs.md_reader.specs.Valid.{MayWrite}
+use Rattle.vax_target_meaning.specs.sel_target.specs.declared.attr.Attr.{Attr}
+use Rattle.vax_target_meaning.specs.sel_target.specs.declared.attr.Attr.TheVariants as attr
+use Rattle.vax_target_meaning.specs.sel_target.specs.Instances.{SymFits, Fit}
 use Rattle.vax_core.specs.declared.operand.Operand.{Operand}
 use Rattle.vax_core.specs.Valid.{is_name}
-use Rattle.vax_templates.specs.FilledLines.{label_in, label_of_att, label_among, callee_in, callee_of_att, callee_among, function_name}
+use Rattle.vax_target_meaning.specs.vax_templates.specs.FilledLines.{label_in, label_of_att, label_among, callee_in, callee_of_att, callee_among, function_name}
 use Rattle.vax_target_meaning.specs.Fitting.{CanWrite}
 use Rattle.vax_target_meaning.specs.Vax.{vax}
-use Rattle.vax_templates.specs.sel_target.specs.Spelled.{IsSpelled, TokenIsSpelled, AreSpelled}
-use Rattle.vax_templates.specs.sel_target.proofs.Facts.{no_token}
+use Rattle.vax_target_meaning.specs.sel_target.specs.Spelled.{IsSpelled, TokenIsSpelled, AreSpelled}
+use Rattle.vax_target_meaning.specs.sel_target.proofs.Facts.{no_token}
 use Rattle.vax_target_writing.proofs.Lines.{is_label_piece, is_count_piece}
 use Rattle.vax_target_writing.proofs.Written.{CanGo, CanCall, Names}
 

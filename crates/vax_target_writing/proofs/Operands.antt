@@ -8,10 +8,10 @@ use Rattle.gg_base.specs.declared.size.Size.{Size}
 use Rattle.gg_base.specs.Arithmetic.{neg32}
 use Rattle.gg_base.proofs.Words.{neg_small}
 use Rattle.tree_core.specs.declared.program.TreeProgram.{TreeProgram}
-use Rattle.vax_templates.specs.sel_target.specs.declared.attr.Attr.{Attr}
-use Rattle.vax_templates.specs.sel_target.specs.declared.fault.TemplateKind.{TemplateKind}
-use Rattle.vax_templates.specs.sel_target.specs.declared.fault.TemplateKind.TheVariants.{NotInstr}
-use Rattle.term_core.specs.Shape.{Shape}
+use Rattle.vax_target_meaning.specs.sel_target.specs.declared.attr.Attr.{Attr}
+use Rattle.vax_target_meaning.specs.sel_target.specs.declared.fault.TemplateKind.{TemplateKind}
+use Rattle.vax_target_meaning.specs.sel_target.specs.declared.fault.TemplateKind.TheVariants.{NotInstr}
+use Rattle.vax_target_meaning.specs.term_core.specs.Shape.{Shape}
 use Rattle.vax_core.specs.declared.operand.Addr.{Addr}
 use Rattle.vax_core.specs.declared.operand.Base.{Base}
 use Rattle.vax_core.specs.declared.operand.Base.TheVariants as bases
@@ -22,28 +22,28 @@ use Rattle.vax_core.specs.declared.op.Access.{Access}
 use Rattle.vax_core.specs.declared.op.Access.TheVariants as accesses
 use Rattle.vax_core.specs.declared.op.OperandKind.{OperandKind}
 use Rattle.vax_core.specs.Valid.{is_long, is_addr, is_base, is_place, is_memory, is_index, allows, is_operand, are_operands}
-use Rattle.vax_templates.specs.declared.form.Number.{Number}
-use Rattle.vax_templates.specs.declared.form.Number.TheVariants as number
-use Rattle.vax_templates.specs.declared.form.Base.TheVariants as base
-use Rattle.vax_templates.specs.declared.form.Base.{Base as FormBase}
-use Rattle.vax_templates.specs.declared.form.Form.{Form}
-use Rattle.vax_templates.specs.declared.setting.Hole.{Hole}
-use Rattle.vax_templates.specs.declared.setting.Hole.TheVariants as hole_kind
-use Rattle.vax_templates.specs.declared.setting.Own.{Own}
-use Rattle.vax_templates.specs.declared.setting.Own.TheVariants as own
-use Rattle.vax_templates.specs.declared.setting.Opening.{Opening}
-use Rattle.vax_templates.specs.declared.setting.Opening.TheVariants as opening
-use Rattle.vax_templates.specs.declared.setting.Setting.{Setting}
-use Rattle.vax_templates.specs.Settings.{hole_or_other, hole_at}
-use Rattle.vax_templates.specs.Standing.{Where, Immediate, Register, OwnRegister, RegisterZero, Value, Place, Local}
-use Rattle.vax_templates.specs.Standing.{SavedPlace, Saved, At, where_own, where_hole, where_zero, where_deferred, at}
-use Rattle.vax_templates.specs.Standing.{displaced, pointed, negated, itself, where_base, moved, where_indexed}
-use Rattle.vax_templates.specs.Standing.{form_where, ◌>>=◌}
-use Rattle.vax_templates.specs.HoleTerms.{constant_of, address_of, absolute_term, number_term, register_term}
-use Rattle.vax_templates.specs.Taking.{Taken, Arguments, fetched, addressed, written, both, taken, evaluated}
-use Rattle.vax_templates.specs.Taking.{all_evaluated, in_front}
-use Rattle.vax_templates.specs.Targets.{Target, own_target, statement_target, memory_target, zero_target, targeted}
-use Rattle.vax_templates.specs.Filled.{attr_at, register_in, addr_number, addr_in, number_addr, operand_in, deferred_in, filled_base, with_index, filled}
+use Rattle.vax_target_meaning.specs.vax_templates.specs.declared.form.Number.{Number}
+use Rattle.vax_target_meaning.specs.vax_templates.specs.declared.form.Number.TheVariants as number
+use Rattle.vax_target_meaning.specs.vax_templates.specs.declared.form.Base.TheVariants as base
+use Rattle.vax_target_meaning.specs.vax_templates.specs.declared.form.Base.{Base as FormBase}
+use Rattle.vax_target_meaning.specs.vax_templates.specs.declared.form.Form.{Form}
+use Rattle.vax_target_meaning.specs.vax_templates.specs.declared.setting.Hole.{Hole}
+use Rattle.vax_target_meaning.specs.vax_templates.specs.declared.setting.Hole.TheVariants as hole_kind
+use Rattle.vax_target_meaning.specs.vax_templates.specs.declared.setting.Own.{Own}
+use Rattle.vax_target_meaning.specs.vax_templates.specs.declared.setting.Own.TheVariants as own
+use Rattle.vax_target_meaning.specs.vax_templates.specs.declared.setting.Opening.{Opening}
+use Rattle.vax_target_meaning.specs.vax_templates.specs.declared.setting.Opening.TheVariants as opening
+use Rattle.vax_target_meaning.specs.vax_templates.specs.declared.setting.Setting.{Setting}
+use Rattle.vax_target_meaning.specs.vax_templates.specs.Settings.{hole_or_other, hole_at}
+use Rattle.vax_target_meaning.specs.vax_templates.specs.Standing.{Where, Immediate, Register, OwnRegister, RegisterZero, Value, Place, Local}
+use Rattle.vax_target_meaning.specs.vax_templates.specs.Standing.{SavedPlace, Saved, At, where_own, where_hole, where_zero, where_deferred, at}
+use Rattle.vax_target_meaning.specs.vax_templates.specs.Standing.{displaced, pointed, negated, itself, where_base, moved, where_indexed}
+use Rattle.vax_target_meaning.specs.vax_templates.specs.Standing.{form_where, ◌>>=◌}
+use Rattle.vax_target_meaning.specs.vax_templates.specs.HoleTerms.{constant_of, address_of, absolute_term, number_term, register_term}
+use Rattle.vax_target_meaning.specs.vax_templates.specs.Taking.{Taken, Arguments, fetched, addressed, written, both, taken, evaluated}
+use Rattle.vax_target_meaning.specs.vax_templates.specs.Taking.{all_evaluated, in_front}
+use Rattle.vax_target_meaning.specs.vax_templates.specs.Targets.{Target, own_target, statement_target, memory_target, zero_target, targeted}
+use Rattle.vax_target_meaning.specs.vax_templates.specs.Filled.{attr_at, register_in, addr_number, addr_in, number_addr, operand_in, deferred_in, filled_base, with_index, filled}
 use Rattle.vax_target_meaning.specs.Fitting.{steps, is_steady}
 use Rattle.vax_target_writing.proofs.Each.{EachOk, bind_each, always_ok, still_ok, if_ok}
 use Rattle.vax_target_writing.proofs.Longs.{IsLongNumber, IsLongBase, IsLongForm}

@@ -2,20 +2,20 @@
 use Rattle.std.proofs.Common.{◌≡◌, [], ◌∷◌, Some, None, Ok, refl}
 use Rattle.gg_base.specs.declared.size.Size.{Size}
 use Rattle.tree_core.specs.declared.program.TreeProgram.{TreeProgram}
-use Rattle.md_reader_pieces.specs.declared.piece.Line.{Line}
-use Rattle.md_reader.specs.declared.types.Kind.{Kind}
-use Rattle.md_reader.specs.declared.types.Kind.TheVariants as kind
-use Rattle.md_reader.specs.Patterns.{kind_at}
-use Rattle.md_reader.specs.RuleForms.{has_register}
-use Rattle.md_reader.specs.Valid.{IsSpill}
-use Rattle.vax_templates.specs.sel_terms.specs.Effects.{EffectShape}
-use Rattle.vax_templates.specs.sel_target.specs.declared.attr.Attr.{Attr}
-use Rattle.vax_templates.specs.sel_target.specs.declared.attr.Attr.TheVariants as attr
-use Rattle.vax_templates.specs.sel_target.specs.SavingLaws.{IsValue, operand, register}
+use Rattle.vax_target_meaning.specs.md_reader_pieces.specs.declared.piece.Line.{Line}
+use Rattle.vax_target_meaning.specs.md_reader.specs.declared.types.Kind.{Kind}
+use Rattle.vax_target_meaning.specs.md_reader.specs.declared.types.Kind.TheVariants as kind
+use Rattle.vax_target_meaning.specs.md_reader.specs.Patterns.{kind_at}
+use Rattle.vax_target_meaning.specs.md_reader.specs.RuleForms.{has_register}
+use Rattle.vax_target_meaning.specs.md_reader.specs.Valid.{IsSpill}
+use Rattle.vax_target_meaning.specs.sel_terms.specs.Effects.{EffectShape}
+use Rattle.vax_target_meaning.specs.sel_target.specs.declared.attr.Attr.{Attr}
+use Rattle.vax_target_meaning.specs.sel_target.specs.declared.attr.Attr.TheVariants as attr
+use Rattle.vax_target_meaning.specs.sel_target.specs.SavingLaws.{IsValue, operand, register}
 use Rattle.vax_core.specs.declared.operand.Operand.{Operand}
 use Rattle.vax_core.specs.Homes.{home, at_home}
-use Rattle.vax_templates.specs.Settings.{holes_of, setting_of, saved_hole, saved_own, saved_setting}
-use Rattle.vax_templates.specs.Found.{found, saved_found, saved_give}
+use Rattle.vax_target_meaning.specs.vax_templates.specs.Settings.{holes_of, setting_of, saved_hole, saved_own, saved_setting}
+use Rattle.vax_target_meaning.specs.vax_templates.specs.Found.{found, saved_found, saved_give}
 use Rattle.vax_target_meaning.specs.Vax.{vax}
 use Rattle.vax_target_writing.specs.Laws.{LinesAreWritten, SlotsFit, SpillsAreWritten, IsValid}
 use Rattle.vax_target_writing.proofs.Each.{all_of_map}

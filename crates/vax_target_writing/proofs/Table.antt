@@ -6,9 +6,9 @@ use Rattle.vax_core.specs.declared.op.Op.TheVariants.{Movb, Movw, Movl, Clrb, Cl
 use Rattle.vax_core.specs.declared.op.Op.TheVariants.{Addl2, Addl3, Subl2, Subl3, Mull2, Mull3, Divl2, Divl3, Incl, Decl, Bisl2, Bisl3, Bicl2, Bicl3, Xorl2, Xorl3, Bitl, Ashl}
 use Rattle.vax_core.specs.declared.op.Op.TheVariants.{Cmpb, Cmpw, Cmpl, Tstb, Tstw, Tstl, Jbr, Jeql, Jneq, Jlss, Jleq, Jgtr, Jgeq, Jlssu, Jlequ, Jgtru, Jgequ, Calls, Ret}
 use Rattle.vax_core.specs.Ops.{shape}
-use Rattle.vax_machine.specs.declared.function.Action.{Action}
-use Rattle.vax_machine.specs.declared.function.Action.TheVariants.{Compute, Push, Branch, Call, Return}
-use Rattle.vax_machine.specs.Functions.{action_of}
+use Rattle.vax_target_meaning.specs.vax_machine.specs.declared.function.Action.{Action}
+use Rattle.vax_target_meaning.specs.vax_machine.specs.declared.function.Action.TheVariants.{Compute, Push, Branch, Call, Return}
+use Rattle.vax_target_meaning.specs.vax_machine.specs.Functions.{action_of}
 
 -- what branches and what calls has a label
 abbrev pub goes : Action → Bool

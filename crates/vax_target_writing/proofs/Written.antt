@@ -11,40 +11,40 @@ use Rattle.tree_core.specs.declared.tree.Att.{Att}
 use Rattle.tree_core.specs.declared.tree.Att.TheVariants as att
 use Rattle.tree_core.specs.declared.program.TreeProgram.{TreeProgram}
 use Rattle.tree_core.specs.Names.{label_name}
-use Rattle.md_reader_pieces.specs.declared.piece.Piece.{Piece}
-use Rattle.md_reader_pieces.specs.declared.piece.Line.{Line}
-use Rattle.md_reader.specs.declared.types.Kind.{Kind}
-use Rattle.md_reader.specs.declared.types.Give.{Give}
-use Rattle.term_core.specs.Shape.{Shape}
-use Rattle.vax_templates.specs.sel_terms.specs.Effects.{EffectShape}
-use Rattle.vax_templates.specs.sel_target.specs.declared.attr.Attr.{Attr}
-use Rattle.vax_templates.specs.sel_target.specs.declared.attr.Attr.TheVariants as attr
-use Rattle.vax_templates.specs.sel_target.specs.declared.fault.TemplateKind.{TemplateKind}
-use Rattle.vax_templates.specs.sel_target.specs.Meaning.{Fault}
+use Rattle.vax_target_meaning.specs.md_reader_pieces.specs.declared.piece.Piece.{Piece}
+use Rattle.vax_target_meaning.specs.md_reader_pieces.specs.declared.piece.Line.{Line}
+use Rattle.vax_target_meaning.specs.md_reader.specs.declared.types.Kind.{Kind}
+use Rattle.vax_target_meaning.specs.md_reader.specs.declared.types.Give.{Give}
+use Rattle.vax_target_meaning.specs.term_core.specs.Shape.{Shape}
+use Rattle.vax_target_meaning.specs.sel_terms.specs.Effects.{EffectShape}
+use Rattle.vax_target_meaning.specs.sel_target.specs.declared.attr.Attr.{Attr}
+use Rattle.vax_target_meaning.specs.sel_target.specs.declared.attr.Attr.TheVariants as attr
+use Rattle.vax_target_meaning.specs.sel_target.specs.declared.fault.TemplateKind.{TemplateKind}
+use Rattle.vax_target_meaning.specs.sel_target.specs.Meaning.{Fault}
 use Rattle.vax_core.specs.declared.operand.Operand.{Operand}
 use Rattle.vax_core.specs.declared.op.Op.{Op}
 use Rattle.vax_core.specs.Ops.{shape}
 use Rattle.vax_core.specs.Valid.{is_name, is_long, is_target, is_instr, are_operands}
-use Rattle.vax_machine.specs.declared.function.Action.{Action}
-use Rattle.vax_machine.specs.declared.function.Action.TheVariants.{Compute, Push, Branch, Call, Return}
-use Rattle.vax_machine.specs.Functions.{action_of}
-use Rattle.vax_templates.specs.declared.form.Form.{Form}
-use Rattle.vax_templates.specs.declared.setting.Hole.{Hole}
-use Rattle.vax_templates.specs.declared.setting.Setting.{Setting}
-use Rattle.vax_templates.specs.Instructions.{Instruction, Relation, Jump, Calls, Ret, Operates, marks_behind, instruction_of}
-use Rattle.vax_templates.specs.Standing.{◌>>=◌}
-use Rattle.vax_templates.specs.Taking.{Arguments, all_evaluated}
-use Rattle.vax_templates.specs.Giving.{given}
-use Rattle.vax_templates.specs.Deeds.{Last, Plain, Compared, Tested, Returning, Ended, Deed, ends_statement, computed}
-use Rattle.vax_templates.specs.Deeds.{acted}
-use Rattle.vax_templates.specs.Judging.{checked, operated, instruction_did, returned, did_behind, read, line_did}
-use Rattle.vax_templates.specs.sel_terms.specs.Effects as effects
+use Rattle.vax_target_meaning.specs.vax_machine.specs.declared.function.Action.{Action}
+use Rattle.vax_target_meaning.specs.vax_machine.specs.declared.function.Action.TheVariants.{Compute, Push, Branch, Call, Return}
+use Rattle.vax_target_meaning.specs.vax_machine.specs.Functions.{action_of}
+use Rattle.vax_target_meaning.specs.vax_templates.specs.declared.form.Form.{Form}
+use Rattle.vax_target_meaning.specs.vax_templates.specs.declared.setting.Hole.{Hole}
+use Rattle.vax_target_meaning.specs.vax_templates.specs.declared.setting.Setting.{Setting}
+use Rattle.vax_target_meaning.specs.vax_templates.specs.Instructions.{Instruction, Relation, Jump, Calls, Ret, Operates, marks_behind, instruction_of}
+use Rattle.vax_target_meaning.specs.vax_templates.specs.Standing.{◌>>=◌}
+use Rattle.vax_target_meaning.specs.vax_templates.specs.Taking.{Arguments, all_evaluated}
+use Rattle.vax_target_meaning.specs.vax_templates.specs.Giving.{given}
+use Rattle.vax_target_meaning.specs.vax_templates.specs.Deeds.{Last, Plain, Compared, Tested, Returning, Ended, Deed, ends_statement, computed}
+use Rattle.vax_target_meaning.specs.vax_templates.specs.Deeds.{acted}
+use Rattle.vax_target_meaning.specs.vax_templates.specs.Judging.{checked, operated, instruction_did, returned, did_behind, read, line_did}
+use Rattle.vax_target_meaning.specs.sel_terms.specs.Effects as effects
 use Rattle.vax_core.specs.declared.op.Op.TheVariants as ops
-use Rattle.vax_templates.specs.Progress.{Progress, start, at_line, kept, judged, lines_judged}
-use Rattle.vax_templates.specs.GiveLines.{given_line}
-use Rattle.vax_templates.specs.Found.{ended, template_found}
-use Rattle.vax_templates.specs.Filled.{attr_at, filled}
-use Rattle.vax_templates.specs.FilledLines.{op_of_relation, op_of_att, op_in, label_among, branch_to, callee_among, callee_name, call_of, filled_instruction, filled_line}
+use Rattle.vax_target_meaning.specs.vax_templates.specs.Progress.{Progress, start, at_line, kept, judged, lines_judged}
+use Rattle.vax_target_meaning.specs.vax_templates.specs.GiveLines.{given_line}
+use Rattle.vax_target_meaning.specs.vax_templates.specs.Found.{ended, template_found}
+use Rattle.vax_target_meaning.specs.vax_templates.specs.Filled.{attr_at, filled}
+use Rattle.vax_target_meaning.specs.vax_templates.specs.FilledLines.{op_of_relation, op_of_att, op_in, label_among, branch_to, callee_among, callee_name, call_of, filled_instruction, filled_line}
 use Rattle.vax_target_writing.proofs.Each.{Each, EachOk, bind_each, always_ok, still_ok, of_ok}
 use Rattle.vax_target_writing.proofs.Table.{goes, target_is, at_most_three}
 use Rattle.vax_target_writing.proofs.Lines.{AreRead, IsWell, is_label_piece, is_count_piece, labels_behind, counts_behind, read_well}

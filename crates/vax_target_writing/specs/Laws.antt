@@ -4,26 +4,26 @@ use Rattle.std.specs.List.{AllByRecursion}
 use Rattle.gg_base.specs.declared.limits.TheConstants.{NEED_LIMIT}
 use Rattle.gg_base.specs.declared.size.Size.{Size}
 use Rattle.tree_core.specs.declared.program.TreeProgram.{TreeProgram}
-use Rattle.md_reader_pieces.specs.declared.piece.Line.{Line}
-use Rattle.md_reader.specs.declared.types.Kind.{Kind}
-use Rattle.md_reader.specs.declared.types.Kind.TheVariants as kind
-use Rattle.md_reader.specs.declared.types.Class.{Class}
-use Rattle.md_reader.specs.declared.types.Give.TheVariants as give
-use Rattle.md_reader.specs.declared.types.Rule.{Rule}
-use Rattle.md_reader.specs.Patterns.{kind_at}
-use Rattle.md_reader.specs.Valid.{IsRule}
-use Rattle.vax_templates.specs.sel_terms.specs.Effects.{EffectShape}
-use Rattle.vax_templates.specs.sel_target.specs.declared.attr.Attr.{Attr}
-use Rattle.vax_templates.specs.sel_target.specs.declared.attr.Attr.TheVariants as attr
-use Rattle.vax_templates.specs.sel_target.specs.Instances.{Fit, IsResult, lines_of}
-use Rattle.vax_templates.specs.sel_target.specs.SavingLaws.{Saves, Reloads, IsValue}
+use Rattle.vax_target_meaning.specs.md_reader_pieces.specs.declared.piece.Line.{Line}
+use Rattle.vax_target_meaning.specs.md_reader.specs.declared.types.Kind.{Kind}
+use Rattle.vax_target_meaning.specs.md_reader.specs.declared.types.Kind.TheVariants as kind
+use Rattle.vax_target_meaning.specs.md_reader.specs.declared.types.Class.{Class}
+use Rattle.vax_target_meaning.specs.md_reader.specs.declared.types.Give.TheVariants as give
+use Rattle.vax_target_meaning.specs.md_reader.specs.declared.types.Rule.{Rule}
+use Rattle.vax_target_meaning.specs.md_reader.specs.Patterns.{kind_at}
+use Rattle.vax_target_meaning.specs.md_reader.specs.Valid.{IsRule}
+use Rattle.vax_target_meaning.specs.sel_terms.specs.Effects.{EffectShape}
+use Rattle.vax_target_meaning.specs.sel_target.specs.declared.attr.Attr.{Attr}
+use Rattle.vax_target_meaning.specs.sel_target.specs.declared.attr.Attr.TheVariants as attr
+use Rattle.vax_target_meaning.specs.sel_target.specs.Instances.{Fit, IsResult, lines_of}
+use Rattle.vax_target_meaning.specs.sel_target.specs.SavingLaws.{Saves, Reloads, IsValue}
 use Rattle.vax_core.specs.declared.operand.Operand.{Operand}
 use Rattle.vax_core.specs.declared.code.Instr.{Instr}
 use Rattle.vax_core.specs.Valid.{is_instr}
 use Rattle.vax_core.specs.Homes.{home, at_home}
 use Rattle.vax_target_meaning.specs.Fitting.{fits, CanWrite}
 use Rattle.vax_target_meaning.specs.Vax.{vax}
-use Rattle.vax_templates.specs.sel_target.specs.Spelled.{AreSpelled}
+use Rattle.vax_target_meaning.specs.sel_target.specs.Spelled.{AreSpelled}
 
 abbrev pub IsValid : Instr → Type 0
 IsValid i = is_instr i ≡ true

@@ -1,7 +1,7 @@
 -- The operands of words and arguments are in no register that holds values.
 use Rattle.std.specs.Prelude.{nat_lt, nat_le}
 use Rattle.std.proofs.Common.{◌≡◌, ℕ, Bool, true, false, cond, refl}
-use Rattle.tree_core.specs.declared.token.Tok.TheVariants as tok
+use Rattle.sel_target.specs.tree_core.specs.declared.token.Tok.TheVariants as tok
 use Rattle.vax_core.specs.Registers.{operand_bits}
 use Rattle.vax_core.specs.Homes.{home, argument_home}
 use Rattle.vax_templates.specs.Filled.{spare, word_operand, slot_operand}

@@ -2,7 +2,7 @@
 -- This is how the code computes it; that instructions do so is the law vax_is_lawful of vax_target_laws.
 use Rattle.std.specs.Prelude.{ℕ, Bool, true, false, ◌&&◌, List, [], ◌∷◌, Option, Some, None, Result, Ok, Err}
 use Rattle.std.specs.Prelude.{if◌then◌else◌}
-use Rattle.term_core.specs.Shape.{Shape, Constant, LastResult}
+use Rattle.sel_target.specs.term_core.specs.Shape.{Shape, Constant, LastResult}
 use Rattle.sel_target.specs.sel_terms.specs.Effects.{ActShape}
 use Rattle.sel_target.specs.sel_terms.specs.Effects as act
 use Rattle.sel_target.specs.declared.fault.TemplateKind.{TemplateKind}

@@ -2,8 +2,8 @@
 -- This is how the code computes it; that instructions do so is the law vax_is_lawful of vax_target_laws.
 use Rattle.std.specs.Prelude.{ℕ, Bool, false, ◌||◌, List, [], ◌∷◌, Option, Some, None, Result, Ok, Err, if◌then◌else◌}
 use Rattle.std.specs.List.{list_any, list_all}
-use Rattle.term_core.specs.Shape.{Shape, Constant, Symbol, LastResult, Memory, Unary, Binary}
-use Rattle.term_core.specs.Order.{same_term}
+use Rattle.sel_target.specs.term_core.specs.Shape.{Shape, Constant, Symbol, LastResult, Memory, Unary, Binary}
+use Rattle.sel_target.specs.term_core.specs.Order.{same_term}
 use Rattle.sel_target.specs.sel_terms.specs.Effects.{ActShape, EffectShape, Value, Number, Address, PlaceHome, PlaceAt, StoreHome}
 use Rattle.sel_target.specs.sel_terms.specs.Effects.{StoreAt, Branch, Push, Call, Save, Return, Jump}
 use Rattle.sel_target.specs.declared.fault.TemplateKind.TheVariants.{NotInstr}

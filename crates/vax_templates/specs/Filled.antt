@@ -2,13 +2,13 @@
 use Rattle.std.specs.Prelude.{ℕ, ◌-◌, ◌*◌, ◌==◌, nat_lt, nat_le, List, slice_get, unwrap_or, Option, Some, None, if◌then◌else◌}
 use Rattle.gg_base.specs.declared.limits.TheConstants.{NEED_LIMIT}
 use Rattle.gg_base.specs.Arithmetic.{neg32}
-use Rattle.tree_core.specs.declared.token.Tok.{Tok}
-use Rattle.tree_core.specs.declared.token.Tok.TheVariants as tok
-use Rattle.tree_core.specs.declared.tree.Att.{Att}
-use Rattle.tree_core.specs.declared.tree.Att.TheVariants as att
-use Rattle.tree_core.specs.declared.tree.Leaf.{Leaf}
-use Rattle.tree_core.specs.declared.program.Object.{Object}
-use Rattle.tree_core.specs.declared.program.TreeProgram.{TreeProgram}
+use Rattle.sel_target.specs.tree_core.specs.declared.token.Tok.{Tok}
+use Rattle.sel_target.specs.tree_core.specs.declared.token.Tok.TheVariants as tok
+use Rattle.sel_target.specs.tree_core.specs.declared.tree.Att.{Att}
+use Rattle.sel_target.specs.tree_core.specs.declared.tree.Att.TheVariants as att
+use Rattle.sel_target.specs.tree_core.specs.declared.tree.Leaf.{Leaf}
+use Rattle.sel_target.specs.tree_core.specs.declared.program.Object.{Object}
+use Rattle.sel_target.specs.tree_core.specs.declared.program.TreeProgram.{TreeProgram}
 use Rattle.sel_target.specs.md_reader_pieces.specs.declared.piece.Piece.{Piece}
 use Rattle.sel_target.specs.declared.attr.Attr.{Attr}
 use Rattle.sel_target.specs.declared.attr.Attr.TheVariants as attr

@@ -4,11 +4,11 @@ use Rattle.std.specs.Prelude.{ℕ, ◌-◌, ◌==◌, List, [], ◌∷◌, map, 
 use Rattle.std.specs.Option.{option_map, option_or}
 use Rattle.gg_base.specs.declared.relation.Rel.{Rel}
 use Rattle.gg_base.specs.declared.relation.Rel.TheVariants as relations
-use Rattle.tree_core.specs.declared.tree.Att.{Att}
-use Rattle.tree_core.specs.declared.tree.Att.TheVariants as att
-use Rattle.tree_core.specs.declared.program.TreeFn.{TreeFn}
-use Rattle.tree_core.specs.declared.program.TreeProgram.{TreeProgram}
-use Rattle.tree_core.specs.Names.{label_name, function_label}
+use Rattle.sel_target.specs.tree_core.specs.declared.tree.Att.{Att}
+use Rattle.sel_target.specs.tree_core.specs.declared.tree.Att.TheVariants as att
+use Rattle.sel_target.specs.tree_core.specs.declared.program.TreeFn.{TreeFn}
+use Rattle.sel_target.specs.tree_core.specs.declared.program.TreeProgram.{TreeProgram}
+use Rattle.sel_target.specs.tree_core.specs.Names.{label_name, function_label}
 use Rattle.sel_target.specs.md_reader_pieces.specs.declared.piece.Piece.{Piece}
 use Rattle.sel_target.specs.declared.attr.Attr.{Attr}
 use Rattle.sel_target.specs.declared.attr.Attr.TheVariants as attr

@@ -9,7 +9,7 @@ use Rattle.sel_target.specs.md_reader.specs.declared.types.Kind.{Kind}
 use Rattle.sel_target.specs.md_reader.specs.declared.types.Kind.TheVariants as kind
 use Rattle.sel_target.specs.md_reader.specs.declared.types.Give.{Give}
 use Rattle.sel_target.specs.md_reader.specs.declared.types.Give.TheVariants as give
-use Rattle.term_core.specs.Shape.{Shape}
+use Rattle.sel_target.specs.term_core.specs.Shape.{Shape}
 use Rattle.sel_target.specs.sel_terms.specs.Effects.{ActShape, Value, Number, Address, PlaceHome, PlaceAt}
 use Rattle.sel_target.specs.sel_terms.specs.Same.{same_size}
 use Rattle.sel_target.specs.declared.fault.TemplateKind.{TemplateKind}

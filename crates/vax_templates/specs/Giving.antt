@@ -1,9 +1,9 @@
 -- The table of what instructions compute, on terms: one row for each function of the machine.
 use Rattle.gg_base.specs.declared.size.Size.{Size}
 use Rattle.gg_base.specs.declared.size.Size.TheVariants.{Byte, Word, Long}
-use Rattle.term_core.specs.declared.operator.UnaryOp.TheVariants.{Neg, Com, Zx8, Zx16, Sx8, Sx16}
-use Rattle.term_core.specs.declared.operator.BinaryOp.TheVariants.{Add, Sub, Mul, Div, And, Or, Xor, Ash}
-use Rattle.term_core.specs.Shape.{Shape, Constant, Unary, Binary}
+use Rattle.sel_target.specs.term_core.specs.declared.operator.UnaryOp.TheVariants.{Neg, Com, Zx8, Zx16, Sx8, Sx16}
+use Rattle.sel_target.specs.term_core.specs.declared.operator.BinaryOp.TheVariants.{Add, Sub, Mul, Div, And, Or, Xor, Ash}
+use Rattle.sel_target.specs.term_core.specs.Shape.{Shape, Constant, Unary, Binary}
 use Rattle.vax_machine.specs.declared.function.Function.{Function}
 use Rattle.vax_machine.specs.declared.function.Function.TheVariants as functions
 

@@ -1,6 +1,6 @@
 -- The term that a hole, a number or a register of an operand stands for.
 use Rattle.std.specs.Prelude.{ℕ, ◌==◌, List, Option, Some, Result, Ok, Err, if◌then◌else◌}
-use Rattle.term_core.specs.Shape.{Shape, Constant, Symbol}
+use Rattle.sel_target.specs.term_core.specs.Shape.{Shape, Constant, Symbol}
 use Rattle.sel_target.specs.declared.fault.TemplateKind.{TemplateKind}
 use Rattle.sel_target.specs.declared.fault.TemplateKind.TheVariants.{NotInstr}
 use Rattle.vax_templates.specs.declared.form.Number.{Number}

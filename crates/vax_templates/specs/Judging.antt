@@ -4,7 +4,7 @@ use Rattle.std.specs.Prelude.{ℕ, Bool, true, false, not, ◌||◌, ◌&&◌, L
 use Rattle.std.specs.Prelude.{Result, Ok, Err, if◌then◌else◌}
 use Rattle.std.specs.List.{list_any}
 use Rattle.sel_target.specs.md_reader_pieces.specs.declared.piece.Piece.{Piece}
-use Rattle.term_core.specs.Shape.{Shape}
+use Rattle.sel_target.specs.term_core.specs.Shape.{Shape}
 use Rattle.sel_target.specs.sel_terms.specs.Effects as act
 use Rattle.sel_target.specs.declared.fault.TemplateKind.{TemplateKind}
 use Rattle.sel_target.specs.declared.fault.TemplateKind.TheVariants.{NotInstr, WrongSize, Order}

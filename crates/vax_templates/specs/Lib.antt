@@ -23,3 +23,9 @@ pub use Rattle.sel_target.specs.md_reader as md_reader
 pub use Rattle.sel_target.specs.sel_terms_meaning as sel_terms_meaning
 pub use Rattle.sel_target.specs.sel_terms as sel_terms
 pub use Rattle.sel_target.specs.tree_meaning as tree_meaning
+pub use Rattle.vax_core
+pub use Rattle.gg_base
+pub use Rattle.sel_target.specs.term_core as term_core
+pub use Rattle.sel_target.specs.md_reader_pieces as md_reader_pieces
+pub use Rattle.md_reader_text
+pub use Rattle.sel_target.specs.term_core_accesses as term_core_accesses

@@ -3,7 +3,7 @@
 use Rattle.std.specs.Prelude.{ℕ, ◌-◌, Bool, false, List, [], ◌∷◌, ◌++◌, length, slice_get, Option, Some, None, Result}
 use Rattle.std.specs.Prelude.{Ok, Err}
 use Rattle.sel_target.specs.md_reader_pieces.specs.declared.piece.Line.{Line}
-use Rattle.term_core.specs.Shape.{Shape}
+use Rattle.sel_target.specs.term_core.specs.Shape.{Shape}
 use Rattle.sel_target.specs.declared.fault.TemplateKind.{TemplateKind}
 use Rattle.sel_target.specs.Meaning.{Fault}
 use Rattle.vax_templates.specs.declared.setting.Hole.{Hole}

@@ -1,8 +1,8 @@
 -- What the holes of a template stand for, and what its lines may do.
 use Rattle.std.specs.Prelude.{ℕ, ◌-◌, ◌==◌, ◌||◌, Bool, true, false, not, List, [], ◌∷◌, map, Option, Some, None, slice_get, if◌then◌else◌}
 use Rattle.gg_base.specs.declared.size.Size.TheVariants.{Long}
-use Rattle.tree_core.specs.declared.token.Tok.{Tok}
-use Rattle.tree_core.specs.declared.token.Tok.TheVariants as tok
+use Rattle.sel_target.specs.tree_core.specs.declared.token.Tok.{Tok}
+use Rattle.sel_target.specs.tree_core.specs.declared.token.Tok.TheVariants as tok
 use Rattle.sel_target.specs.md_reader.specs.declared.types.Kind.{Kind}
 use Rattle.sel_target.specs.md_reader.specs.declared.types.Kind.TheVariants as kind
 use Rattle.sel_target.specs.md_reader.specs.declared.types.Class.{Class}

@@ -3,9 +3,9 @@ use Rattle.std.specs.Prelude.{ℕ, ◌==◌, List, Option, Some, None, Result, O
 use Rattle.gg_base.specs.declared.size.Size.{Size}
 use Rattle.gg_base.specs.declared.size.Size.TheVariants.{Long}
 use Rattle.gg_base.specs.Sizes.{bytes_of}
-use Rattle.term_core.specs.declared.operator.UnaryOp.TheVariants as unary_op
-use Rattle.term_core.specs.declared.operator.BinaryOp.TheVariants as binary_op
-use Rattle.term_core.specs.Shape.{Shape, Constant, Symbol, Memory, Unary, Binary}
+use Rattle.sel_target.specs.term_core.specs.declared.operator.UnaryOp.TheVariants as unary_op
+use Rattle.sel_target.specs.term_core.specs.declared.operator.BinaryOp.TheVariants as binary_op
+use Rattle.sel_target.specs.term_core.specs.Shape.{Shape, Constant, Symbol, Memory, Unary, Binary}
 use Rattle.sel_target.specs.declared.fault.TemplateKind.{TemplateKind}
 use Rattle.sel_target.specs.declared.fault.TemplateKind.TheVariants.{NotInstr}
 use Rattle.vax_templates.specs.declared.form.Base.{Base}

@@ -2,7 +2,7 @@ use Rattle.std.proofs.Common.{subst, sym, ap, ◌∙◌}
 use Rattle.c_phrases.specs.UnitShapes.{unit_of}
 use Rattle.c_tokens.specs.Grammar.{Tokens}
 use Rattle.c_typed.specs.Sources.{place_at}
-use Rattle.c_sound.proofs.Bytes.{bytes_fit}
+use Rattle.c_typed_words.specs.c_sound.proofs.Bytes.{bytes_fit}
 use Rattle.c_typed.proofs.Firsts.{not_here_first, too_deep_first, types_first, no_fault}
 use Rattle.c_typed.proofs.source.read_source.Goals as goal
 

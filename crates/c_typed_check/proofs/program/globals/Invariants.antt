@@ -1,7 +1,7 @@
 use Rattle.std.proofs.Common.{◌≡◌, drop}
 use Rattle.c_phrases.specs.UnitShapes.{declarators_of}
 use Rattle.c_typed_objects.specs.Views.{state}
-use Rattle.c_typed_definition.specs.Texts.{type_globals}
+use Rattle.c_typed_statements.specs.c_typed_definition.specs.Texts.{type_globals}
 use Rattle.c_typed_check.proofs.program.globals.Given as goal
 
 abbrev pub invariant-loop-d : goal.invariant-loop-d

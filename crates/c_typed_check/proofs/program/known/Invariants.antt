@@ -1,6 +1,6 @@
 use Rattle.std.proofs.Common.{◌≡◌, drop}
 use Rattle.c_phrases.specs.UnitShapes.{externals_of}
-use Rattle.c_typed_definition.specs.Signatures.{known, known_from}
+use Rattle.c_typed_statements.specs.c_typed_definition.specs.Signatures.{known, known_from}
 use Rattle.c_typed_check.specs.Functions.{functions_of}
 use Rattle.c_typed_check.proofs.program.known.Given as goal
 

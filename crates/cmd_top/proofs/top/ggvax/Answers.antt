@@ -6,12 +6,12 @@ use Rattle.cmd_files.specs.Exact.{IsExact}
 use Rattle.cmd_files.specs.Translations.{IsTranslated}
 use Rattle.cmd_meaning.specs.Sources.{source_form, source_runner}
 use Rattle.cmd_run.specs.Texts.{text_form, code_runner}
-use Rattle.cmd_check.specs.Outcome.{Leaves as CheckLeaves}
-use Rattle.cmd_check.specs.Exact.{IsExact as CheckIsExact}
-use Rattle.cmd_compile.specs.Outcome.{files, FailAtMost}
-use Rattle.cmd_compile.specs.Exact.{IsExact as CompileIsExact}
+use Rattle.cmd_load.specs.cmd_check.specs.Outcome.{Leaves as CheckLeaves}
+use Rattle.cmd_load.specs.cmd_check.specs.Exact.{IsExact as CheckIsExact}
+use Rattle.cmd_load.specs.cmd_compile.specs.Outcome.{files, FailAtMost}
+use Rattle.cmd_load.specs.cmd_compile.specs.Exact.{IsExact as CompileIsExact}
 use Rattle.cmd_load.specs.Exact.{IsExact as LoadIsExact}
-use Rattle.cmd_compile.proofs.Counting.{kept_same}
+use Rattle.cmd_load.specs.cmd_compile.proofs.Counting.{kept_same}
 use Rattle.cmd_image.specs.Texts.{image_of_text}
 use Rattle.cmd_text.specs.Images.{text_of_image}
 use Rattle.cmd_top.proofs.Chosen.{only_check, only_compile, only_run, only_meaning, only_load, only_image, only_text, counts, carried, named, paired, named_pair, compiled, loaded}

@@ -1,5 +1,5 @@
 use Rattle.std.proofs.Common.{refl}
-use Rattle.vax_target_meaning.specs.Vax.{vax}
+use Rattle.vax_target.specs.vax_target_meaning.specs.Vax.{vax}
 use Rattle.gg_compile_code.proofs.Putting.{all_selected}
 use Rattle.gg_compile_code.proofs.assembling.assemble.Goals as goal
 

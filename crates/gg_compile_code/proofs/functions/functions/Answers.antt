@@ -1,5 +1,5 @@
 use Rattle.std.proofs.Common.{◌≡◌, ◌<◌, length, get_or, rules}
-use Rattle.vax_target_meaning.specs.Vax.{vax}
+use Rattle.vax_target.specs.vax_target_meaning.specs.Vax.{vax}
 use Rattle.gg_compile_code.proofs.Putting.{at_index, functions_begin, more_functions}
 use Rattle.gg_compile_code.proofs.functions.functions.Goals as goal
 

@@ -1,5 +1,5 @@
 use Rattle.std.proofs.Common.{◌≡◌, ℕ, ◌<◌, length, get_or, sym, ◌∙◌, subst, rules}
-use Rattle.vax_target_meaning.specs.Vax.{vax}
+use Rattle.vax_target.specs.vax_target_meaning.specs.Vax.{vax}
 use Rattle.gg_compile_code.specs.Going.{ItemGoes}
 use Rattle.gg_compile_code.proofs.Putting.{at_index, begins, more_selected}
 use Rattle.gg_compile_code.proofs.items.body_of.Goals as goal

@@ -1,5 +1,5 @@
 use Rattle.std.proofs.Common.{◌≡◌, take}
-use Rattle.vax_target_meaning.specs.Vax.{vax}
+use Rattle.vax_target.specs.vax_target_meaning.specs.Vax.{vax}
 use Rattle.gg_compile_code.specs.Selecting.{AreSelected}
 use Rattle.gg_compile_code.proofs.items.body_of.Given as goal
 

@@ -1,6 +1,6 @@
 use Rattle.std.proofs.Common.{Err, ap}
 use Rattle.sel_parse.specs.declared.selection.SelectFault.{SelectFault}
-use Rattle.vax_target_meaning.specs.Vax.{vax}
+use Rattle.vax_target.specs.vax_target_meaning.specs.Vax.{vax}
 use Rattle.gg_compile_code.proofs.Putting.{puts_label, puts_tree}
 use Rattle.gg_compile_code.proofs.items.put_item.Goals as goal
 

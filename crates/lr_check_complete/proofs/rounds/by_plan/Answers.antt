@@ -1,5 +1,5 @@
 use Rattle.std.proofs.Common.{arith}
-use Rattle.lr_check_sets.specs.Table.{automaton_of}
+use Rattle.lr_check_found.specs.lr_check_sets.specs.Table.{automaton_of}
 use Rattle.lr_check_complete.proofs.rounds.by_plan.Goals as goal
 
 pub loop-item-init : goal.loop-item-init

@@ -1,5 +1,5 @@
 use Rattle.std.proofs.Common.{◌≡◌, length, arith}
-use Rattle.lr_check_sets.specs.Table.{automaton_of}
+use Rattle.lr_check_found.specs.lr_check_sets.specs.Table.{automaton_of}
 use Rattle.lr_check_complete.specs.Sets.{IsComplete}
 use Rattle.lr_check_complete.proofs.Complete_sets.{no_more_sums}
 use Rattle.lr_check_complete.proofs.rounds.complete.Goals as goal

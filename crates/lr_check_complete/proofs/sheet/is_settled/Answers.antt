@@ -1,4 +1,4 @@
-use Rattle.lr_check_sets.specs.Table.{automaton_of}
+use Rattle.lr_check_found.specs.lr_check_sets.specs.Table.{automaton_of}
 use Rattle.lr_check_complete.proofs.sheet.is_settled.Goals as goal
 
 pub returns-in-Some : goal.returns-in-Some

@@ -1,7 +1,7 @@
 use Rattle.std.proofs.Common.{sym, subst}
 use Rattle.gg_base.proofs.Facts.{if_ok}
 use Rattle.md_reader.specs.Valid.{IsValid}
-use Rattle.lr_check_sets.specs.Table.{automaton_of}
+use Rattle.lr_check_found.specs.lr_check_sets.specs.Table.{automaton_of}
 use Rattle.lr_check.specs.Statement.{IsStatement}
 use Rattle.lr_check_drawn.proofs.Begun.{are_begun, have_nodes_grow}
 use Rattle.lr_check_drawn.proofs.Drawings.{settled_nodes}

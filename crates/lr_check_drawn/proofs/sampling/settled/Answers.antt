@@ -1,5 +1,5 @@
 use Rattle.std.proofs.Common.{sym, subst}
-use Rattle.lr_check_sets.specs.Table.{automaton_of}
+use Rattle.lr_check_found.specs.lr_check_sets.specs.Table.{automaton_of}
 use Rattle.lr_check_drawn.specs.Sampled.{AreSettled}
 use Rattle.lr_check_drawn.proofs.Drawings.{drawn_whole, drawn_settled}
 use Rattle.lr_check_drawn.proofs.sampling.settled.Goals as goal

@@ -1,4 +1,4 @@
-use Rattle.lr_check_sets.specs.Table.{automaton_of}
+use Rattle.lr_check_found.specs.lr_check_sets.specs.Table.{automaton_of}
 use Rattle.lr_check_drawn.proofs.Turns.{round_turned}
 use Rattle.lr_check_drawn.proofs.turning.round.Goals as goal
 

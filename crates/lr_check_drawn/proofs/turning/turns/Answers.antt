@@ -1,5 +1,5 @@
 use Rattle.std.proofs.Common.{arith}
-use Rattle.lr_check_sets.specs.Table.{automaton_of}
+use Rattle.lr_check_found.specs.lr_check_sets.specs.Table.{automaton_of}
 use Rattle.lr_check_drawn.proofs.Turns.{turns_none, turns_more, turns_all}
 use Rattle.lr_check_drawn.proofs.turning.turns.Goals as goal
 

@@ -1,4 +1,4 @@
-use Rattle.lr_check_sets.specs.Table.{automaton_of}
+use Rattle.lr_check_found.specs.lr_check_sets.specs.Table.{automaton_of}
 use Rattle.lr_check_drawn.specs.Turning.{Turns}
 use Rattle.lr_check_drawn.proofs.turning.turns.Given as goal
 

@@ -1,7 +1,7 @@
 use Rattle.std.proofs.Common.{◌≡◌, ℕ, [], ◌∷◌}
 use Rattle.tree_core.specs.declared.token.Tok.{Tok}
 use Rattle.tree_core.specs.Grammar.{kids}
-use Rattle.lr_check_sets.specs.Trees.{May}
+use Rattle.lr_check_found.specs.lr_check_sets.specs.Trees.{May}
 use Rattle.lr_check_found.proofs.Below.{Below}
 use Rattle.lr_check_complete.specs.Looks.{automaton, Looks}
 use Rattle.lr_check_complete.specs.Kids.{FirstIn, IsFrame, AtPlaces}

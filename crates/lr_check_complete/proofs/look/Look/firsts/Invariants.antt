@@ -1,5 +1,5 @@
 use Rattle.tree_core.specs.declared.token.Sort.{Sort}
-use Rattle.lr_check_sets.specs.Trees.{May}
+use Rattle.lr_check_found.specs.lr_check_sets.specs.Trees.{May}
 use Rattle.lr_check_found.specs.declared.places.Place.{Place}
 use Rattle.lr_check_found.specs.Found.{place_of, IsPlaceAt}
 use Rattle.lr_check_found.specs.Items.{HasTwo}

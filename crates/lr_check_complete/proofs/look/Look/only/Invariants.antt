@@ -1,4 +1,4 @@
-use Rattle.lr_check_sets.specs.Trees.{May}
+use Rattle.lr_check_found.specs.lr_check_sets.specs.Trees.{May}
 use Rattle.lr_check_found.specs.Found.{place_of, IsPlaceAt}
 use Rattle.lr_check_found.specs.Items.{HasOne}
 use Rattle.lr_check_found.proofs.Below.{Below}

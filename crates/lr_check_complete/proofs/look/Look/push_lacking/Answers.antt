@@ -1,6 +1,6 @@
 use Rattle.std.proofs.Common.{ℕ, ◌<◌, length}
 use Rattle.lr_check_found.proofs.Added.{on_ok}
-use Rattle.lr_check_sets.specs.Closed.{IsClosed}
+use Rattle.lr_check_found.specs.lr_check_sets.specs.Closed.{IsClosed}
 use Rattle.lr_check_complete.specs.Looks.{automaton}
 use Rattle.lr_check_complete.specs.Sets.{HasPlace, HasSettling, HasSum}
 use Rattle.lr_check_complete.specs.Kids.{ReducesIn}

@@ -1,6 +1,6 @@
 use Rattle.tree_core.specs.declared.token.Tok.TheVariants as tok
 use Rattle.tree_core.specs.declared.token.Sort.TheVariants as sort
-use Rattle.lr_check_sets.specs.Trees.{May}
+use Rattle.lr_check_found.specs.lr_check_sets.specs.Trees.{May}
 use Rattle.lr_check_found.proofs.Below.{Below}
 use Rattle.lr_check_complete.specs.Looks.{Looks}
 use Rattle.lr_check_complete.specs.Sets.{HasPlace}

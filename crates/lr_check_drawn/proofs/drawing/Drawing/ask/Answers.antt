@@ -1,4 +1,4 @@
-use Rattle.lr_check_sets.specs.Table.{automaton_of}
+use Rattle.lr_check_found.specs.lr_check_sets.specs.Table.{automaton_of}
 use Rattle.lr_check_drawn.proofs.Asks.{asked_leaf, asked_one, asked_two, asked_again, made_as}
 use Rattle.lr_check_drawn.proofs.drawing.Drawing.ask.Goals as goal
 use Rattle.gg_base.proofs.Facts.{if_ok}

@@ -1,4 +1,4 @@
-use Rattle.lr_check_sets.specs.Table.{automaton_of}
+use Rattle.lr_check_found.specs.lr_check_sets.specs.Table.{automaton_of}
 use Rattle.lr_check_drawn.proofs.Draws.{draws}
 use Rattle.lr_check_drawn.proofs.drawing.Drawing.draw.Goals as goal
 use Rattle.lr_check_found.proofs.Added.{on_ok}
