@@ -1,2 +1,6 @@
 pub mod Ending
+pub mod Telling
+pub mod Compiling
 pub mod Running
+pub mod Texts
+pub mod Bounding

@@ -1,4 +1,4 @@
-use Rattle.gg_headline.proofs.Running as laws
+use Rattle.gg_headline.proofs.Telling as laws
 use Rattle.gg_headline.proofs.laws.runs_tell.Goals as goal
 
 pub returns : goal.returns

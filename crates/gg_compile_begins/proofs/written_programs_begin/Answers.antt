@@ -1,5 +1,0 @@
-use Rattle.gg_compile_begins.proofs.Starting.{written_programs_begin}
-use Rattle.gg_compile_begins.proofs.written_programs_begin.Goals as goal
-
-pub returns : goal.returns
-returns c = written_programs_begin

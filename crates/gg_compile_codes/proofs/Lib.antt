@@ -1,0 +1,9 @@
+pub mod Starting
+pub mod Beginning
+pub mod Inside
+pub mod Frames
+pub mod Keeping
+pub mod Trees
+pub mod Selected
+pub mod OneCode
+pub mod Bounded

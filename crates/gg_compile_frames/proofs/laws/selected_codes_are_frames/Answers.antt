@@ -1,5 +1,0 @@
-use Rattle.gg_compile_frames.proofs.Frames as laws
-use Rattle.gg_compile_frames.proofs.laws.selected_codes_are_frames.Goals as goal
-
-pub returns : goal.returns
-returns c = laws.selected_codes_are_frames

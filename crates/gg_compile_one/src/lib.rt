@@ -1,4 +1,0 @@
-//! A tree program has one code by a description.
-#![tactic(auto)]
-
-pub mod laws;

@@ -1,5 +1,0 @@
-use Rattle.gg_headline_bound.proofs.Bounding as laws
-use Rattle.gg_headline_bound.proofs.laws.ended_texts_end_within.Goals as goal
-
-pub returns : goal.returns
-returns g c = laws.ended_texts_end_within _

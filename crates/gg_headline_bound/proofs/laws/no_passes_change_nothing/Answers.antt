@@ -1,5 +1,0 @@
-use Rattle.gg_headline_bound.proofs.Bounding as laws
-use Rattle.gg_headline_bound.proofs.laws.no_passes_change_nothing.Goals as goal
-
-pub returns : goal.returns
-returns g c = search laws.no_passes_change_nothing

@@ -1,5 +1,0 @@
-use Rattle.gg_headline_bound.proofs.Bounding as laws
-use Rattle.gg_headline_bound.proofs.laws.trapping_texts_trap_within.Goals as goal
-
-pub returns : goal.returns
-returns g c = laws.trapping_texts_trap_within _

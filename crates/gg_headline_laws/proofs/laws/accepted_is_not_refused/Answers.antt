@@ -1,5 +1,0 @@
-use Rattle.gg_headline_laws.proofs.Compiling as laws
-use Rattle.gg_headline_laws.proofs.laws.accepted_is_not_refused.Goals as goal
-
-pub returns : goal.returns
-returns g c = laws.accepted_is_not_refused _

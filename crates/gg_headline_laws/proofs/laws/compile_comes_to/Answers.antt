@@ -1,5 +1,0 @@
-use Rattle.gg_headline_laws.proofs.Compiling as laws
-use Rattle.gg_headline_laws.proofs.laws.compile_comes_to.Goals as goal
-
-pub returns : goal.returns
-returns g c = laws.compile_comes_to _
