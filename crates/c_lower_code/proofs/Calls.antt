@@ -1,5 +1,5 @@
 -- A call and its arguments as code holds them.
-use Rattle.std.proofs.Common.{◌≡◌, ◌<◌, ◌+◌, ◌*◌, ℕ, List, arith, ap, sym, ◌∙◌}
+use Rattle.std.proofs.Common.{◌≡◌, ℕ, List, ap, sym, ◌∙◌}
 use Rattle.std.specs.Global.{Vec}
 use Rattle.c_types.specs.declared.types.CType.{CType}
 use Rattle.c_types.specs.declared.typed.Callee.{Callee}
@@ -14,13 +14,6 @@ use Rattle.c_lower_scheme.specs.Parts.{Lowered, Passing, Located, Emitted, Desti
 use Rattle.c_lower_scheme.specs.Calls.{called_low, called_drop, called_deliver, callee_number}
 use Rattle.c_lower_scheme.specs.Assignments.{step_ready, store_drop}
 use Rattle.c_lower_scheme.specs.Expressions.{way, pass, seek}
-use Rattle.c_lower_code.specs.Sizes.{size, all_size}
-
-pub call_falls : (e : Expression) (t : CType) (f : Callee) (to : List CType) (xs : Vec Expression) (list : List Expression) → e ≡ expression.Call t f to xs → list ≡ xs.items
-    → 4 * all_size (expressions_of list) < 4 * size (expression_of e)
-call_falls e t f to xs list is same =
-    let one : size (expression_of e) ≡ 1 + all_size (expressions_of list) = ap size (call_is e t f to xs list is same) in
-    omega arith
 
 pub call_value : (locals count : ℕ) (e : Expression) (t : CType) (f : Callee) (to : List CType) (xs : Vec Expression) (list : List Expression) (tos : List CType) (u l n : ℕ) (p : Passing)
     (r : Lowered) → e ≡ expression.Call t f to xs → list ≡ xs.items → tos ≡ to → n ≡ callee_number count f → p ≡ pass locals count (expressions_of list) tos u l → r ≡ called_low n p → r

@@ -3,7 +3,7 @@ use Rattle.std.specs.Prelude.{ℕ}
 use Rattle.c_types.specs.declared.typed.Expression.{Expression}
 use Rattle.c_types.specs.declared.typed.Place.{Place}
 use Rattle.c_types.specs.Typed.{expression_of, place_of}
-use Rattle.c_lower_code.specs.declared.part.Frame.{Frame}
+use Rattle.c_lower_parts.specs.declared.part.Frame.{Frame}
 use Rattle.c_lower_scheme.specs.Parts.{Located, Lowering}
 use Rattle.c_lower_scheme.specs.Expressions.{seek, way}
 

@@ -1,699 +1,736 @@
 // Expressions, in the four ways in which they are lowered.
-ghost use Rattle.std.specs.Prelude.{◌≡◌, IfOk, true, false};
+ghost use Rattle.std.specs.Prelude.{◌≡◌, suc, IfOk, true, false};
 ghost use Rattle.c_types.specs.Typed.{expressions_of};
 ghost use Rattle.c_lower_scheme.specs.Parts as parts;
+ghost use Rattle.c_lower_scheme.specs.Places as places;
 ghost use Rattle.c_lower_scheme.specs.Places.{integer_of};
+ghost use Rattle.c_lower_scheme.specs.Trees as mirror;
 ghost use Rattle.c_lower_scheme.specs.Conditions as conditions;
 ghost use Rattle.c_lower_scheme.specs.Values as values;
 ghost use Rattle.c_lower_scheme.specs.Assignments as assignments;
 ghost use Rattle.c_lower_scheme.specs.Expressions as expressions;
-ghost use Rattle.c_lower_code.specs.Views.{low, two, found, ready, passing, done, destination};
-ghost use Rattle.c_lower_code.specs.Changes.{applied};
+ghost use Rattle.c_lower_parts.specs.Views.{low, two, found, ready, passing, done, destination};
+ghost use Rattle.c_lower_parts.specs.Changes.{applied};
 ghost use Rattle.c_lower_code.specs.Lowerings.{way_of, seek_of};
 
-use crate::change::{
+use crate::lowerer::Lowerer;
+use c_lower_parts::change::{
     Change, fill_drop, fill_low, local_of, step_before, step_ready, store_drop, store_low,
     update_ready,
 };
-use crate::operation::{
+use c_lower_parts::condition::{
+    choose_deliver, choose_drop, choose_low, compare, dropped, sensed, test, truth_of,
+};
+use c_lower_parts::operation::{
     advance_by_low, advance_low, apart_low, arithmetic_low, complemented_low, fitted_low,
     negated_low, retreat_low,
 };
-use crate::part::{
-    Assignable, Destination, Emitted, Frame, Located, Lowered, Pair, Passing, address_low,
-    address_of, after, assign_ready, choose_deliver, choose_drop, choose_low, compare, delivered,
-    dropped, due, join, labelled, pointed, read_low, sensed, storage_of, test, then_done, truth_of,
-    with_done,
+use c_lower_parts::order::{assign_ready, join};
+use c_lower_parts::part::{
+    Assignable, Destination, Emitted, Free, Located, Lowered, Pair, Passing, When, delivered,
+    labelled, leaf, then_done, with_done,
 };
-use crate::passing::{
+use c_lower_parts::passing::{
     called_deliver, called_drop, called_low, callee_number, no_arguments, others, pass_on,
     passed_as,
 };
-use crate::tree::{Tree, integer_of};
+use c_lower_parts::place::{address_low, array_low, located, pointed, read_low};
+use c_lower_parts::tree::{Tree, integer_of};
 use c_types::{CType, Direction, Expression, Integer, Moment, Place, UnaryOperator};
 use gg_base::{NoMemory, Rel};
 
-/// A place, from the first free temporary and label on.
-#[cycle(expression)]
-pub(crate) fn seek(frame: Frame, place: &Place, t: u32, l: u32) -> Result<Located, NoMemory>
-    ensures { IfOk result (λ r. found r ≡ seek_of frame place.now t l) }
-{
-    match place {
-        Place::Variable(of, v) => {
-            Ok(Located {
-                items: Vec::new(frame.alloc),
-                ctype: *of,
-                storage: storage_of(frame, *v)?,
-                temps: t,
-                labels: l,
-            })
+impl Lowerer {
+    /// A place, from what is free on.
+    #[cycle(expression)]
+    pub(crate) fn seek(self, place: &Place, free: Free) -> Result<Located, NoMemory>
+        ensures { IfOk result (λ r. found r ≡ seek_of self.frame place.now free.temps free.labels) }
+    {
+        match place {
+            Place::Variable(of, v) => located(self.frame, *of, *v, free),
+            Place::Indirection(of, e) => Ok(pointed(*of, self.value(e, free)?)),
+            Place::Index(of, sum) => Ok(pointed(*of, self.value(sum, free)?)),
         }
-        Place::Indirection(of, e) => Ok(pointed(*of, value(frame, e, t, l)?)),
-        Place::Index(of, sum) => Ok(pointed(*of, value(frame, sum, t, l)?)),
     }
-}
 
-// Two values that are due in turn.
-#[cycle(expression)]
-fn joined(frame: Frame, a: &Expression, b: &Expression, t: u32, l: u32) -> Result<Pair, NoMemory>
-    ensures { IfOk result (λ r. two r ≡ values.joined frame.locals frame.functions (way_of frame a.now) (way_of frame b.now) t l) }
-{
-    let p = value(frame, a, t, l)?;
-    let q = value(frame, b, p.temps, p.labels)?;
-    join(frame, p, q)
-}
+    // Two values that are due in turn.
+    #[cycle(expression)]
+    fn joined(self, a: &Expression, b: &Expression, free: Free) -> Result<Pair, NoMemory>
+        ensures { IfOk result (λ r. two r ≡ values.joined self.frame.locals self.frame.functions
+            (way_of self.frame a.now) (way_of self.frame b.now) free.temps free.labels) }
+    {
+        let p = self.value(a, free)?;
+        let q = self.value(b, p.free)?;
+        join(self.frame, p, q)
+    }
 
-// A relation of two values as a condition.
-#[cycle(expression)]
-fn relation(
-    frame: Frame,
-    r: Rel,
-    a: &Expression,
-    b: &Expression,
-    to: u32,
-    t: u32,
-    l: u32,
-) -> Result<Emitted, NoMemory>
-    ensures { IfOk result (λ d. done d ≡ conditions.compare r to (values.joined frame.locals frame.functions
-        (way_of frame a.now) (way_of frame b.now) t l)) }
-{
-    compare(r, to, joined(frame, a, b, t, l)?)
-}
+    // A relation of two values as a condition.
+    #[cycle(expression)]
+    fn relation(
+        self,
+        r: Rel,
+        a: &Expression,
+        b: &Expression,
+        to: u32,
+        free: Free,
+    ) -> Result<Emitted, NoMemory>
+        ensures { IfOk result (λ d. done d ≡ conditions.compare r to (values.joined self.frame.locals self.frame.functions
+            (way_of self.frame a.now) (way_of self.frame b.now) free.temps free.labels)) }
+    {
+        compare(r, to, self.joined(a, b, free)?)
+    }
 
-// Both sides of `&&`, where stop is false, or of `||`, where it is true.
-#[cycle(expression)]
-fn chain(
-    frame: Frame,
-    stop: bool,
-    a: &Expression,
-    b: &Expression,
-    sense: bool,
-    to: u32,
-    t: u32,
-    l: u32,
-) -> Result<Emitted, NoMemory>
-    ensures { IfOk result (λ d. done d ≡ conditions.chain stop (way_of frame a.now) (way_of frame b.now) sense to t l) }
-{
-    let inner = after(l)?;
-    if stop == sense {
-        let p = branch(frame, a, stop, to, t, inner)?;
-        let q = branch(frame, b, sense, to, p.temps, p.labels)?;
+    // Both sides of `&&`, where stop is false, or of `||`, where it is true.
+    #[cycle(expression)]
+    fn chain(
+        self,
+        stop: bool,
+        a: &Expression,
+        b: &Expression,
+        when: When,
+        free: Free,
+    ) -> Result<Emitted, NoMemory>
+        ensures { IfOk result (λ d. done d ≡ conditions.chain stop (way_of self.frame a.now) (way_of self.frame b.now)
+            when.sense when.to free.temps free.labels) }
+    {
+        let inner = free.past_label()?;
+        if stop == when.sense {
+            let to = when.to;
+            let p = self.branch(a, When { sense: stop, to }, inner)?;
+            let q = self.branch(b, when, p.free)?;
+            then_done(p, q)
+        } else {
+            let to = free.labels;
+            let p = self.branch(a, When { sense: stop, to }, inner)?;
+            let q = self.branch(b, when, p.free)?;
+            labelled(to, then_done(p, q)?)
+        }
+    }
+
+    // The effect of both sides.
+    #[cycle(expression)]
+    fn drop_chain(
+        self,
+        a: &Expression,
+        stop: bool,
+        b: &Expression,
+        free: Free,
+    ) -> Result<Emitted, NoMemory>
+        ensures { IfOk result (λ d. done d ≡ conditions.chain_drop (way_of self.frame a.now) stop
+            (way_of self.frame b.now) free.temps free.labels) }
+    {
+        let to = free.labels;
+        let p = self.branch(a, When { sense: stop, to }, free.past_label()?)?;
+        let q = self.discard(b, p.free)?;
+        labelled(to, then_done(p, q)?)
+    }
+
+    // The effects of two expressions.
+    #[cycle(expression)]
+    fn drop_two(self, a: &Expression, b: &Expression, free: Free) -> Result<Emitted, NoMemory>
+        ensures { IfOk result (λ d. done d ≡ conditions.drop_two (way_of self.frame a.now) (way_of self.frame b.now) free.temps free.labels) }
+    {
+        let p = self.discard(a, free)?;
+        let q = self.discard(b, p.free)?;
         then_done(p, q)
-    } else {
-        let p = branch(frame, a, stop, l, t, inner)?;
-        let q = branch(frame, b, sense, to, p.temps, p.labels)?;
-        labelled(l, then_done(p, q)?)
     }
-}
 
-// The effect of both sides.
-#[cycle(expression)]
-fn drop_chain(
-    frame: Frame,
-    a: &Expression,
-    stop: bool,
-    b: &Expression,
-    t: u32,
-    l: u32,
-) -> Result<Emitted, NoMemory>
-    ensures { IfOk result (λ d. done d ≡ conditions.chain_drop (way_of frame a.now) stop (way_of frame b.now) t l) }
-{
-    let p = branch(frame, a, stop, l, t, after(l)?)?;
-    let q = discard(frame, b, p.temps, p.labels)?;
-    labelled(l, then_done(p, q)?)
-}
+    // A place and what it becomes by a value.
+    #[cycle(expression)]
+    fn updated(
+        self,
+        change: Change,
+        place: &Place,
+        e: &Expression,
+        free: Free,
+    ) -> Result<Assignable, NoMemory>
+        ensures { IfOk result (λ r. ready r ≡ assignments.updated self.frame.locals self.frame.functions (applied change)
+            (seek_of self.frame place.now free.temps free.labels) (way_of self.frame e.now).low) }
+    {
+        let p = self.seek(place, free)?;
+        let q = self.value(e, p.free)?;
+        update_ready(self.frame, change, p, q)
+    }
 
-// The effects of two expressions.
-#[cycle(expression)]
-fn drop_two(
-    frame: Frame,
-    a: &Expression,
-    b: &Expression,
-    t: u32,
-    l: u32,
-) -> Result<Emitted, NoMemory>
-    ensures { IfOk result (λ d. done d ≡ conditions.drop_two (way_of frame a.now) (way_of frame b.now) t l) }
-{
-    let p = discard(frame, a, t, l)?;
-    let q = discard(frame, b, p.temps, p.labels)?;
-    then_done(p, q)
-}
+    // A compound assignment for its value.
+    #[cycle(expression)]
+    fn changed(
+        self,
+        change: Change,
+        place: &Place,
+        e: &Expression,
+        free: Free,
+    ) -> Result<Lowered, NoMemory>
+        ensures { IfOk result (λ r. low r ≡ assignments.store_low (assignments.updated self.frame.locals self.frame.functions
+            (applied change) (seek_of self.frame place.now free.temps free.labels) (way_of self.frame e.now).low)) }
+    {
+        store_low(self.frame.alloc, self.updated(change, place, e, free)?)
+    }
 
-// A place and what it becomes by a value.
-#[cycle(expression)]
-fn updated(
-    frame: Frame,
-    change: Change,
-    place: &Place,
-    e: &Expression,
-    t: u32,
-    l: u32,
-) -> Result<Assignable, NoMemory>
-    ensures { IfOk result (λ r. ready r ≡ assignments.updated frame.locals frame.functions (applied change) (seek_of frame place.now t l)
-        (way_of frame e.now).low) }
-{
-    let p = seek(frame, place, t, l)?;
-    let q = value(frame, e, p.temps, p.labels)?;
-    update_ready(frame, change, p, q)
-}
+    // A compound assignment for its effect.
+    #[cycle(expression)]
+    fn drop_changed(
+        self,
+        change: Change,
+        place: &Place,
+        e: &Expression,
+        free: Free,
+    ) -> Result<Emitted, NoMemory>
+        ensures { IfOk result (λ r. done r ≡ assignments.store_drop (assignments.updated self.frame.locals self.frame.functions
+            (applied change) (seek_of self.frame place.now free.temps free.labels) (way_of self.frame e.now).low)) }
+    {
+        store_drop(self.frame.alloc, self.updated(change, place, e, free)?)
+    }
 
-// A compound assignment for its value.
-#[cycle(expression)]
-fn changed(
-    frame: Frame,
-    change: Change,
-    place: &Place,
-    e: &Expression,
-    t: u32,
-    l: u32,
-) -> Result<Lowered, NoMemory>
-    ensures { IfOk result (λ r. low r ≡ assignments.store_low (assignments.updated frame.locals frame.functions (applied change)
-        (seek_of frame place.now t l) (way_of frame e.now).low)) }
-{
-    store_low(frame.alloc, updated(frame, change, place, e, t, l)?)
-}
-
-// A compound assignment for its effect.
-#[cycle(expression)]
-fn drop_changed(
-    frame: Frame,
-    change: Change,
-    place: &Place,
-    e: &Expression,
-    t: u32,
-    l: u32,
-) -> Result<Emitted, NoMemory>
-    ensures { IfOk result (λ r. done r ≡ assignments.store_drop (assignments.updated frame.locals frame.functions (applied change)
-        (seek_of frame place.now t l) (way_of frame e.now).low)) }
-{
-    store_drop(frame.alloc, updated(frame, change, place, e, t, l)?)
-}
-
-// An assignment for its value.
-#[cycle(expression)]
-fn assign_value(
-    frame: Frame,
-    place: &Place,
-    e: &Expression,
-    t: u32,
-    l: u32,
-) -> Result<Lowered, NoMemory>
-    ensures { IfOk result (λ r. low r ≡ assignments.assign_low frame.locals frame.functions
-        (assignments.local_of frame.locals frame.functions (seek_of frame place.now t l)) (seek_of frame place.now t l)
-        (way_of frame e.now)) }
-{
-    let p = seek(frame, place, t, l)?;
-    match local_of(frame, &p) {
-        Some(n) => {
-            let q = deliver(frame, Destination::Local(n), e, p.temps, p.labels)?;
-            fill_low(n, p, q)
-        }
-        None => {
-            let q = value(frame, e, p.temps, p.labels)?;
-            store_low(frame.alloc, assign_ready(frame, true, p, q)?)
+    // An assignment for its value.
+    #[cycle(expression)]
+    fn assign_value(self, place: &Place, e: &Expression, free: Free) -> Result<Lowered, NoMemory>
+        ensures { IfOk result (λ r. low r ≡ assignments.assign_low self.frame.locals self.frame.functions
+            (assignments.local_of self.frame.locals self.frame.functions (seek_of self.frame place.now free.temps free.labels))
+            (seek_of self.frame place.now free.temps free.labels) (way_of self.frame e.now)) }
+    {
+        let p = self.seek(place, free)?;
+        match local_of(self.frame, &p) {
+            Some(n) => {
+                let q = self.deliver(Destination::Local(n), e, p.free)?;
+                fill_low(self.frame.alloc, n, p, q)
+            }
+            None => {
+                let q = self.value(e, p.free)?;
+                store_low(self.frame.alloc, assign_ready(self.frame, true, p, q)?)
+            }
         }
     }
-}
 
-// An assignment for its effect.
-#[cycle(expression)]
-fn assign_effect(
-    frame: Frame,
-    place: &Place,
-    e: &Expression,
-    t: u32,
-    l: u32,
-) -> Result<Emitted, NoMemory>
-    ensures { IfOk result (λ r. done r ≡ assignments.assign_drop frame.locals frame.functions
-        (assignments.local_of frame.locals frame.functions (seek_of frame place.now t l)) (seek_of frame place.now t l)
-        (way_of frame e.now)) }
-{
-    let p = seek(frame, place, t, l)?;
-    match local_of(frame, &p) {
-        Some(n) => {
-            let q = deliver(frame, Destination::Local(n), e, p.temps, p.labels)?;
-            fill_drop(p, q)
-        }
-        None => {
-            let q = value(frame, e, p.temps, p.labels)?;
-            store_drop(frame.alloc, assign_ready(frame, false, p, q)?)
+    // An assignment for its effect.
+    #[cycle(expression)]
+    fn assign_effect(self, place: &Place, e: &Expression, free: Free) -> Result<Emitted, NoMemory>
+        ensures { IfOk result (λ r. done r ≡ assignments.assign_drop self.frame.locals self.frame.functions
+            (assignments.local_of self.frame.locals self.frame.functions (seek_of self.frame place.now free.temps free.labels))
+            (seek_of self.frame place.now free.temps free.labels) (way_of self.frame e.now)) }
+    {
+        let p = self.seek(place, free)?;
+        match local_of(self.frame, &p) {
+            Some(n) => {
+                let q = self.deliver(Destination::Local(n), e, p.free)?;
+                fill_drop(p, q)
+            }
+            None => {
+                let q = self.value(e, p.free)?;
+                store_drop(self.frame.alloc, assign_ready(self.frame, false, p, q)?)
+            }
         }
     }
-}
 
-// The arguments of a call, whose parameters have these types.
-#[cycle(expression)]
-fn pass(frame: Frame, es: &[Expression], to: &[CType], t: u32, l: u32) -> Result<Passing, NoMemory>
-    ensures { IfOk result (λ r. passing r ≡ expressions.pass frame.locals frame.functions (expressions_of es.now) to.now t l) }
-{
-    match es.split_first() {
-        None => Ok(no_arguments(frame.alloc, t, l)),
-        Some((e, rest)) => {
-            let p = passed_as(frame.alloc, to, value(frame, e, t, l)?)?;
-            let q = pass(frame, rest, others(to), p.temps, p.labels)?;
-            pass_on(frame, p, q)
+    // The arguments of a call, whose parameters have these types.
+    #[cycle(expression)]
+    fn pass(self, es: &[Expression], to: &[CType], free: Free) -> Result<Passing, NoMemory>
+        ensures { IfOk result (λ r. passing r ≡ expressions.pass self.frame.locals self.frame.functions
+            (expressions_of es.now) to.now free.temps free.labels) }
+    {
+        match es.split_first() {
+            None => Ok(no_arguments(self.frame.alloc, free)),
+            Some((e, rest)) => {
+                let p = passed_as(self.frame.alloc, to, self.value(e, free)?)?;
+                let q = self.pass(rest, others(to), p.free)?;
+                pass_on(self.frame, p, q)
+            }
         }
     }
-}
 
-// The value of a choice.
-#[cycle(expression)]
-fn chosen(
-    frame: Frame,
-    c: &Expression,
-    a: &Expression,
-    b: &Expression,
-    t: u32,
-    l: u32,
-) -> Result<Lowered, NoMemory>
-    ensures { IfOk result (λ r. low r ≡ (conditions.choose (way_of frame c.now) (way_of frame a.now) (way_of frame b.now)).low t l) }
-{
-    let p = branch(frame, c, false, l, after(t)?, after(after(l)?)?)?;
-    let q = value(frame, a, p.temps, p.labels)?;
-    let r = value(frame, b, q.temps, q.labels)?;
-    choose_low(t, l, p, q, r)
-}
-
-// The effect of a choice.
-#[cycle(expression)]
-fn drop_chosen(
-    frame: Frame,
-    c: &Expression,
-    a: &Expression,
-    b: &Expression,
-    t: u32,
-    l: u32,
-) -> Result<Emitted, NoMemory>
-    ensures { IfOk result (λ r. done r ≡ (conditions.choose (way_of frame c.now) (way_of frame a.now) (way_of frame b.now)).drop t l) }
-{
-    let p = branch(frame, c, false, l, t, after(after(l)?)?)?;
-    let q = discard(frame, a, p.temps, p.labels)?;
-    let r = discard(frame, b, q.temps, q.labels)?;
-    choose_drop(l, p, q, r)
-}
-
-// A step's value.
-fn step_value(frame: Frame, moment: Moment, by: Direction, p: Located) -> Result<Lowered, NoMemory>
-    ensures { IfOk result (λ r. low r ≡ assignments.step_low frame.locals frame.functions moment by (found p)) }
-{
-    match moment {
-        Moment::Before => step_before(frame, by, p),
-        Moment::After => store_low(frame.alloc, step_ready(frame, by, p)?),
+    // The value of a choice.
+    #[cycle(expression)]
+    fn chosen(
+        self,
+        c: &Expression,
+        a: &Expression,
+        b: &Expression,
+        free: Free,
+    ) -> Result<Lowered, NoMemory>
+        ensures { IfOk result (λ r. low r ≡ (conditions.choose (way_of self.frame c.now) (way_of self.frame a.now)
+            (way_of self.frame b.now)).low free.temps free.labels) }
+    {
+        let inner = free.past_temp()?.past_two_labels()?;
+        let to = free.labels;
+        let p = self.branch(c, When { sense: false, to }, inner)?;
+        let q = self.value(a, p.free)?;
+        let r = self.value(b, q.free)?;
+        choose_low(self.frame.alloc, free, p, q, r)
     }
-}
 
-// The value of an operator on one operand.
-#[cycle(expression)]
-fn unary(
-    frame: Frame,
-    op: UnaryOperator,
-    e: &Expression,
-    t: u32,
-    l: u32,
-) -> Result<Lowered, NoMemory>
-    ensures { IfOk result (λ r. low r ≡ (expressions.unary frame.locals frame.functions op (way_of frame e.now)).low t l) }
-{
-    match op {
-        UnaryOperator::Plus => value(frame, e, t, l),
-        UnaryOperator::Minus => negated_low(frame.alloc, value(frame, e, t, l)?),
-        UnaryOperator::Complement => complemented_low(frame.alloc, value(frame, e, t, l)?),
-        UnaryOperator::Not => truth_of(
-            frame,
-            t,
-            l,
-            branch(frame, e, true, l, after(t)?, after(l)?)?,
-        ),
+    // The effect of a choice.
+    #[cycle(expression)]
+    fn drop_chosen(
+        self,
+        c: &Expression,
+        a: &Expression,
+        b: &Expression,
+        free: Free,
+    ) -> Result<Emitted, NoMemory>
+        ensures { IfOk result (λ r. done r ≡ (conditions.choose (way_of self.frame c.now) (way_of self.frame a.now)
+            (way_of self.frame b.now)).drop free.temps free.labels) }
+    {
+        let to = free.labels;
+        let p = self.branch(c, When { sense: false, to }, free.past_two_labels()?)?;
+        let q = self.discard(a, p.free)?;
+        let r = self.discard(b, q.free)?;
+        choose_drop(to, p, q, r)
     }
-}
 
-/// An expression for its value, from the first free temporary and label on.
-#[cycle(expression)]
-pub(crate) fn value(frame: Frame, e: &Expression, t: u32, l: u32) -> Result<Lowered, NoMemory>
-    ensures { IfOk result (λ r. low r ≡ (way_of frame e.now).low t l) }
-{
-    let alloc = frame.alloc;
-    match e {
-        Expression::Number(n) => Ok(due(alloc, Tree::Number(*n), t, l)),
-        Expression::Literal(n, _) => Ok(due(alloc, Tree::Object(*n), t, l)),
-        Expression::Array(_, v, _) => Ok(due(alloc, address_of(storage_of(frame, *v)?), t, l)),
-        Expression::Read(p) => read_low(alloc, seek(frame, p, t, l)?),
-        Expression::SizeofExpression(n, _) => Ok(due(alloc, Tree::Number(*n), t, l)),
-        Expression::SizeofType(n) => Ok(due(alloc, Tree::Number(*n), t, l)),
-        Expression::Address(_, p) => Ok(address_low(seek(frame, p, t, l)?)),
-        Expression::Call(_, f, to, es) => {
-            called_low(
-                callee_number(frame.functions, *f)?,
-                pass(frame, es, to.as_slice(), t, l)?,
-            )
+    // A step's value.
+    fn step_value(self, moment: Moment, by: Direction, p: Located) -> Result<Lowered, NoMemory>
+        ensures { IfOk result (λ r. low r ≡ assignments.step_low self.frame.locals self.frame.functions moment by (found p)) }
+    {
+        match moment {
+            Moment::Before => step_before(self.frame, by, p),
+            Moment::After => store_low(self.frame.alloc, step_ready(self.frame, by, p)?),
         }
-        Expression::Step(moment, by, p) => step_value(frame, *moment, *by, seek(frame, p, t, l)?),
-        Expression::Unary(op, e) => unary(frame, *op, e, t, l),
-        Expression::Cast(of, e) => fitted_low(alloc, *of, value(frame, e, t, l)?),
-        Expression::Convert(of, e) => fitted_low(alloc, *of, value(frame, e, t, l)?),
-        Expression::Arithmetic(op, a, b) => arithmetic_low(alloc, *op, joined(frame, a, b, t, l)?),
-        Expression::Compare(r, a, b) => {
-            truth_of(
-                frame,
-                t,
-                l,
-                relation(frame, sensed(false, *r), a, b, l, after(t)?, after(l)?)?,
-            )
+    }
+
+    // The truth of the opposite.
+    #[cycle(expression)]
+    fn negation(self, e: &Expression, free: Free) -> Result<Lowered, NoMemory>
+        ensures { IfOk result (λ r. low r ≡ conditions.truth_of free.temps free.labels
+            ((way_of self.frame e.now).branch true free.labels (suc free.temps) (suc free.labels))) }
+    {
+        let to = free.labels;
+        let p = self.branch(e, When { sense: true, to }, free.past_both()?)?;
+        truth_of(self.frame.alloc, free, p)
+    }
+
+    // The value of an operator on one operand.
+    #[cycle(expression)]
+    fn unary(self, op: UnaryOperator, e: &Expression, free: Free) -> Result<Lowered, NoMemory>
+        ensures { IfOk result (λ r. low r ≡ (expressions.unary self.frame.locals self.frame.functions op
+            (way_of self.frame e.now)).low free.temps free.labels) }
+    {
+        match op {
+            UnaryOperator::Plus => self.value(e, free),
+            UnaryOperator::Minus => negated_low(self.frame.alloc, self.value(e, free)?),
+            UnaryOperator::Complement => complemented_low(self.frame.alloc, self.value(e, free)?),
+            UnaryOperator::Not => self.negation(e, free),
         }
-        Expression::AndAnd(a, b) => truth_of(
-            frame,
-            t,
-            l,
-            chain(frame, false, a, b, false, l, after(t)?, after(l)?)?,
-        ),
-        Expression::OrOr(a, b) => truth_of(
-            frame,
-            t,
-            l,
-            chain(frame, true, a, b, false, l, after(t)?, after(l)?)?,
-        ),
-        Expression::Advance(of, a, b) => advance_low(alloc, *of, joined(frame, a, b, t, l)?),
-        Expression::AdvanceBy(of, a, b) => advance_by_low(alloc, *of, joined(frame, a, b, t, l)?),
-        Expression::Retreat(of, a, b) => retreat_low(alloc, *of, joined(frame, a, b, t, l)?),
-        Expression::Distance(of, a, b) => apart_low(alloc, *of, joined(frame, a, b, t, l)?),
-        Expression::Choice(_, c, a, b) => chosen(frame, c, a, b, t, l),
-        Expression::Assign(p, e) => assign_value(frame, p, e, t, l),
-        Expression::ArithmeticAssign(op, p, e) => changed(
-            frame,
-            Change::Arithmetic(*op),
-            p,
-            e,
-            t,
-            l,
-        ),
-        Expression::AdvanceAssign(p, e) => changed(frame, Change::Advance, p, e, t, l),
-        Expression::RetreatAssign(p, e) => changed(frame, Change::Retreat, p, e, t, l),
-        Expression::Comma(_, a, b) => comma(frame, a, b, t, l),
     }
-}
 
-// The effect of one expression, and then the value of another.
-#[cycle(expression)]
-fn comma(frame: Frame, a: &Expression, b: &Expression, t: u32, l: u32) -> Result<Lowered, NoMemory>
-    ensures { IfOk result (λ r. low r ≡ (conditions.comma (way_of frame a.now) (way_of frame b.now)).low t l) }
-{
-    let p = discard(frame, a, t, l)?;
-    let q = value(frame, b, p.temps, p.labels)?;
-    with_done(p, q)
-}
-
-// A value as a condition.
-#[cycle(expression)]
-fn tested(
-    frame: Frame,
-    e: &Expression,
-    sense: bool,
-    to: u32,
-    t: u32,
-    l: u32,
-) -> Result<Emitted, NoMemory>
-    ensures { IfOk result (λ r. done r ≡ conditions.test sense to ((way_of frame e.now).low t l)) }
-{
-    test(sense, to, value(frame, e, t, l)?)
-}
-
-// An operator on one operand as a condition.
-#[cycle(expression)]
-fn unary_branch(
-    frame: Frame,
-    op: UnaryOperator,
-    e: &Expression,
-    sense: bool,
-    to: u32,
-    t: u32,
-    l: u32,
-) -> Result<Emitted, NoMemory>
-    ensures { IfOk result (λ r. done r ≡ (expressions.unary frame.locals frame.functions op (way_of frame e.now)).branch sense to t l) }
-{
-    match op {
-        UnaryOperator::Plus => test(sense, to, unary(frame, UnaryOperator::Plus, e, t, l)?),
-        UnaryOperator::Minus => test(sense, to, unary(frame, UnaryOperator::Minus, e, t, l)?),
-        UnaryOperator::Complement => test(
-            sense,
-            to,
-            unary(frame, UnaryOperator::Complement, e, t, l)?,
-        ),
-        UnaryOperator::Not => branch(frame, e, !sense, to, t, l),
+    // The truth of a relation.
+    #[cycle(expression)]
+    fn compared(
+        self,
+        r: Rel,
+        a: &Expression,
+        b: &Expression,
+        free: Free,
+    ) -> Result<Lowered, NoMemory>
+        ensures { IfOk result (λ d. low d ≡ conditions.truth_of free.temps free.labels (conditions.compare (mirror.sensed false r) free.labels
+            (values.joined self.frame.locals self.frame.functions (way_of self.frame a.now) (way_of self.frame b.now)
+            (suc free.temps) (suc free.labels)))) }
+    {
+        let p = self.relation(sensed(false, r), a, b, free.labels, free.past_both()?)?;
+        truth_of(self.frame.alloc, free, p)
     }
-}
 
-/// An expression as a condition: the items go to a label where its truth is the sense, and else fall through.
-#[cycle(expression)]
-pub(crate) fn branch(
-    frame: Frame,
-    e: &Expression,
-    sense: bool,
-    to: u32,
-    t: u32,
-    l: u32,
-) -> Result<Emitted, NoMemory>
-    ensures { IfOk result (λ r. done r ≡ (way_of frame e.now).branch sense to t l) }
-{
-    match e {
-        Expression::Unary(op, a) => unary_branch(frame, *op, a, sense, to, t, l),
-        Expression::Compare(r, a, b) => relation(frame, sensed(sense, *r), a, b, to, t, l),
-        Expression::AndAnd(a, b) => chain(frame, false, a, b, sense, to, t, l),
-        Expression::OrOr(a, b) => chain(frame, true, a, b, sense, to, t, l),
-        Expression::Comma(_, a, b) => {
-            let p = discard(frame, a, t, l)?;
-            let q = branch(frame, b, sense, to, p.temps, p.labels)?;
-            then_done(p, q)
+    // The truth of both sides.
+    #[cycle(expression)]
+    fn chained(
+        self,
+        stop: bool,
+        a: &Expression,
+        b: &Expression,
+        free: Free,
+    ) -> Result<Lowered, NoMemory>
+        ensures { IfOk result (λ d. low d ≡ conditions.truth_of free.temps free.labels (conditions.chain stop (way_of self.frame a.now)
+            (way_of self.frame b.now) false free.labels (suc free.temps) (suc free.labels))) }
+    {
+        let to = free.labels;
+        let p = self.chain(stop, a, b, When { sense: false, to }, free.past_both()?)?;
+        truth_of(self.frame.alloc, free, p)
+    }
+
+    /// An expression for its value, from what is free on.
+    #[cycle(expression)]
+    pub(crate) fn value(self, e: &Expression, free: Free) -> Result<Lowered, NoMemory>
+        ensures { IfOk result (λ r. low r ≡ (way_of self.frame e.now).low free.temps free.labels) }
+    {
+        let alloc = self.frame.alloc;
+        match e {
+            Expression::Number(n) => leaf(alloc, Tree::Number(*n), free),
+            Expression::Literal(n, _) => leaf(alloc, Tree::Object(*n), free),
+            Expression::Array(_, v, _) => array_low(self.frame, *v, free),
+            Expression::Read(p) => read_low(alloc, self.seek(p, free)?),
+            Expression::SizeofExpression(n, _) => leaf(alloc, Tree::Number(*n), free),
+            Expression::SizeofType(n) => leaf(alloc, Tree::Number(*n), free),
+            Expression::Address(_, p) => address_low(alloc, self.seek(p, free)?),
+            Expression::Call(_, f, to, es) => {
+                called_low(
+                    alloc,
+                    callee_number(self.frame.functions, *f)?,
+                    self.pass(es, to.as_slice(), free)?,
+                )
+            }
+            Expression::Step(moment, by, p) => self.step_value(*moment, *by, self.seek(p, free)?),
+            Expression::Unary(op, e) => self.unary(*op, e, free),
+            Expression::Cast(of, e) => fitted_low(alloc, *of, self.value(e, free)?),
+            Expression::Convert(of, e) => fitted_low(alloc, *of, self.value(e, free)?),
+            Expression::Arithmetic(op, a, b) => arithmetic_low(
+                alloc,
+                *op,
+                self.joined(a, b, free)?,
+            ),
+            Expression::Compare(r, a, b) => self.compared(*r, a, b, free),
+            Expression::AndAnd(a, b) => self.chained(false, a, b, free),
+            Expression::OrOr(a, b) => self.chained(true, a, b, free),
+            Expression::Advance(of, a, b) => advance_low(alloc, *of, self.joined(a, b, free)?),
+            Expression::AdvanceBy(of, a, b) => advance_by_low(alloc, *of, self.joined(a, b, free)?),
+            Expression::Retreat(of, a, b) => retreat_low(alloc, *of, self.joined(a, b, free)?),
+            Expression::Distance(of, a, b) => apart_low(alloc, *of, self.joined(a, b, free)?),
+            Expression::Choice(_, c, a, b) => self.chosen(c, a, b, free),
+            Expression::Assign(p, e) => self.assign_value(p, e, free),
+            Expression::ArithmeticAssign(op, p, e) => self.changed(
+                Change::Arithmetic(*op),
+                p,
+                e,
+                free,
+            ),
+            Expression::AdvanceAssign(p, e) => self.changed(Change::Advance, p, e, free),
+            Expression::RetreatAssign(p, e) => self.changed(Change::Retreat, p, e, free),
+            Expression::Comma(_, a, b) => self.comma(a, b, free),
         }
-        Expression::Number(_) => tested(frame, e, sense, to, t, l),
-        Expression::Literal(_, _) => tested(frame, e, sense, to, t, l),
-        Expression::Array(_, _, _) => tested(frame, e, sense, to, t, l),
-        Expression::Read(_) => tested(frame, e, sense, to, t, l),
-        Expression::SizeofExpression(_, _) => tested(frame, e, sense, to, t, l),
-        Expression::SizeofType(_) => tested(frame, e, sense, to, t, l),
-        Expression::Address(_, _) => tested(frame, e, sense, to, t, l),
-        Expression::Call(_, _, _, _) => tested(frame, e, sense, to, t, l),
-        Expression::Step(_, _, _) => tested(frame, e, sense, to, t, l),
-        Expression::Cast(_, _) => tested(frame, e, sense, to, t, l),
-        Expression::Convert(_, _) => tested(frame, e, sense, to, t, l),
-        Expression::Arithmetic(_, _, _) => tested(frame, e, sense, to, t, l),
-        Expression::Advance(_, _, _) => tested(frame, e, sense, to, t, l),
-        Expression::AdvanceBy(_, _, _) => tested(frame, e, sense, to, t, l),
-        Expression::Retreat(_, _, _) => tested(frame, e, sense, to, t, l),
-        Expression::Distance(_, _, _) => tested(frame, e, sense, to, t, l),
-        Expression::Choice(_, _, _, _) => tested(frame, e, sense, to, t, l),
-        Expression::Assign(_, _) => tested(frame, e, sense, to, t, l),
-        Expression::ArithmeticAssign(_, _, _) => tested(frame, e, sense, to, t, l),
-        Expression::AdvanceAssign(_, _) => tested(frame, e, sense, to, t, l),
-        Expression::RetreatAssign(_, _) => tested(frame, e, sense, to, t, l),
     }
-}
 
-// A value that goes to its destination by a root of its own.
-#[cycle(expression)]
-fn kept(frame: Frame, to: Destination, e: &Expression, t: u32, l: u32) -> Result<Emitted, NoMemory>
-    ensures { IfOk result (λ r. done r ≡ parts.delivered (destination to) ((way_of frame e.now).low t l)) }
-{
-    delivered(to, value(frame, e, t, l)?)
-}
-
-// A conversion at its destination: a type as wide as a longword leaves it out.
-#[cycle(expression)]
-fn deliver_as(
-    frame: Frame,
-    to: Destination,
-    of: CType,
-    e: &Expression,
-    t: u32,
-    l: u32,
-) -> Result<Emitted, NoMemory>
-    ensures { IfOk result (λ r. done r ≡ conditions.deliver_as (integer_of of) (way_of frame e.now) (destination to) t l) }
-{
-    match integer_of(of) {
-        Integer::Int => deliver(frame, to, e, t, l),
-        Integer::Char => delivered(to, fitted_low(frame.alloc, of, value(frame, e, t, l)?)?),
-        Integer::UnsignedChar => delivered(
-            to,
-            fitted_low(frame.alloc, of, value(frame, e, t, l)?)?,
-        ),
-        Integer::Short => delivered(to, fitted_low(frame.alloc, of, value(frame, e, t, l)?)?),
-        Integer::UnsignedShort => delivered(
-            to,
-            fitted_low(frame.alloc, of, value(frame, e, t, l)?)?,
-        ),
+    // The effect of one expression, and then the value of another.
+    #[cycle(expression)]
+    fn comma(self, a: &Expression, b: &Expression, free: Free) -> Result<Lowered, NoMemory>
+        ensures { IfOk result (λ r. low r ≡ (conditions.comma (way_of self.frame a.now) (way_of self.frame b.now)).low free.temps free.labels) }
+    {
+        let p = self.discard(a, free)?;
+        let q = self.value(b, p.free)?;
+        with_done(p, q)
     }
-}
 
-// An operator on one operand at its destination.
-#[cycle(expression)]
-fn unary_deliver(
-    frame: Frame,
-    to: Destination,
-    op: UnaryOperator,
-    e: &Expression,
-    t: u32,
-    l: u32,
-) -> Result<Emitted, NoMemory>
-    ensures { IfOk result (λ r. done r ≡ (expressions.unary frame.locals frame.functions op
-        (way_of frame e.now)).deliver (destination to) t l) }
-{
-    match op {
-        UnaryOperator::Plus => delivered(to, unary(frame, UnaryOperator::Plus, e, t, l)?),
-        UnaryOperator::Minus => delivered(to, unary(frame, UnaryOperator::Minus, e, t, l)?),
-        UnaryOperator::Complement => delivered(
-            to,
-            unary(frame, UnaryOperator::Complement, e, t, l)?,
-        ),
-        UnaryOperator::Not => delivered(to, unary(frame, UnaryOperator::Not, e, t, l)?),
+    // A value as a condition.
+    #[cycle(expression)]
+    fn tested(self, e: &Expression, when: When, free: Free) -> Result<Emitted, NoMemory>
+        ensures { IfOk result (λ r. done r ≡ conditions.test when.sense when.to ((way_of self.frame e.now).low free.temps free.labels)) }
+    {
+        test(when, self.value(e, free)?)
     }
-}
 
-// A choice at its destination.
-#[cycle(expression)]
-fn deliver_chosen(
-    frame: Frame,
-    to: Destination,
-    c: &Expression,
-    a: &Expression,
-    b: &Expression,
-    t: u32,
-    l: u32,
-) -> Result<Emitted, NoMemory>
-    ensures { IfOk result (λ r. done r ≡ (conditions.choose (way_of frame c.now) (way_of frame a.now) (way_of frame b.now)).deliver
-        (destination to) t l) }
-{
-    let p = branch(frame, c, false, l, t, after(after(l)?)?)?;
-    let q = deliver(frame, to, a, p.temps, p.labels)?;
-    let r = deliver(frame, to, b, q.temps, q.labels)?;
-    choose_deliver(to, l, p, q, r)
-}
+    // An operator on one operand as a condition.
+    #[cycle(expression)]
+    fn unary_branch(
+        self,
+        op: UnaryOperator,
+        e: &Expression,
+        when: When,
+        free: Free,
+    ) -> Result<Emitted, NoMemory>
+        ensures { IfOk result (λ r. done r ≡ (expressions.unary self.frame.locals self.frame.functions op
+            (way_of self.frame e.now)).branch when.sense when.to free.temps free.labels) }
+    {
+        match op {
+            UnaryOperator::Plus => test(when, self.unary(UnaryOperator::Plus, e, free)?),
+            UnaryOperator::Minus => test(when, self.unary(UnaryOperator::Minus, e, free)?),
+            UnaryOperator::Complement => test(
+                when,
+                self.unary(UnaryOperator::Complement, e, free)?,
+            ),
+            UnaryOperator::Not => self.branch(
+                e,
+                When {
+                    sense: !when.sense,
+                    to: when.to,
+                },
+                free,
+            ),
+        }
+    }
 
-/// An expression for its value at a destination.
-#[cycle(expression)]
-pub(crate) fn deliver(
-    frame: Frame,
-    to: Destination,
-    e: &Expression,
-    t: u32,
-    l: u32,
-) -> Result<Emitted, NoMemory>
-    ensures { IfOk result (λ r. done r ≡ (way_of frame e.now).deliver (destination to) t l) }
-{
-    match e {
-        Expression::Call(_, f, types, es) => {
-            called_deliver(
+    // The effect of one expression, and then another as a condition.
+    #[cycle(expression)]
+    fn comma_branch(
+        self,
+        a: &Expression,
+        b: &Expression,
+        when: When,
+        free: Free,
+    ) -> Result<Emitted, NoMemory>
+        ensures { IfOk result (λ r. done r ≡ (conditions.comma (way_of self.frame a.now) (way_of self.frame b.now)).branch
+            when.sense when.to free.temps free.labels) }
+    {
+        let p = self.discard(a, free)?;
+        let q = self.branch(b, when, p.free)?;
+        then_done(p, q)
+    }
+
+    /// An expression as a condition: the items go to a label where its truth is the sense, and else fall through.
+    #[cycle(expression)]
+    pub(crate) fn branch(self, e: &Expression, when: When, free: Free) -> Result<Emitted, NoMemory>
+        ensures { IfOk result (λ r. done r ≡ (way_of self.frame e.now).branch when.sense when.to free.temps free.labels) }
+    {
+        match e {
+            Expression::Unary(op, a) => self.unary_branch(*op, a, when, free),
+            Expression::Compare(r, a, b) => self.relation(
+                sensed(when.sense, *r),
+                a,
+                b,
+                when.to,
+                free,
+            ),
+            Expression::AndAnd(a, b) => self.chain(false, a, b, when, free),
+            Expression::OrOr(a, b) => self.chain(true, a, b, when, free),
+            Expression::Comma(_, a, b) => self.comma_branch(a, b, when, free),
+            Expression::Number(_) => self.tested(e, when, free),
+            Expression::Literal(_, _) => self.tested(e, when, free),
+            Expression::Array(_, _, _) => self.tested(e, when, free),
+            Expression::Read(_) => self.tested(e, when, free),
+            Expression::SizeofExpression(_, _) => self.tested(e, when, free),
+            Expression::SizeofType(_) => self.tested(e, when, free),
+            Expression::Address(_, _) => self.tested(e, when, free),
+            Expression::Call(_, _, _, _) => self.tested(e, when, free),
+            Expression::Step(_, _, _) => self.tested(e, when, free),
+            Expression::Cast(_, _) => self.tested(e, when, free),
+            Expression::Convert(_, _) => self.tested(e, when, free),
+            Expression::Arithmetic(_, _, _) => self.tested(e, when, free),
+            Expression::Advance(_, _, _) => self.tested(e, when, free),
+            Expression::AdvanceBy(_, _, _) => self.tested(e, when, free),
+            Expression::Retreat(_, _, _) => self.tested(e, when, free),
+            Expression::Distance(_, _, _) => self.tested(e, when, free),
+            Expression::Choice(_, _, _, _) => self.tested(e, when, free),
+            Expression::Assign(_, _) => self.tested(e, when, free),
+            Expression::ArithmeticAssign(_, _, _) => self.tested(e, when, free),
+            Expression::AdvanceAssign(_, _) => self.tested(e, when, free),
+            Expression::RetreatAssign(_, _) => self.tested(e, when, free),
+        }
+    }
+
+    // A value that goes to its destination by a root of its own.
+    #[cycle(expression)]
+    fn kept(self, to: Destination, e: &Expression, free: Free) -> Result<Emitted, NoMemory>
+        ensures { IfOk result (λ r. done r ≡ parts.delivered (destination to) ((way_of self.frame e.now).low free.temps free.labels)) }
+    {
+        delivered(self.frame.alloc, to, self.value(e, free)?)
+    }
+
+    // A converted value that goes to its destination by a root of its own.
+    #[cycle(expression)]
+    fn kept_as(
+        self,
+        to: Destination,
+        of: CType,
+        e: &Expression,
+        free: Free,
+    ) -> Result<Emitted, NoMemory>
+        ensures { IfOk result (λ r. done r ≡ parts.delivered (destination to) (parts.over (places.fitted of)
+            ((way_of self.frame e.now).low free.temps free.labels))) }
+    {
+        let p = fitted_low(self.frame.alloc, of, self.value(e, free)?)?;
+        delivered(self.frame.alloc, to, p)
+    }
+
+    // A conversion at its destination: a type as wide as a longword leaves it out.
+    #[cycle(expression)]
+    fn deliver_as(
+        self,
+        to: Destination,
+        of: CType,
+        e: &Expression,
+        free: Free,
+    ) -> Result<Emitted, NoMemory>
+        ensures { IfOk result (λ r. done r ≡ conditions.deliver_as (integer_of of) (way_of self.frame e.now)
+            (destination to) free.temps free.labels) }
+    {
+        match integer_of(of) {
+            Integer::Int => self.deliver(to, e, free),
+            Integer::Char => self.kept_as(to, of, e, free),
+            Integer::UnsignedChar => self.kept_as(to, of, e, free),
+            Integer::Short => self.kept_as(to, of, e, free),
+            Integer::UnsignedShort => self.kept_as(to, of, e, free),
+        }
+    }
+
+    // An operator on one operand at its destination.
+    #[cycle(expression)]
+    fn unary_deliver(
+        self,
+        to: Destination,
+        op: UnaryOperator,
+        e: &Expression,
+        free: Free,
+    ) -> Result<Emitted, NoMemory>
+        ensures { IfOk result (λ r. done r ≡ (expressions.unary self.frame.locals self.frame.functions op
+            (way_of self.frame e.now)).deliver (destination to) free.temps free.labels) }
+    {
+        let alloc = self.frame.alloc;
+        match op {
+            UnaryOperator::Plus => delivered(alloc, to, self.unary(UnaryOperator::Plus, e, free)?),
+            UnaryOperator::Minus => delivered(
+                alloc,
                 to,
-                callee_number(frame.functions, *f)?,
-                pass(frame, es, types.as_slice(), t, l)?,
-            )
+                self.unary(UnaryOperator::Minus, e, free)?,
+            ),
+            UnaryOperator::Complement => delivered(
+                alloc,
+                to,
+                self.unary(UnaryOperator::Complement, e, free)?,
+            ),
+            UnaryOperator::Not => delivered(alloc, to, self.unary(UnaryOperator::Not, e, free)?),
         }
-        Expression::Unary(op, a) => unary_deliver(frame, to, *op, a, t, l),
-        Expression::Cast(of, a) => deliver_as(frame, to, *of, a, t, l),
-        Expression::Convert(of, a) => deliver_as(frame, to, *of, a, t, l),
-        Expression::Choice(_, c, a, b) => deliver_chosen(frame, to, c, a, b, t, l),
-        Expression::Comma(_, a, b) => {
-            let p = discard(frame, a, t, l)?;
-            let q = deliver(frame, to, b, p.temps, p.labels)?;
-            then_done(p, q)
-        }
-        Expression::Number(_) => kept(frame, to, e, t, l),
-        Expression::Literal(_, _) => kept(frame, to, e, t, l),
-        Expression::Array(_, _, _) => kept(frame, to, e, t, l),
-        Expression::Read(_) => kept(frame, to, e, t, l),
-        Expression::SizeofExpression(_, _) => kept(frame, to, e, t, l),
-        Expression::SizeofType(_) => kept(frame, to, e, t, l),
-        Expression::Address(_, _) => kept(frame, to, e, t, l),
-        Expression::Step(_, _, _) => kept(frame, to, e, t, l),
-        Expression::Compare(_, _, _) => kept(frame, to, e, t, l),
-        Expression::AndAnd(_, _) => kept(frame, to, e, t, l),
-        Expression::OrOr(_, _) => kept(frame, to, e, t, l),
-        Expression::Arithmetic(_, _, _) => kept(frame, to, e, t, l),
-        Expression::Advance(_, _, _) => kept(frame, to, e, t, l),
-        Expression::AdvanceBy(_, _, _) => kept(frame, to, e, t, l),
-        Expression::Retreat(_, _, _) => kept(frame, to, e, t, l),
-        Expression::Distance(_, _, _) => kept(frame, to, e, t, l),
-        Expression::Assign(_, _) => kept(frame, to, e, t, l),
-        Expression::ArithmeticAssign(_, _, _) => kept(frame, to, e, t, l),
-        Expression::AdvanceAssign(_, _) => kept(frame, to, e, t, l),
-        Expression::RetreatAssign(_, _) => kept(frame, to, e, t, l),
     }
-}
 
-// A step for its effect.
-fn step_drop(frame: Frame, by: Direction, p: Located) -> Result<Emitted, NoMemory>
-    ensures { IfOk result (λ r. done r ≡ assignments.store_drop (assignments.step_ready frame.locals frame.functions by (found p))) }
-{
-    store_drop(frame.alloc, step_ready(frame, by, p)?)
-}
-
-// A value that is not wanted.
-#[cycle(expression)]
-fn unwanted(frame: Frame, e: &Expression, t: u32, l: u32) -> Result<Emitted, NoMemory>
-    ensures { IfOk result (λ r. done r ≡ conditions.dropped ((way_of frame e.now).low t l)) }
-{
-    dropped(value(frame, e, t, l)?)
-}
-
-/// An expression for its effect alone.
-#[cycle(expression)]
-pub(crate) fn discard(frame: Frame, e: &Expression, t: u32, l: u32) -> Result<Emitted, NoMemory>
-    ensures { IfOk result (λ r. done r ≡ (way_of frame e.now).drop t l) }
-{
-    match e {
-        Expression::Call(_, f, to, es) => {
-            called_drop(
-                callee_number(frame.functions, *f)?,
-                pass(frame, es, to.as_slice(), t, l)?,
-            )
-        }
-        Expression::Step(_, by, p) => step_drop(frame, *by, seek(frame, p, t, l)?),
-        Expression::Unary(op, e) => unary_drop(frame, *op, e, t, l),
-        Expression::Cast(_, e) => discard(frame, e, t, l),
-        Expression::Convert(_, e) => discard(frame, e, t, l),
-        Expression::Compare(_, a, b) => drop_two(frame, a, b, t, l),
-        Expression::AndAnd(a, b) => drop_chain(frame, a, false, b, t, l),
-        Expression::OrOr(a, b) => drop_chain(frame, a, true, b, t, l),
-        Expression::Choice(_, c, a, b) => drop_chosen(frame, c, a, b, t, l),
-        Expression::Assign(p, e) => assign_effect(frame, p, e, t, l),
-        Expression::ArithmeticAssign(op, p, e) => drop_changed(
-            frame,
-            Change::Arithmetic(*op),
-            p,
-            e,
-            t,
-            l,
-        ),
-        Expression::AdvanceAssign(p, e) => drop_changed(frame, Change::Advance, p, e, t, l),
-        Expression::RetreatAssign(p, e) => drop_changed(frame, Change::Retreat, p, e, t, l),
-        Expression::Comma(_, a, b) => drop_two(frame, a, b, t, l),
-        Expression::Number(_) => unwanted(frame, e, t, l),
-        Expression::Literal(_, _) => unwanted(frame, e, t, l),
-        Expression::Array(_, _, _) => unwanted(frame, e, t, l),
-        Expression::Read(_) => unwanted(frame, e, t, l),
-        Expression::SizeofExpression(_, _) => unwanted(frame, e, t, l),
-        Expression::SizeofType(_) => unwanted(frame, e, t, l),
-        Expression::Address(_, _) => unwanted(frame, e, t, l),
-        Expression::Arithmetic(_, _, _) => unwanted(frame, e, t, l),
-        Expression::Advance(_, _, _) => unwanted(frame, e, t, l),
-        Expression::AdvanceBy(_, _, _) => unwanted(frame, e, t, l),
-        Expression::Retreat(_, _, _) => unwanted(frame, e, t, l),
-        Expression::Distance(_, _, _) => unwanted(frame, e, t, l),
+    // A choice at its destination.
+    #[cycle(expression)]
+    fn deliver_chosen(
+        self,
+        to: Destination,
+        c: &Expression,
+        a: &Expression,
+        b: &Expression,
+        free: Free,
+    ) -> Result<Emitted, NoMemory>
+        ensures { IfOk result (λ r. done r ≡ (conditions.choose (way_of self.frame c.now) (way_of self.frame a.now)
+            (way_of self.frame b.now)).deliver (destination to) free.temps free.labels) }
+    {
+        let when = When {
+            sense: false,
+            to: free.labels,
+        };
+        let p = self.branch(c, when, free.past_two_labels()?)?;
+        let q = self.deliver(to, a, p.free)?;
+        let r = self.deliver(to, b, q.free)?;
+        choose_deliver(to, free.labels, p, q, r)
     }
-}
 
-// An operator on one operand for its effect: that of the operand.
-#[cycle(expression)]
-fn unary_drop(
-    frame: Frame,
-    op: UnaryOperator,
-    e: &Expression,
-    t: u32,
-    l: u32,
-) -> Result<Emitted, NoMemory>
-    ensures { IfOk result (λ r. done r ≡ (expressions.unary frame.locals frame.functions op (way_of frame e.now)).drop t l) }
-{
-    match op {
-        UnaryOperator::Plus => discard(frame, e, t, l),
-        UnaryOperator::Minus => discard(frame, e, t, l),
-        UnaryOperator::Complement => discard(frame, e, t, l),
-        UnaryOperator::Not => discard(frame, e, t, l),
+    // The effect of one expression, and then another at its destination.
+    #[cycle(expression)]
+    fn deliver_comma(
+        self,
+        to: Destination,
+        a: &Expression,
+        b: &Expression,
+        free: Free,
+    ) -> Result<Emitted, NoMemory>
+        ensures { IfOk result (λ r. done r ≡ (conditions.comma (way_of self.frame a.now) (way_of self.frame b.now)).deliver
+            (destination to) free.temps free.labels) }
+    {
+        let p = self.discard(a, free)?;
+        let q = self.deliver(to, b, p.free)?;
+        then_done(p, q)
+    }
+
+    /// An expression for its value at a destination.
+    #[cycle(expression)]
+    pub(crate) fn deliver(
+        self,
+        to: Destination,
+        e: &Expression,
+        free: Free,
+    ) -> Result<Emitted, NoMemory>
+        ensures { IfOk result (λ r. done r ≡ (way_of self.frame e.now).deliver (destination to) free.temps free.labels) }
+    {
+        match e {
+            Expression::Call(_, f, types, es) => {
+                called_deliver(
+                    self.frame.alloc,
+                    to,
+                    callee_number(self.frame.functions, *f)?,
+                    self.pass(es, types.as_slice(), free)?,
+                )
+            }
+            Expression::Unary(op, a) => self.unary_deliver(to, *op, a, free),
+            Expression::Cast(of, a) => self.deliver_as(to, *of, a, free),
+            Expression::Convert(of, a) => self.deliver_as(to, *of, a, free),
+            Expression::Choice(_, c, a, b) => self.deliver_chosen(to, c, a, b, free),
+            Expression::Comma(_, a, b) => self.deliver_comma(to, a, b, free),
+            Expression::Number(_) => self.kept(to, e, free),
+            Expression::Literal(_, _) => self.kept(to, e, free),
+            Expression::Array(_, _, _) => self.kept(to, e, free),
+            Expression::Read(_) => self.kept(to, e, free),
+            Expression::SizeofExpression(_, _) => self.kept(to, e, free),
+            Expression::SizeofType(_) => self.kept(to, e, free),
+            Expression::Address(_, _) => self.kept(to, e, free),
+            Expression::Step(_, _, _) => self.kept(to, e, free),
+            Expression::Compare(_, _, _) => self.kept(to, e, free),
+            Expression::AndAnd(_, _) => self.kept(to, e, free),
+            Expression::OrOr(_, _) => self.kept(to, e, free),
+            Expression::Arithmetic(_, _, _) => self.kept(to, e, free),
+            Expression::Advance(_, _, _) => self.kept(to, e, free),
+            Expression::AdvanceBy(_, _, _) => self.kept(to, e, free),
+            Expression::Retreat(_, _, _) => self.kept(to, e, free),
+            Expression::Distance(_, _, _) => self.kept(to, e, free),
+            Expression::Assign(_, _) => self.kept(to, e, free),
+            Expression::ArithmeticAssign(_, _, _) => self.kept(to, e, free),
+            Expression::AdvanceAssign(_, _) => self.kept(to, e, free),
+            Expression::RetreatAssign(_, _) => self.kept(to, e, free),
+        }
+    }
+
+    // A step for its effect.
+    fn step_drop(self, by: Direction, p: Located) -> Result<Emitted, NoMemory>
+        ensures { IfOk result (λ r. done r ≡ assignments.store_drop (assignments.step_ready self.frame.locals self.frame.functions by (found p))) }
+    {
+        store_drop(self.frame.alloc, step_ready(self.frame, by, p)?)
+    }
+
+    // A value that is not wanted.
+    #[cycle(expression)]
+    fn unwanted(self, e: &Expression, free: Free) -> Result<Emitted, NoMemory>
+        ensures { IfOk result (λ r. done r ≡ conditions.dropped ((way_of self.frame e.now).low free.temps free.labels)) }
+    {
+        dropped(self.frame.alloc, self.value(e, free)?)
+    }
+
+    /// An expression for its effect alone.
+    #[cycle(expression)]
+    pub(crate) fn discard(self, e: &Expression, free: Free) -> Result<Emitted, NoMemory>
+        ensures { IfOk result (λ r. done r ≡ (way_of self.frame e.now).drop free.temps free.labels) }
+    {
+        match e {
+            Expression::Call(_, f, to, es) => {
+                called_drop(
+                    callee_number(self.frame.functions, *f)?,
+                    self.pass(es, to.as_slice(), free)?,
+                )
+            }
+            Expression::Step(_, by, p) => self.step_drop(*by, self.seek(p, free)?),
+            Expression::Unary(op, e) => self.unary_drop(*op, e, free),
+            Expression::Cast(_, e) => self.discard(e, free),
+            Expression::Convert(_, e) => self.discard(e, free),
+            Expression::Compare(_, a, b) => self.drop_two(a, b, free),
+            Expression::AndAnd(a, b) => self.drop_chain(a, false, b, free),
+            Expression::OrOr(a, b) => self.drop_chain(a, true, b, free),
+            Expression::Choice(_, c, a, b) => self.drop_chosen(c, a, b, free),
+            Expression::Assign(p, e) => self.assign_effect(p, e, free),
+            Expression::ArithmeticAssign(op, p, e) => {
+                self.drop_changed(Change::Arithmetic(*op), p, e, free)
+            }
+            Expression::AdvanceAssign(p, e) => self.drop_changed(Change::Advance, p, e, free),
+            Expression::RetreatAssign(p, e) => self.drop_changed(Change::Retreat, p, e, free),
+            Expression::Comma(_, a, b) => self.drop_two(a, b, free),
+            Expression::Number(_) => self.unwanted(e, free),
+            Expression::Literal(_, _) => self.unwanted(e, free),
+            Expression::Array(_, _, _) => self.unwanted(e, free),
+            Expression::Read(_) => self.unwanted(e, free),
+            Expression::SizeofExpression(_, _) => self.unwanted(e, free),
+            Expression::SizeofType(_) => self.unwanted(e, free),
+            Expression::Address(_, _) => self.unwanted(e, free),
+            Expression::Arithmetic(_, _, _) => self.unwanted(e, free),
+            Expression::Advance(_, _, _) => self.unwanted(e, free),
+            Expression::AdvanceBy(_, _, _) => self.unwanted(e, free),
+            Expression::Retreat(_, _, _) => self.unwanted(e, free),
+            Expression::Distance(_, _, _) => self.unwanted(e, free),
+        }
+    }
+
+    // An operator on one operand for its effect: that of the operand.
+    #[cycle(expression)]
+    fn unary_drop(self, op: UnaryOperator, e: &Expression, free: Free) -> Result<Emitted, NoMemory>
+        ensures { IfOk result (λ r. done r ≡ (expressions.unary self.frame.locals self.frame.functions op
+            (way_of self.frame e.now)).drop free.temps free.labels) }
+    {
+        match op {
+            UnaryOperator::Plus => self.discard(e, free),
+            UnaryOperator::Minus => self.discard(e, free),
+            UnaryOperator::Complement => self.discard(e, free),
+            UnaryOperator::Not => self.discard(e, free),
+        }
     }
 }

@@ -5,14 +5,13 @@ ghost use Rattle.c_sound.specs.Fits.{AreBytes};
 ghost use Rattle.c_lower_scheme.specs.Programs as programs;
 ghost use Rattle.c_lower_scheme.specs.Spelling.{spelled_all};
 ghost use Rattle.c_lower_code.specs.Bytes.{AllHoldBytes};
-ghost use Rattle.c_lower_code.specs.Views.{all_items, done, destination};
+ghost use Rattle.c_lower_parts.specs.Views.{all_items, done, destination};
 
-use crate::flow::{claimed, two_done};
-use crate::item::Item;
-use crate::part::{Destination, Emitted, Frame, after, delivered, due, nothing};
-use crate::spelling::spelled;
-use crate::statement::row;
-use crate::tree::Tree;
+use crate::lowerer::Lowerer;
+use c_lower_parts::flow::{claimed, two_done};
+use c_lower_parts::item::Item;
+use c_lower_parts::part::{Destination, Emitted, Exits, Frame, after};
+use c_lower_parts::spelling::spelled;
 use c_program::{Program, Routine};
 use gg_base::{Bytes, Name, NoMemory, number_of};
 use std::alloc::Global;
@@ -130,21 +129,23 @@ fn function_of(alloc: Global, of: &Routine, body: Emitted) -> Result<TreeFn, NoM
     Ok(TreeFn {
         name,
         args,
-        locals: body.temps,
+        locals: body.free.temps,
         wanted,
         items,
     })
 }
 
-// What is done before a function's statements: its block is taken, if it has one.
-#[tactic(auto, using(crate::proofs::Blocks::in_without, crate::proofs::Blocks::in_with))]
-fn way_in(frame: Frame, pointer: u32, block: u32, l: u32) -> Result<Emitted, NoMemory>
-    ensures { IfOk result (λ r. done r ≡ programs.way_in frame.locals frame.first pointer block l) }
-{
-    if block == 0 {
-        Ok(nothing(frame.alloc, frame.first, l))
-    } else {
-        claimed(frame, pointer, block, l)
+impl Lowerer {
+    // What is done before a function's statements: its block is taken, if it has one.
+    #[tactic(auto, using(crate::proofs::Blocks::in_without, crate::proofs::Blocks::in_with))]
+    fn way_in(self, pointer: u32, block: u32, l: u32) -> Result<Emitted, NoMemory>
+        ensures { IfOk result (λ r. done r ≡ programs.way_in self.frame.locals self.frame.first pointer block l) }
+    {
+        if block == 0 {
+            Ok(self.nothing(l))
+        } else {
+            claimed(self.frame, pointer, block, l)
+        }
     }
 }
 
@@ -159,12 +160,14 @@ fn body_of(
     ensures { IfOk result (λ r. done r ≡ programs.body_of pointer functions (routine of.now) l) }
 {
     let frame = frame_of(alloc, pointer, functions, of)?;
-    let begin = way_in(frame, pointer, of.block, l)?;
-    let body = row(frame, &of.body, 0, 0, begin.labels)?;
-    let end = delivered(
-        frame.out,
-        due(alloc, Tree::Number(0), frame.first, body.labels),
-    )?;
+    let lowerer = Lowerer { frame };
+    let begin = lowerer.way_in(pointer, of.block, l)?;
+    let nowhere = Exits {
+        broken: 0,
+        onward: 0,
+    };
+    let body = lowerer.row(&of.body, nowhere, begin.free.labels)?;
+    let end = lowerer.answering_zero(body.free.labels)?;
     let rest = two_done(body, end)?;
     two_done(begin, rest)
 }
@@ -178,7 +181,7 @@ fn lower_all(alloc: Global, pointer: u32, routines: &[Routine]) -> Result<Vec<Tr
     let mut labels = 0;
     for of in routines {
         let body = body_of(alloc, pointer, count, of, labels)?;
-        labels = body.labels;
+        labels = body.free.labels;
         functions.push(function_of(alloc, of, body)?)?;
     }
     Ok(functions)

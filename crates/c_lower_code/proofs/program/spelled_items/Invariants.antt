@@ -1,6 +1,6 @@
 use Rattle.std.proofs.Common.{◌≡◌, ◌++◌, drop}
 use Rattle.c_lower_scheme.specs.Spelling.{spelled_all}
-use Rattle.c_lower_code.specs.Views.{all_items}
+use Rattle.c_lower_parts.specs.Views.{all_items}
 use Rattle.c_lower_code.proofs.program.spelled_items.Given as goal
 
 abbrev pub invariant-loop-one : goal.invariant-loop-one

@@ -1,6 +1,0 @@
-use Rattle.std.proofs.Common.{ap}
-use Rattle.std.specs.Prelude.{not}
-use Rattle.c_lower_code.proofs.zeros.is_zeroed.Goals as goal
-
-pub returns : goal.returns
-returns c = ap not c.is_overwritten.ensures

@@ -1,0 +1,11 @@
+use Rattle.std.proofs.Common.{sym, ◌∙◌}
+use Rattle.std.proofs.lemmas.List.{length-map}
+use Rattle.c_lower_parts.specs.Views.{tree, all_items, all_trees}
+use Rattle.c_lower_parts.proofs.Pushing.{called}
+use Rattle.c_lower_parts.proofs.passing.called_drop.Goals as goal
+
+pub returns : goal.returns
+returns c =
+    let count = c.in_ok-count.ensures.number ∙ (c.len.ensures ∙ (c.args.p.trees.ok.0 ∙ sym (length-map c.args.p.trees.items tree))) in
+    called (all_items c.args.p.items.items) (all_items c.push_all.new.items.items) (all_items c.put.new.items.items) (all_trees c.args.p.trees.items) c.args.f c.in_ok-count.count
+    c.args.p.free.temps c.args.p.free.labels c.args.p.is_quiet count c.in_ok-push_all.ensures c.in_ok-put.ensures
