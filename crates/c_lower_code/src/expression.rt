@@ -2,7 +2,6 @@
 ghost use Rattle.std.specs.Prelude.{◌≡◌, suc, IfOk, true, false};
 ghost use Rattle.c_types.specs.Typed.{expressions_of};
 ghost use Rattle.c_lower_scheme.specs.Parts as parts;
-ghost use Rattle.c_lower_scheme.specs.Places as places;
 ghost use Rattle.c_lower_scheme.specs.Places.{integer_of};
 ghost use Rattle.c_lower_scheme.specs.Trees as mirror;
 ghost use Rattle.c_lower_scheme.specs.Conditions as conditions;
@@ -127,7 +126,8 @@ impl Lowerer {
     // The effects of two expressions.
     #[cycle(expression)]
     fn drop_two(self, a: &Expression, b: &Expression, free: Free) -> Result<Emitted, NoMemory>
-        ensures { IfOk result (λ d. done d ≡ conditions.drop_two (way_of self.frame a.now) (way_of self.frame b.now) free.temps free.labels) }
+        ensures { IfOk result (λ d. done d ≡ conditions.drop_two (way_of self.frame a.now) (way_of self.frame b.now)
+            free.temps free.labels) }
     {
         let p = self.discard(a, free)?;
         let q = self.discard(b, p.free)?;
@@ -320,7 +320,8 @@ impl Lowerer {
         b: &Expression,
         free: Free,
     ) -> Result<Lowered, NoMemory>
-        ensures { IfOk result (λ d. low d ≡ conditions.truth_of free.temps free.labels (conditions.compare (mirror.sensed false r) free.labels
+        ensures { IfOk result (λ d. low d ≡ conditions.truth_of free.temps free.labels
+            (conditions.compare (mirror.sensed false r) free.labels
             (values.joined self.frame.locals self.frame.functions (way_of self.frame a.now) (way_of self.frame b.now)
             (suc free.temps) (suc free.labels)))) }
     {
@@ -399,7 +400,8 @@ impl Lowerer {
     // The effect of one expression, and then the value of another.
     #[cycle(expression)]
     fn comma(self, a: &Expression, b: &Expression, free: Free) -> Result<Lowered, NoMemory>
-        ensures { IfOk result (λ r. low r ≡ (conditions.comma (way_of self.frame a.now) (way_of self.frame b.now)).low free.temps free.labels) }
+        ensures { IfOk result (λ r. low r ≡ (conditions.comma (way_of self.frame a.now) (way_of self.frame b.now)).low
+            free.temps free.labels) }
     {
         let p = self.discard(a, free)?;
         let q = self.value(b, p.free)?;
@@ -510,22 +512,6 @@ impl Lowerer {
         delivered(self.frame.alloc, to, self.value(e, free)?)
     }
 
-    // A converted value that goes to its destination by a root of its own.
-    #[cycle(expression)]
-    fn kept_as(
-        self,
-        to: Destination,
-        of: CType,
-        e: &Expression,
-        free: Free,
-    ) -> Result<Emitted, NoMemory>
-        ensures { IfOk result (λ r. done r ≡ parts.delivered (destination to) (parts.over (places.fitted of)
-            ((way_of self.frame e.now).low free.temps free.labels))) }
-    {
-        let p = fitted_low(self.frame.alloc, of, self.value(e, free)?)?;
-        delivered(self.frame.alloc, to, p)
-    }
-
     // A conversion at its destination: a type as wide as a longword leaves it out.
     #[cycle(expression)]
     fn deliver_as(
@@ -538,12 +524,21 @@ impl Lowerer {
         ensures { IfOk result (λ r. done r ≡ conditions.deliver_as (integer_of of) (way_of self.frame e.now)
             (destination to) free.temps free.labels) }
     {
+        let alloc = self.frame.alloc;
         match integer_of(of) {
             Integer::Int => self.deliver(to, e, free),
-            Integer::Char => self.kept_as(to, of, e, free),
-            Integer::UnsignedChar => self.kept_as(to, of, e, free),
-            Integer::Short => self.kept_as(to, of, e, free),
-            Integer::UnsignedShort => self.kept_as(to, of, e, free),
+            Integer::Char => delivered(alloc, to, fitted_low(alloc, of, self.value(e, free)?)?),
+            Integer::UnsignedChar => delivered(
+                alloc,
+                to,
+                fitted_low(alloc, of, self.value(e, free)?)?,
+            ),
+            Integer::Short => delivered(alloc, to, fitted_low(alloc, of, self.value(e, free)?)?),
+            Integer::UnsignedShort => delivered(
+                alloc,
+                to,
+                fitted_low(alloc, of, self.value(e, free)?)?,
+            ),
         }
     }
 
@@ -665,7 +660,8 @@ impl Lowerer {
 
     // A step for its effect.
     fn step_drop(self, by: Direction, p: Located) -> Result<Emitted, NoMemory>
-        ensures { IfOk result (λ r. done r ≡ assignments.store_drop (assignments.step_ready self.frame.locals self.frame.functions by (found p))) }
+        ensures { IfOk result (λ r. done r ≡ assignments.store_drop
+            (assignments.step_ready self.frame.locals self.frame.functions by (found p))) }
     {
         store_drop(self.frame.alloc, step_ready(self.frame, by, p)?)
     }

@@ -25,7 +25,7 @@ updated l f g p q b c n m s s' rd old val first second all is_b is_c is_n is_m i
     let two = append_assoc p.items (holding b q.temps p.place) (saving c n rd ++ q.items) in
     cc
 
-pub stepped : (l f : ℕ) (g : Tree → Tree) (p : Located) (b : Bool) (n m : ℕ) (s s' : Where) (rd new : Tree) (put : Item) (first second all : List Item)
+pub stepped : (l f : ℕ) (g : Tree → Tree) (p : Located) (b : Bool) (n m : ℕ) (s s' : Where) (rd new w : Tree) (put : Item) (first second all : List Item)
     → b ≡ must_keep l f [] p.place
     → n ≡ next_if b p.temps
     → m ≡ suc n
@@ -37,8 +37,9 @@ pub stepped : (l f : ℕ) (g : Tree → Tree) (p : Located) (b : Bool) (n m : �
     → new ≡ g (Loc n)
     → put ≡ assign_to p.type s new
     → all ≡ second ++ (put ∷ [])
-    → record { items = all; tree = Loc n; temps = m; labels = p.labels } ≡ postfix l f g p
-stepped l f g p b n m s s' rd new put first second all is_b is_n is_m is_s is_first is_s' is_rd is_second is_new is_put is_all =
+    → w ≡ Loc n
+    → record { items = all; tree = w; temps = m; labels = p.labels } ≡ postfix l f g p
+stepped l f g p b n m s s' rd new w put first second all is_b is_n is_m is_s is_first is_s' is_rd is_second is_new is_put is_all is_w =
     let one = append_assoc first (AssignLoc n rd ∷ []) (put ∷ []) in
     let two = append_assoc p.items (holding b p.temps p.place) (AssignLoc n rd ∷ put ∷ []) in
     cc

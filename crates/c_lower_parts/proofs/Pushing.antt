@@ -27,9 +27,9 @@ called a b c ws f n t l quiet count one two =
     let four = pushes_behind ws (Call f n ∷ []) in
     cc
 
-pub called_saved : (a b c d : List Item) (ws : List Tree) (f n t u l : ℕ) (quiet : Bool) → u ≡ suc t → n ≡ length ws → b ≡ a ++ pushes ws [] → c ≡ b ++ (Call f n ∷ []) → d ≡ c
-    ++ (Save t ∷ []) → record { items = d; tree = Loc t; temps = u; labels = l } ≡ called_low f (record { items = a; trees = ws; quiet = quiet; temps = t; labels = l })
-called_saved a b c d ws f n t u l quiet next count one two three =
+pub called_saved : (a b c d : List Item) (ws : List Tree) (w : Tree) (f n t u l : ℕ) (quiet : Bool) → u ≡ suc t → n ≡ length ws → b ≡ a ++ pushes ws [] → c ≡ b ++ (Call f n ∷ []) → d ≡ c
+    ++ (Save t ∷ []) → w ≡ Loc t → record { items = d; tree = w; temps = u; labels = l } ≡ called_low f (record { items = a; trees = ws; quiet = quiet; temps = t; labels = l })
+called_saved a b c d ws w f n t u l quiet next count one two three saved =
     let four = append_assoc b (Call f n ∷ []) (Save t ∷ []) in
     let five = append_assoc a (pushes ws []) (Call f n ∷ Save t ∷ []) in
     let six = pushes_behind ws (Call f n ∷ Save t ∷ []) in

@@ -90,9 +90,6 @@ decreases-discard l = 8 * size (expression_of l.e.now) + 2
 abbrev pub decreases-negation : goal.decreases-negation
 decreases-negation l = 8 * size (expression_of l.e.now) + 3
 
-abbrev pub decreases-kept_as : goal.decreases-kept_as
-decreases-kept_as l = 8 * size (expression_of l.e.now) + 1
-
 abbrev pub decreases-compared : goal.decreases-compared
 decreases-compared l = 8 * (size (expression_of l.a.now) + size (expression_of l.b.now)) + 3
 

@@ -7,6 +7,6 @@ use Rattle.c_lower_code.proofs.lowerer.Lowerer.one_declared.Goals as goal
 
 pub returns-in-Clear : goal.returns-in-Clear
 returns-in-Clear c =
-    let is = clear_is c.args.self.frame.locals c.args.self.frame.functions c.args.self.frame.first (destination c.args.self.frame.out) c.in-Clear.n (declaration c.args.d.now) (map declaration c.args.others.now)
-    (acts c.args.rest.now) c.args.l c.is_zeroed.result (ap declaration c.in-Clear.is) c.is_zeroed.ensures in
+    let is = clear_is c.args.self.frame.locals c.args.self.frame.functions c.args.self.frame.first (destination c.args.self.frame.out) c.in-Clear.n
+    (declaration c.args.d.now) (map declaration c.args.others.now) (acts c.args.rest.now) c.args.l c.is_zeroed.result (ap declaration c.in-Clear.is) c.is_zeroed.ensures in
     rw is c.cleared.ensures
