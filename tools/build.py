@@ -1,8 +1,8 @@
 #!/usr/bin/env python3
 """Proves every crate below the program on all processors, builds the program, and shows on one line how far it is.
 
-The work is done by `rt ci` in a copy of the crates, without their must-fail edits, since it is not the gate. What `rt ci` has proved it
-keeps beside the toolchain: a build that was stopped goes on where it was. Usage: tools/build.py
+The work is done by `rt ci` in a copy of the crates, without their must-fail edits, since it is not the gate. Some kits keep beside the
+toolchain what `rt ci` has proved: with them a build that was stopped goes on where it was. Usage: tools/build.py
 """
 
 import os
@@ -132,7 +132,7 @@ def prove(folder, rows):
         except KeyboardInterrupt:
             run.terminate()
             run.wait()
-            sys.exit("\nggvax: stopped; what is proved is kept")
+            sys.exit("\nggvax: the build was stopped")
     if sys.stderr.isatty():
         print("\r\033[K", end="", file=sys.stderr)
     return log.read_text(errors="replace"), run.returncode
