@@ -95,7 +95,9 @@ fn texts(rt: HostRuntime) -> Result<(), Fail> {
         ),
         (
             b"".as_slice(),
-            b"\tenter\t$2\n\tli\ta1,$259\n\tsb\ta1,-4(fp)\n\tsh\ta1,-8(fp)\n\tlw\ta2,-4(fp)\n\tlw\ta3,-8(fp)\n\tadd\ta0,a2,a3\n\tret\n".as_slice(),
+            b"\tenter\t$2\n\tli\ta1,$259\n\tsb\ta1,-4(fp)\n\tsh\ta1,-8(fp)\n\
+                \tlw\ta2,-4(fp)\n\tlw\ta3,-8(fp)\n\tadd\ta0,a2,a3\n\tret\n"
+                .as_slice(),
             5000,
             b"".as_slice(),
             ended(262),
@@ -172,7 +174,10 @@ fn texts(rt: HostRuntime) -> Result<(), Fail> {
         ),
         (
             b"".as_slice(),
-            b"\tli\ta1,$7\n\tli\ta2,$8\n\tpush\ta2\n\tpush\ta1\n\tcall\t_f,$2\n\tadd\ta0,a0,a1\n\tla\ta3,0(sp)\n\tla\ta4,0(fp)\n\tbeq\ta3,a4,L0\n\tli\ta0,$0\nL0:\n\tret\n_f:\n\tenter\t$3\n\tlw\ta1,0(fp)\n\tlw\ta2,4(fp)\n\tsub\ta0,a2,a1\n\tret\n".as_slice(),
+            b"\tli\ta1,$7\n\tli\ta2,$8\n\tpush\ta2\n\tpush\ta1\n\tcall\t_f,$2\n\tadd\ta0,a0,a1\n\
+                \tla\ta3,0(sp)\n\tla\ta4,0(fp)\n\tbeq\ta3,a4,L0\n\tli\ta0,$0\nL0:\n\tret\n\
+                _f:\n\tenter\t$3\n\tlw\ta1,0(fp)\n\tlw\ta2,4(fp)\n\tsub\ta0,a2,a1\n\tret\n"
+                .as_slice(),
             5000,
             b"".as_slice(),
             ended(8),
