@@ -6,15 +6,19 @@
 # programs from the seed SEED (default 1) on, and texts of MIB (default 64) mebibytes.
 #
 # What is compared: a generated text is run before and behind the passes on one input; where its run isn't spent, both must leave the same
-# output, report and status, and else the output before must come. Of generated programs 50 stand in a source, which is compiled once; each
-# program is run on its input by the source's meaning and by each text that the passes make, and both must do the same (see
-# bench/compile.sh). Then it tells how many instructions the programs of examples/ execute without passes and behind them, and times each
-# pass on long texts: the time behind that of reading and writing a text is told beside the time of reading it.
+# output, report and status, and else the output before must come. Of generated programs 50 stand in a source, which is compiled once with
+# no pass; each program is run on its input by the source's meaning, by that text and by each one that the passes make of it, and all must
+# do the same (see bench/compile.sh). The four in their order must lead to the text that `ggvax compile` writes. Then it tells how many
+# instructions the programs of examples/ execute without passes and behind them, and times each pass on long texts: the time behind that of
+# reading and writing a text is told beside the time of reading it.
+#
+# No command compiles without the passes: that does `unpassed`, `ggvax` with an empty list of them. It is made of a copy of the crates in
+# which the lines that fill the list are left out, and `rt try` builds it once and runs it on all sources: as it is written, and not proved.
 #
 # VAX_REFERENCE names the folder of a plain runner, a Cargo project whose commands are `run A N` and `gentext S`, `genwild S`, and whose
 # modules are those that bench/passes_plain.rs names; C_REFERENCE that of a Cargo project whose command `gen SEED --memory-locals [--free]`
 # writes a C program. Where one isn't set or isn't there, nothing is compared with it. BUILT may name a folder with programs that were
-# built before; without `ggvax` there nothing is compiled.
+# built before, `unpassed` among them; without `ggvax` there nothing is compiled.
 set -eu
 . "$(dirname -- "$0")/common.sh"
 texts=${1:-1000}
@@ -26,6 +30,17 @@ rewriter=$(program_of example_pass)
 [ -n "$rewriter" ] || skip "BUILT names a folder without example_pass"
 program=$(program_of ggvax)
 [ -n "$program" ] || echo "there is no ggvax: no program is compiled"
+# The program `unpassed`, or the folder of its crate.
+unpassed=
+if [ -n "${BUILT:-}" ]; then
+    unpassed=$(program_of unpassed)
+fi
+if [ -n "$program" ] && [ -z "$unpassed" ]; then
+    mkdir "$work/copy"
+    (cd "$here" && tar -cf - --exclude=out --exclude=must-fail crates crates.txt HANDLES) | tar -xf - -C "$work/copy"
+    unpassed=$work/copy/crates/ggvax
+    sed -i '/^ *passes\.push(/d' "$unpassed/src/main.rt"
+fi
 runner=$(plain_of "${VAX_REFERENCE:-}")
 passes=
 if [ -n "$runner" ]; then
@@ -42,19 +57,22 @@ fi
 generator=$(plain_of "${C_REFERENCE:-}")
 [ -n "$generator" ] || echo "C_REFERENCE names no folder of a generator: no generated program is compared"
 
-python3 - "$rewriter" "$program" "$runner" "$passes" "$generator" "$work" "$here/examples" "$texts" "$programs" "$seed" "$mebibytes" <<'PY'
+python3 - "$rewriter" "$program" "$unpassed" "$runner" "$passes" "$generator" "$work" "$here/examples" \
+    "$texts" "$programs" "$seed" "$mebibytes" <<'PY'
 import glob
 import itertools
 import os
 import random
+import re
 import shutil
+import subprocess
 import sys
 
 from common import Done, answer, listed, put, written
 from generated import DONE, ENDS, REFUSED, SPENT, Program, difference, joined, least_steps, left_out, steps_of
 
-rewriter, program, runner, plain, generator, work, examples = sys.argv[1:8]
-texts, programs, first_seed, mebibytes = (int(word) for word in sys.argv[8:12])
+rewriter, program, unpassed, runner, plain, generator, work, examples = sys.argv[1:9]
+texts, programs, first_seed, mebibytes = (int(word) for word in sys.argv[9:13])
 # The shipped passes, in the order in which they are shipped.
 PASSES = ("chain", "next", "dead", "test")
 LISTS = [[name] for name in PASSES] + [list(order) for order in itertools.permutations(PASSES)] + [[name, name] for name in PASSES]
@@ -92,8 +110,9 @@ class Tally:
         self.wrong += 1
         print(line, flush=True)
 
-    def all_made(self, what, text):
-        """The texts that the lists make of a text, each once, by the first list that makes it."""
+    def all_made(self, what, text, shipped=None):
+        """The texts that the lists make of a text, each once, by the first list that makes it; those that are shipped, in their order, make
+        the text that is given for them."""
         put("before.s", text)
         wanted = by_plain("before.s") if plain else itertools.repeat(None)
         made = {}
@@ -102,6 +121,8 @@ class Tally:
             if plain_one and mine != plain_one:
                 same = "other numbers" if mine[0] == plain_one[0] else "another text"
                 self.differs(f"{what} by {'+'.join(names)}: {same}, {mine[1]}, wanted {plain_one[1]}")
+            if names == list(PASSES) and shipped not in (None, mine[0]):
+                self.differs(f"{what} by {'+'.join(names)}: not the text that is compiled")
             if len(names) == 1:
                 self.changes[names[0]] += sum(mine[1])
             made.setdefault(mine[0], names)
@@ -134,7 +155,7 @@ def compare_texts():
 
 
 def compiled(some):
-    """The text of a source of some programs, without those whose frames would be too long."""
+    """The text that `compile` writes of a source of some programs, without those whose frames would be too long."""
     while some:
         put("source.c", joined(some))
         done = Done([program, "compile", "vax.gg", "source.c"])
@@ -145,17 +166,45 @@ def compiled(some):
     return b""
 
 
-def compare_both_sides(tally, some, ends):
-    """The runs of each text that is made of some programs' text against the runs of their source."""
-    text = compiled(some)
+def generated_sources():
+    """Sources of generated programs, each with its programs and the text that `compile` writes of it. They stand in the folder of sources,
+    where they are named by their first program."""
+    chance, made = random.Random(first_seed), {}
+    for turn in range(0, programs, IN_A_SOURCE):
+        numbers = range(min(IN_A_SOURCE, programs - turn))
+        some = {number: Program(generator, first_seed, turn + number, chance) for number in numbers}
+        text = compiled(some)
+        if some:
+            shutil.move("source.c", f"sources/{turn}.c")
+            made[f"{turn}.c"] = some, text
+    return made
+
+
+def selected_texts():
+    """The text of each source of the folder with no pass, by its name."""
+    words, names = ["compile", "vax.gg", "/dev/stdin"], sorted(os.listdir("sources"))
+    if os.path.isfile(unpassed):
+        return {name: Done([unpassed, *words], open(f"sources/{name}", "rb").read()).written for name in names}
+    flags = ["--steps", "1000000000", "--seconds", "3600", "--data", f"vax.gg={work}/vax.gg", "--cases", f"{work}/sources"]
+    told = subprocess.run(["rt", "try", *flags, "--", *words], cwd=unpassed, stdout=subprocess.PIPE).stdout
+    _, *parts = re.split(rb"^== (.*)\n", told, flags=re.M)
+    found = {name.decode(): text for name, text in zip(parts[::2], parts[1::2])}
+    assert sorted(found) == names, sorted(found)
+    return found
+
+
+def compare_both_sides(tally, source, some, shipped, text, ends):
+    """The runs of each text that is made of some programs' text, and of that text, against the runs of their source."""
     meanings = {}
     for number, one in some.items():
         given = bytes([number]) + one.given
-        meanings[number] = given, Done([program, "meaning", "source.c", str(TURNS)], given)
+        meanings[number] = given, Done([program, "meaning", source, str(TURNS)], given)
         ends[meanings[number][1].status] = ends.get(meanings[number][1].status, 0) + 1
+    made = tally.all_made(str([one.words for one in some.values()]), text, shipped)
+    made.setdefault(text, ["none"])
     runs = 0
-    for made, names in tally.all_made(str([one.words for one in some.values()]), text).items():
-        put("text.s", made)
+    for made_one, names in made.items():
+        put("text.s", made_one)
         for number, (given, meaning) in meanings.items():
             runs += 1
             line = difference(meaning, Done([program, "run", "text.s", str(steps_of(meaning))], given))
@@ -164,27 +213,24 @@ def compare_both_sides(tally, some, ends):
     return runs
 
 
-def compare_programs():
-    chance, tally, ends, runs = random.Random(first_seed), Tally(), {}, 0
-    for turn in range(0, programs, IN_A_SOURCE):
-        numbers = range(min(IN_A_SOURCE, programs - turn))
-        some = {number: Program(generator, first_seed, turn + number, chance) for number in numbers}
-        runs += compare_both_sides(tally, some, ends)
-        print(f"{turn + len(numbers)} programs: {tally.wrong} differ so far", file=sys.stderr, flush=True)
+def compare_programs(sources, selected):
+    """The runs of generated programs by their meaning, by the texts of no pass, and by those that the passes make of them."""
+    tally, ends, runs = Tally(), {}, 0
+    for name, (some, shipped) in sources.items():
+        runs += compare_both_sides(tally, f"sources/{name}", some, shipped, selected[name], ends)
+        print(f"{sum(ends.values())} programs: {tally.wrong} differ so far", file=sys.stderr, flush=True)
     told = ", ".join(f"{count} {ENDS[end]}" for end, count in sorted(ends.items()))
     print(f"{tally.told('sources')}; {runs} runs of {sum(ends.values())} programs ({told}); {tally.wrong} differ", flush=True)
     return tally.wrong
 
 
-def count_examples():
+def count_examples(selected):
     """Instructions of the programs of examples/, without passes, behind each alone, and behind those that are shipped, in order."""
     lists = [[], *([name] for name in PASSES), list(PASSES)]
     print(f"| Program | none | {' | '.join(PASSES)} | {', '.join(PASSES)} |")
     print("|---|" + "---|" * len(lists))
     for path in sorted(glob.glob(f"{examples}/*.c")):
-        shutil.copy(path, "source.c")
-        text = Done([program, "compile", "vax.gg", "source.c"]).written
-        counts = []
+        text, counts = selected[os.path.basename(path)], []
         for names in lists if text else []:
             put("text.s", rewritten(names, text)[0])
             counts.append(f"{least_steps(program, 'text.s', b'AB'):,}")
@@ -233,8 +279,13 @@ def time_passes():
 shutil.copy(f"{examples}/vax.gg", "vax.gg")
 wrong = compare_texts() if runner and texts else 0
 if program:
-    wrong += compare_programs() if generator and programs else 0
-    count_examples()
+    os.mkdir("sources")
+    sources = generated_sources() if generator and programs else {}
+    for path in glob.glob(f"{examples}/*.c"):
+        shutil.copy(path, "sources")
+    selected = selected_texts()
+    wrong += compare_programs(sources, selected) if sources else 0
+    count_examples(selected)
 if mebibytes:
     time_passes()
 sys.exit(1 if wrong else 0)

@@ -37,6 +37,7 @@ put("hi.s", HI)
 put("echo.c", ECHO)
 put("many.c", MANY)
 put("hi.img", written([program, "image", "hi.s"]))
+ECHO_TEXT = written([program, "compile", description, "echo.c"])
 put(b"\xff\xfe.s", HI)
 put("a name\nof two lines.s", HI)
 os.symlink("loop.s", "loop.s")
@@ -74,6 +75,8 @@ REDIRECTIONS = (
     ("2>&-", ("run", "hi.s", "6"), SPENT, "Hi", ""),
     ("2>&-", CHECK, DONE, OK, ""),
     ("2>&-", NONE, FILE, "", ""),
+    ("2>&-", ("compile", description, "echo.c"), WRITE, ECHO_TEXT, ""),
+    ("2>&-", ("load", description, "1"), WRITE, "B\n", ""),
     (">&- 2>&-", RUN, WRITE, "", ""),
     ("<&- >&- 2>&-", RUN, INPUT, "", ""),
     ("<&- >&- 2>&-", NONE, FILE, "", ""),
@@ -86,6 +89,7 @@ REDIRECTIONS = (
     (">/dev/full 2>/dev/full", CHECK, WRITE, "", ""),
     # Streams that can't be read or written, an endless one, and one that gives nothing yet.
     ("<.", RUN, INPUT, "", "ggvax: input failed\n"),
+    ("0>hi.out", RUN, INPUT, "", "ggvax: input failed\n"),
     ("</dev/zero", RUN, LONG, "", LONG_INPUT),
     ("</dev/null", RUN, DONE, "Hi", ENDED),
     (">hi.out <hi.s", RUN, DONE, "", ENDED),
