@@ -50,7 +50,13 @@ abbrev pub low : Lowered → parts.Lowered
 low p = record { items = all_items p.items.items; tree = tree p.tree.value; temps = p.free.temps; labels = p.free.labels }
 
 abbrev pub two : Pair → parts.Pair
-two p = record { items = all_items p.items.items; first = tree p.first.value; second = tree p.second.value; temps = p.free.temps; labels = p.free.labels }
+two p = record {
+  items = all_items p.items.items;
+  first = tree p.first.value;
+  second = tree p.second.value;
+  temps = p.free.temps;
+  labels = p.free.labels;
+}
 
 abbrev pub storage : Storage → parts.Where
 storage (storages.Local n) = parts.InLoc n
@@ -63,7 +69,13 @@ destination destinations.Caller = parts.AsResult
 destination (destinations.Release pointer n) = parts.Releasing pointer n
 
 abbrev pub found : Located → parts.Located
-found p = record { items = all_items p.items.items; type = p.ctype; place = storage p.storage; temps = p.free.temps; labels = p.free.labels }
+found p = record {
+  items = all_items p.items.items;
+  type = p.ctype;
+  place = storage p.storage;
+  temps = p.free.temps;
+  labels = p.free.labels;
+}
 
 abbrev pub ready : Assignable → parts.Assignable
 ready p = record {

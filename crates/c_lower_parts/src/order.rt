@@ -53,7 +53,8 @@ pub fn join(frame: Frame, p: Lowered, q: Lowered) -> Result<Pair, NoMemory>
 
 // Whether the address is saved before a value that is assigned to it.
 fn must_hold(frame: Frame, between: bool, items: &Vec<Item>, w: &Tree, s: &Storage) -> bool
-    ensures { result ≡ assignments.must_hold frame.locals frame.functions between (all_items items.now.items) (tree w.now) (storage s.now) }
+    ensures { result ≡ assignments.must_hold frame.locals frame.functions between (all_items items.now.items)
+        (tree w.now) (storage s.now) }
 {
     match s {
         Storage::Local(_) => false,
