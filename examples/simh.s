@@ -30,16 +30,17 @@ fault:
 	movl	$2,%r1
 	halt
 
-# Writes the low byte of its argument, and answers that byte.
+# Writes the low byte of its argument, and answers that byte once it is out.
 	.globl	_putchar
 _putchar:
 	.word	0
+	movzbl	4(%ap),%r0
+	mtpr	%r0,$35
 wait_to_write:
-	mfpr	$34,%r0         # the console's transmitter is ready by bit 7
+	mfpr	$34,%r0         # the console's transmitter is done by bit 7
 	tstb	%r0
 	bgeq	wait_to_write
 	movzbl	4(%ap),%r0
-	mtpr	%r0,$35
 	ret
 
 # Answers the next byte of the input, or -1 at its end, which is a Control-D and stays the end.
@@ -62,7 +63,6 @@ over:
 read:
 	ret
 
-	.data
 	.p2align 2
-is_over:
+is_over:                        # in the code's section, so that the data area is the text's alone
 	.long	0
