@@ -1,7 +1,7 @@
 #!/bin/sh
-# Types the commands of the pages that a reader follows, and compares what the programs say with what the pages say: the lines behind a `$` of
-# README.md, docs/first-description.md and docs/commands.md. Standard output and standard error are taken as one. It tells each command
-# whose answer is another one, and how many were compared.
+# Types the commands of the pages that a reader follows, and compares what the programs say with what the pages say: the lines behind a `$`
+# of README.md, docs/first-description.md and docs/commands.md. Standard output and standard error are taken as one. It tells each command
+# whose answer is another one, and how many were typed.
 # Usage: bench/tutorial.sh [PAGE ..] (default: these three)
 # BUILT may name a folder with programs that were built before; where it lacks `ggdesk`, the commands that need it are left out.
 set -eu
