@@ -6,11 +6,12 @@
 # programs from the seed SEED (default 1) on, and texts of MIB (default 64) mebibytes.
 #
 # What is compared: a generated text is run before and behind the passes on one input; where its run isn't spent, both must leave the same
-# output, report and status, and else the output before must come. Of generated programs 50 stand in a source, which is compiled once with
+# output, report and status, and else the output before must come. Of generated programs 20 stand in a source, which is compiled once with
 # no pass; each program is run on its input by the source's meaning, by that text and by each one that the passes make of it, and all must
-# do the same (see bench/compile.sh). The four in their order must lead to the text that `ggvax compile` writes. Then it tells how many
-# instructions the programs of examples/ execute without passes and behind them, and times each pass on long texts: the time behind that of
-# reading and writing a text is told beside the time of reading it.
+# do the same (see bench/compile.sh). The four in their order must lead to the text that `ggvax compile` writes. The plain program, whose
+# time grows with the square of a text, makes of such a text what each pass alone makes of it, and of a generated one what each list does.
+# Then the script tells how many instructions the programs of examples/ execute without passes and behind them, and times each pass on long
+# texts: the time behind that of reading and writing a text is told beside the time of reading it.
 #
 # No command compiles without the passes: that does `unpassed`, `ggvax` with an empty list of them. It is made of a copy of the crates in
 # which the lines that fill the list are left out, and `rt try` builds it once and runs it on all sources: as it is written, and not proved.
@@ -75,8 +76,9 @@ rewriter, program, unpassed, runner, plain, generator, work, examples = sys.argv
 texts, programs, first_seed, mebibytes = (int(word) for word in sys.argv[9:13])
 # The shipped passes, in the order in which they are shipped.
 PASSES = ("chain", "next", "dead", "test")
-LISTS = [[name] for name in PASSES] + [list(order) for order in itertools.permutations(PASSES)] + [[name, name] for name in PASSES]
-IN_A_SOURCE = 50
+ALONE = [[name] for name in PASSES]
+LISTS = ALONE + [list(order) for order in itertools.permutations(PASSES)] + [[name, name] for name in PASSES]
+IN_A_SOURCE = 20
 TURNS = 20_000
 os.chdir(work)
 
@@ -88,10 +90,10 @@ def rewritten(names, text):
     return made, [int(line.split(b": ")[1]) for line in report.splitlines()]
 
 
-def by_plain(path):
-    """The same by the plain program, of the text in a file and for each list."""
-    told = written([plain, path, *("+".join(names) for names in LISTS)])
-    for names in LISTS:
+def by_plain(path, lists):
+    """The same by the plain program, of the text in a file and for each of some lists."""
+    told = written([plain, path, *("+".join(names) for names in lists)])
+    for names in lists:
         line, _, told = told.partition(b"\n")
         *changes, length = (int(word) for word in line.split())
         yield told[:length], changes
@@ -110,13 +112,13 @@ class Tally:
         self.wrong += 1
         print(line, flush=True)
 
-    def all_made(self, what, text, shipped=None):
-        """The texts that the lists make of a text, each once, by the first list that makes it; those that are shipped, in their order, make
-        the text that is given for them."""
+    def all_made(self, what, text, compared, shipped=None):
+        """The texts that the lists make of a text, each once, by the first list that makes it. Of the first lists, those that are compared
+        with the plain program, it has the same texts; those that are shipped, in their order, make the text that is given for them."""
         put("before.s", text)
-        wanted = by_plain("before.s") if plain else itertools.repeat(None)
+        wanted = by_plain("before.s", compared) if plain else []
         made = {}
-        for names, plain_one in zip(LISTS, wanted):
+        for names, plain_one in itertools.zip_longest(LISTS, wanted):
             mine = rewritten(names, text)
             if plain_one and mine != plain_one:
                 same = "other numbers" if mine[0] == plain_one[0] else "another text"
@@ -144,7 +146,7 @@ def compare_texts():
         put("text.s", text)
         before = answer([runner, "run", "text.s", "100000"], given)
         statuses[before[0]] = statuses.get(before[0], 0) + 1
-        for made, names in tally.all_made(" ".join(words), text).items():
+        for made, names in tally.all_made(" ".join(words), text, LISTS).items():
             put("text.s", made)
             behind = answer([runner, "run", "text.s", "100000"], given)
             same = behind[1].startswith(before[1]) if before[0] == SPENT else behind == before
@@ -200,7 +202,7 @@ def compare_both_sides(tally, source, some, shipped, text, ends):
         given = bytes([number]) + one.given
         meanings[number] = given, Done([program, "meaning", source, str(TURNS)], given)
         ends[meanings[number][1].status] = ends.get(meanings[number][1].status, 0) + 1
-    made = tally.all_made(str([one.words for one in some.values()]), text, shipped)
+    made = tally.all_made(str([one.words for one in some.values()]), text, ALONE, shipped)
     made.setdefault(text, ["none"])
     runs = 0
     for made_one, names in made.items():

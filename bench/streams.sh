@@ -37,7 +37,7 @@ put("hi.s", HI)
 put("echo.c", ECHO)
 put("many.c", MANY)
 put("hi.img", written([program, "image", "hi.s"]))
-ECHO_TEXT = written([program, "compile", description, "echo.c"])
+ECHO_TEXT = answer([program, "compile", description, "echo.c"])[1]
 put(b"\xff\xfe.s", HI)
 put("a name\nof two lines.s", HI)
 os.symlink("loop.s", "loop.s")
