@@ -160,13 +160,14 @@ def slowly(stream, content, pause):
     stream.close()
 
 
-def without_reader(words):
-    """The answer of a command whose output's reader left before it began."""
+def without_reader(words, stream="stdout"):
+    """The answer of a command of which the reader of one output left before it began."""
     reader, writer = os.pipe()
     os.close(reader)
-    done = subprocess.run([program, *words], stdin=subprocess.DEVNULL, stdout=writer, stderr=subprocess.PIPE)
+    outputs = {"stdout": subprocess.PIPE, "stderr": subprocess.PIPE, stream: writer}
+    done = subprocess.run([program, *words], stdin=subprocess.DEVNULL, **outputs)
     os.close(writer)
-    return done.returncode, b"", done.stderr
+    return done.returncode, done.stdout or b"", done.stderr or b""
 
 
 def limited(words, length):
@@ -194,6 +195,7 @@ def through_pipe(content, *words, **more):
 
 # Pipes: without a reader, with one that leaves, and slow ones.
 see("no reader", without_reader(RUN), WRITE, "", FAILED)
+see("no reader of the report", without_reader(RUN, "stderr"), WRITE, "Hi")
 see("no reader, nothing written", without_reader(("run", "hi.s", "1")), SPENT, "", "spent 1\n")
 gone = Running("meaning", "many.c", "1000000")
 gone.close()
