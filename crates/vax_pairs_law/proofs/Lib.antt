@@ -1,0 +1,11 @@
+pub mod Walking
+pub mod Frames
+pub mod Nearing
+pub mod Calling
+pub mod Beginning
+pub mod Meeting
+pub mod Telling
+pub mod Operating
+pub mod Computing
+pub mod Running
+pub mod Doing
