@@ -1,0 +1,4 @@
+pub mod Choosing
+pub mod Homing
+pub mod Nothing
+pub mod Rows
