@@ -1,0 +1,4 @@
+pub mod Sizes
+pub mod Bytes
+pub mod Zeros
+pub mod Law
