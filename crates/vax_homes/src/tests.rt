@@ -75,6 +75,7 @@ fn a_local_whose_address_is_taken_stays(rt: HostRuntime) -> Result<(), Fail> {
     let Ok(body) = homed(alloc, &f, body) else {
         return Ok(());
     };
+    assert_eq!(rt; body.len(), 3);
     assert_eq!(rt; mode_of(&body[0]), Some(Mode::Displacement));
     assert_eq!(rt; mode_of(&body[1]), Some(Mode::DisplacementDeferred));
     Ok(())
