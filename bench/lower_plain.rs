@@ -12,17 +12,17 @@ mod typed;
 use std::io::Write;
 
 fn program(source: &str) -> typed::Program {
-    let options = typed::Opts { memory: false, declare_first: false };
+    let options = typed::Opts { memory: true, declare_first: false };
     let list = tokens::tokens(source.as_bytes()).ok().expect("tokens");
     let unit = syntax::parse(&list).ok().expect("phrases");
     typed::check(&unit, options).ok().expect("types")
 }
 
-/// Of each three programs one is free to trap, to be wild and to go on forever.
+/// Of each three programs two are free to trap, to be wild and to go on forever; of each two one may have memory locals.
 fn generate(seed: u64, count: u64) -> String {
     let mut table = String::new();
     for turn in seed..seed + count {
-        let made = gen::program(turn, 20, turn % 3 != 0, false);
+        let made = gen::program(turn, 20, turn % 3 != 0, turn % 2 != 0);
         table.push_str(&format!("# {turn}\n"));
         for line in made.lines().filter(|line| !line.is_empty()) {
             table.push_str(line);
@@ -38,7 +38,7 @@ fn show(source: &str) -> String {
     let mut text = String::new();
     for (routine, function) in typed.funcs.iter().zip(&lower::lower(&typed).functions) {
         let (name, args, locals) = (&function.name, function.args, function.locals);
-        let (need, automatic) = (routine.need, routine.locs);
+        let (need, automatic) = (routine.need, routine.locs + routine.has_mem as u32);
         text.push_str(&format!("function {name} args {args} locals {locals} need {need} automatic {automatic}\n"));
         for item in &function.items {
             match item {
