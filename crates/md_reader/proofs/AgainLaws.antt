@@ -48,44 +48,44 @@ use Rattle.md_reader.specs.State.{State, Content}
 use Rattle.md_reader.specs.HeadSteps.{line_at, has_stmt, stage_behind, spill_line}
 use Rattle.md_reader.specs.RuleSteps.{rule_step, ended_rule, give_line}
 use Rattle.md_reader.specs.Steps.{step_at, step}
-use Rattle.md_reader.specs.Reads.{start, content_of, taken, read_from, line_behind, read, Answers}
+use Rattle.md_reader.specs.Reads.{start, content_of, taken, read_from, line_behind, read_for, Answers}
 use Rattle.md_reader.specs.Valid.{Away, Apart, IsNamed, AreClasses, IsSpill, AreSides, MayRestrict, MayWrite, MayGive, IsRule, IsValid}
-use Rattle.md_reader.specs.Desc.{Form, Version, Target, Pool, Declares, Saves, Head, Restricts, Writes, Gives, kind_words, saved_words, IsSaved, GiveWord, IsGive, Says}
-use Rattle.md_reader.specs.Desc.{name_at, symbol_word, saving, ruling, telling, not_skipped, Tell, Desc, Refused}
+use Rattle.md_reader.specs.Telling.{Form, Version, Target, Pool, Declares, Saves, Head, Restricts, Writes, Gives, name_at, symbol_word, saving, ruling, telling}
+use Rattle.md_reader.specs.Desc.{kind_words, saved_words, IsSaved, GiveWord, IsGive, Says, not_skipped, Tell, DescFor, RefusedFor}
 use Rattle.md_reader.proofs.PatternLaws.{tree_exactly, sorted_back}
 use Rattle.md_reader.proofs.Inversion.{ok_same, same_refl, not_same}
 
 -- whatever lines say these forms, the content is read
-Runs : State → List Form → Content → Type 0
-Runs s fs d = (n : ℕ) (ls : List ExpandedLine) → Tell (not_skipped ls) fs → read_from None n s ls ≡ Ok d
+Runs : (target : List ℕ) → State → List Form → Content → Type 0
+Runs target s fs d = (n : ℕ) (ls : List ExpandedLine) → Tell target (not_skipped ls) fs → read_from target None n s ls ≡ Ok d
 
-runs_nil : (s : State) (d : Content) → s.stage ≡ stage.Rules → 1 ≤ length s.rules → content_of s ≡ d → Runs s [] d
+runs_nil : (target : List ℕ) (s : State) (d : Content) → s.stage ≡ stage.Rules → 1 ≤ length s.rules → content_of s ≡ d → Runs target s [] d
 unfolding Runs
-runs_nil s d g some e = λ n ls c. go n ls c
+runs_nil target s d g some e = λ n ls c. go n ls c
   where
-    go : (n : ℕ) (ls : List ExpandedLine) → Tell (not_skipped ls) [] → read_from None n s ls ≡ Ok d
+    go : (n : ℕ) (ls : List ExpandedLine) → Tell target (not_skipped ls) [] → read_from target None n s ls ≡ Ok d
     go n [] c = let k = le-leb 1 (length s.rules) some in rw (g, k, ← e) refl
     go n (l ∷ ls) c = at (is_skipped (words l.bytes)) c (go n ls)
       where
-        at : (b : Bool) → Tell (cond b (not_skipped ls) ((l.from, words l.bytes) ∷ not_skipped ls)) [] → (Tell (not_skipped ls) [] → read_from None n s ls ≡ Ok d)
-            → taken l.from (cond b (Ok s) (step_at s.stage s l.from (words l.bytes) (register_behind ls))) (λ (t : State). read_from None n t ls) ≡ Ok d
+        at : (b : Bool) → Tell target (cond b (not_skipped ls) ((l.from, words l.bytes) ∷ not_skipped ls)) [] → (Tell target (not_skipped ls) [] → read_from target None n s ls ≡ Ok d)
+            → taken l.from (cond b (Ok s) (step_at target s.stage s l.from (words l.bytes) (register_behind ls))) (λ (t : State). read_from target None n t ls) ≡ Ok d
         at true c k = k c
         at false c k = absurd c
 
 -- what a line comes to that says this, in front of lines that say those
-abbrev Steps : State → Form → List Form → State → Type 0
-Steps s f fs t = (n : ℕ) (ws : List (List ℕ)) (ls : List ExpandedLine) → Tell (not_skipped ls) fs → Says n ws f → step s n ws (register_behind ls) ≡ Ok t
+abbrev Steps : (target : List ℕ) → State → Form → List Form → State → Type 0
+Steps target s f fs t = (n : ℕ) (ws : List (List ℕ)) (ls : List ExpandedLine) → Tell target (not_skipped ls) fs → Says target n ws f → step target s n ws (register_behind ls) ≡ Ok t
 
-runs_cons : (s t : State) (f : Form) (fs : List Form) (d : Content) → Steps s f fs t → Runs t fs d → Runs s (f ∷ fs) d
+runs_cons : (target : List ℕ) (s t : State) (f : Form) (fs : List Form) (d : Content) → Steps target s f fs t → Runs target t fs d → Runs target s (f ∷ fs) d
 unfolding Runs
-runs_cons s t f fs d e h = λ n ls c. go n ls c
+runs_cons target s t f fs d e h = λ n ls c. go n ls c
   where
-    go : (n : ℕ) (ls : List ExpandedLine) → Tell (not_skipped ls) (f ∷ fs) → read_from None n s ls ≡ Ok d
+    go : (n : ℕ) (ls : List ExpandedLine) → Tell target (not_skipped ls) (f ∷ fs) → read_from target None n s ls ≡ Ok d
     go n [] c = absurd c
     go n (l ∷ ls) c = at (is_skipped (words l.bytes)) c (go n ls)
       where
-        at : (b : Bool) → Tell (cond b (not_skipped ls) ((l.from, words l.bytes) ∷ not_skipped ls)) (f ∷ fs) → (Tell (not_skipped ls) (f ∷ fs) → read_from None n s ls ≡ Ok d)
-            → taken l.from (cond b (Ok s) (step_at s.stage s l.from (words l.bytes) (register_behind ls))) (λ (t : State). read_from None n t ls) ≡ Ok d
+        at : (b : Bool) → Tell target (cond b (not_skipped ls) ((l.from, words l.bytes) ∷ not_skipped ls)) (f ∷ fs) → (Tell target (not_skipped ls) (f ∷ fs) → read_from target None n s ls ≡ Ok d)
+            → taken l.from (cond b (Ok s) (step_at target s.stage s l.from (words l.bytes) (register_behind ls))) (λ (t : State). read_from target None n t ls) ≡ Ok d
         at true c k = k c
         at false c k = rw (e l.from (words l.bytes) ls c.1 c.0) (h n ls c.1)
 
@@ -123,19 +123,19 @@ All-mid (p ∷ pre) c post h = All-mid pre c post h.1
 abbrev declaring : ℕ → List Class → State
 declaring m cs = record { stage = stage.Classes; pool = m; classes = cs; spills = []; rules = []; left = 0; right = []; restrictions = []; lines = []; register = false }
 
-class_again : (m : ℕ) (pre : List Class) (c : Class) (post : List Class) (fs : List Form) → AreClasses (pre ++ c ∷ post) → Steps (declaring m pre) (Declares c) fs (declaring m (pre ++ c ∷ []))
-class_again m pre c post fs h n ws ls r e =
+class_again : (target : List ℕ) (m : ℕ) (pre : List Class) (c : Class) (post : List Class) (fs : List Form) → AreClasses (pre ++ c ∷ post) → Steps target (declaring m pre) (Declares c) fs (declaring m (pre ++ c ∷ []))
+class_again target m pre c post fs h n ws ls r e =
     let a = All-mid pre c post h.named in
     let few = h.few in
     let b = lt-leb 64 (length pre) (omega (arith, few, length-append pre (c ∷ post))) in
     let f = not_found 0 pre c post h.apart in
     rw (e, a, kind_again c.kind, b, f) refl
 
-classes_run : (m : ℕ) (pre post : List Class) (fs : List Form) (d : Content) → AreClasses (pre ++ post) → Runs (declaring m (pre ++ post)) fs d → Runs (declaring m pre) (map Declares post ++ fs) d
-classes_run m pre [] fs d h runs = rw (append-nil pre) at runs
-classes_run m pre (c ∷ post) fs d h runs =
+classes_run : (target : List ℕ) (m : ℕ) (pre post : List Class) (fs : List Form) (d : Content) → AreClasses (pre ++ post) → Runs target (declaring m (pre ++ post)) fs d → Runs target (declaring m pre) (map Declares post ++ fs) d
+classes_run target m pre [] fs d h runs = rw (append-nil pre) at runs
+classes_run target m pre (c ∷ post) fs d h runs =
     let a = append_assoc pre (c ∷ []) post in
-    runs_cons (declaring m pre) (declaring m (pre ++ c ∷ [])) (Declares c) _ d (class_again m pre c post _ h) (classes_run m (pre ++ c ∷ []) post fs d (rw a h) (rw a runs))
+    runs_cons target (declaring m pre) (declaring m (pre ++ c ∷ [])) (Declares c) _ d (class_again target m pre c post _ h) (classes_run target m (pre ++ c ∷ []) post fs d (rw a h) (rw a runs))
 
 -- the eight lines
 spill_again : (x : Saved) (ws : List (List ℕ)) → spill_form (saved_words x ++ ws) ≡ Some (x, ws)
@@ -173,38 +173,38 @@ instruction_again g m cs pre l n ws st fit i =
     let p = eqb_same (saved_number i.saved) (length pre) i.place in
     rw (k.stands, spill_again i.saved k.words, p, st, k.joined, k.pieces, fit, line_again n l k.number) refl
 
-saved_again : (m : ℕ) (cs : List Class) (pre : List Line) (l : Line) (fs : List Form) → has_stmt cs ≡ true → IsSpill l → 1 ≤ length pre
-    → Steps (saves stage.Spills m cs pre) (Saves (length pre) l) fs (saves (stage_behind pre) m cs (pre ++ l ∷ []))
-saved_again m cs pre l fs st fit some n ws ls r e = instruction_again stage.Spills m cs pre l n ws st fit e
+saved_again : (target : List ℕ) (m : ℕ) (cs : List Class) (pre : List Line) (l : Line) (fs : List Form) → has_stmt cs ≡ true → IsSpill l → 1 ≤ length pre
+    → Steps target (saves stage.Spills m cs pre) (Saves (length pre) l) fs (saves (stage_behind pre) m cs (pre ++ l ∷ []))
+saved_again target m cs pre l fs st fit some n ws ls r e = instruction_again stage.Spills m cs pre l n ws st fit e
 
-first_again : (m : ℕ) (cs : List Class) (l : Line) (fs : List Form) → has_stmt cs ≡ true → IsSpill l → Steps (declaring m cs) (Saves 0 l) fs (saves stage.Spills m cs (l ∷ []))
-first_again m cs l fs st fit n ws ls r e =
+first_again : (target : List ℕ) (m : ℕ) (cs : List Class) (l : Line) (fs : List Form) → has_stmt cs ≡ true → IsSpill l → Steps target (declaring m cs) (Saves 0 l) fs (saves stage.Spills m cs (l ∷ []))
+first_again target m cs l fs st fit n ws ls r e =
     let k = e.instruction in
     rw (k.stands, no_class e.saved k.words) (instruction_again stage.Classes m cs [] l n (saved_words e.saved ++ k.words) st fit (rw k.stands at e))
 
-saves_run : (m : ℕ) (cs : List Class) (pre post : List Line) (fs : List Form) (d : Content) → has_stmt cs ≡ true → AllByRecursion IsSpill post → 1 ≤ length pre → 1 ≤ length post
-    → length pre + length post ≡ 8 → Runs (saves stage.Rules m cs (pre ++ post)) fs d → Runs (saves stage.Spills m cs pre) (saving (length pre) post ++ fs) d
-saves_run m cs pre [] fs d st h some more eight runs = absurd (omega (arith, more))
-saves_run m cs pre (l ∷ []) fs d st h some more eight runs =
+saves_run : (target : List ℕ) (m : ℕ) (cs : List Class) (pre post : List Line) (fs : List Form) (d : Content) → has_stmt cs ≡ true → AllByRecursion IsSpill post → 1 ≤ length pre → 1 ≤ length post
+    → length pre + length post ≡ 8 → Runs target (saves stage.Rules m cs (pre ++ post)) fs d → Runs target (saves stage.Spills m cs pre) (saving (length pre) post ++ fs) d
+saves_run target m cs pre [] fs d st h some more eight runs = absurd (omega (arith, more))
+saves_run target m cs pre (l ∷ []) fs d st h some more eight runs =
     let k : length pre ≡ 7 = omega (arith, eight) in
     let q : stage_behind pre ≡ stage.Rules = rw (eqb_same (length pre) 7 k) refl in
-    runs_cons (saves stage.Spills m cs pre) (saves (stage_behind pre) m cs (pre ++ l ∷ [])) (Saves (length pre) l) fs d (saved_again m cs pre l fs st h.0 some) (rw q runs)
-saves_run m cs pre (l ∷ p ∷ post) fs d st h some more eight runs =
+    runs_cons target (saves stage.Spills m cs pre) (saves (stage_behind pre) m cs (pre ++ l ∷ [])) (Saves (length pre) l) fs d (saved_again target m cs pre l fs st h.0 some) (rw q runs)
+saves_run target m cs pre (l ∷ p ∷ post) fs d st h some more eight runs =
     let k = ne_eqb (length pre) 7 (λ e. absurd (omega (arith, eight, e))) in
     let q : stage_behind pre ≡ stage.Spills = rw k refl in
     let len = length-append pre (l ∷ []) in
     let z : length (pre ++ l ∷ []) ≡ length pre + 1 = omega (arith, len) in
     let a = append_assoc pre (l ∷ []) (p ∷ post) in
-    let rest : Runs (saves stage.Spills m cs (pre ++ l ∷ [])) (saving (length (pre ++ l ∷ [])) (p ∷ post) ++ fs) d =
-    saves_run m cs (pre ++ l ∷ []) (p ∷ post) fs d st h.1 (omega (arith, len)) (omega arith) (omega (arith, eight, len)) (rw a runs) in
-    runs_cons (saves stage.Spills m cs pre) (saves (stage_behind pre) m cs (pre ++ l ∷ [])) (Saves (length pre) l) _ d (saved_again m cs pre l _ st h.0 some) (rw q (rw z at rest))
+    let rest : Runs target (saves stage.Spills m cs (pre ++ l ∷ [])) (saving (length (pre ++ l ∷ [])) (p ∷ post) ++ fs) d =
+    saves_run target m cs (pre ++ l ∷ []) (p ∷ post) fs d st h.1 (omega (arith, len)) (omega arith) (omega (arith, eight, len)) (rw a runs) in
+    runs_cons target (saves stage.Spills m cs pre) (saves (stage_behind pre) m cs (pre ++ l ∷ [])) (Saves (length pre) l) _ d (saved_again target m cs pre l _ st h.0 some) (rw q (rw z at rest))
 
-spills_run : (m : ℕ) (cs : List Class) (spills : List Line) (fs : List Form) (d : Content) → has_stmt cs ≡ true → AllByRecursion IsSpill spills → length spills ≡ 8
-    → Runs (saves stage.Rules m cs spills) fs d → Runs (declaring m cs) (saving 0 spills ++ fs) d
-spills_run m cs [] fs d st h eight runs = absurd (omega (arith, eight))
-spills_run m cs (l ∷ ls) fs d st h eight runs =
-    runs_cons (declaring m cs) (saves stage.Spills m cs (l ∷ [])) (Saves 0 l) _ d (first_again m cs l _ st h.0)
-    (saves_run m cs (l ∷ []) ls fs d st h.1 (omega arith) (omega (arith, eight)) (omega (arith, eight)) runs)
+spills_run : (target : List ℕ) (m : ℕ) (cs : List Class) (spills : List Line) (fs : List Form) (d : Content) → has_stmt cs ≡ true → AllByRecursion IsSpill spills → length spills ≡ 8
+    → Runs target (saves stage.Rules m cs spills) fs d → Runs target (declaring m cs) (saving 0 spills ++ fs) d
+spills_run target m cs [] fs d st h eight runs = absurd (omega (arith, eight))
+spills_run target m cs (l ∷ ls) fs d st h eight runs =
+    runs_cons target (declaring m cs) (saves stage.Spills m cs (l ∷ [])) (Saves 0 l) _ d (first_again target m cs l _ st h.0)
+    (saves_run target m cs (l ∷ []) ls fs d st h.1 (omega arith) (omega (arith, eight)) (omega (arith, eight)) runs)
 
 -- the words of a rule's head
 starts_capital : List ℕ → Bool
@@ -380,22 +380,22 @@ passed_skip (a ∷ ws) x y e = rw e refl
 given_here : (n : ℕ) (ws : List (List ℕ)) (g : Give) (x : Bool) → IsGive n ws g → cond (is_passed ws) x (gives_register (give_form ws)) ≡ has_register (Some g)
 given_here n ws g x k = rw k.stands (has_register_word n k.word g k.says)
 
-flagged : (ls : List ExpandedLine) (rs : List Restriction) (ws : List Line) (g : Give) (fs : List Form) → Tell (not_skipped ls) (map Restricts rs ++ (map Writes ws ++ Gives g ∷ fs))
+flagged : (target : List ℕ) (ls : List ExpandedLine) (rs : List Restriction) (ws : List Line) (g : Give) (fs : List Form) → Tell target (not_skipped ls) (map Restricts rs ++ (map Writes ws ++ Gives g ∷ fs))
     → register_behind ls ≡ has_register (Some g)
-flagged [] [] [] g fs c = absurd c
-flagged [] [] (w ∷ ws) g fs c = absurd c
-flagged [] (r ∷ rs) ws g fs c = absurd c
-flagged (l ∷ ls) rs ws g fs c = at (is_skipped (words l.bytes)) refl c (λ rs ws k. flagged ls rs ws g fs k)
+flagged target [] [] [] g fs c = absurd c
+flagged target [] [] (w ∷ ws) g fs c = absurd c
+flagged target [] (r ∷ rs) ws g fs c = absurd c
+flagged target (l ∷ ls) rs ws g fs c = at (is_skipped (words l.bytes)) refl c (λ rs ws k. flagged target ls rs ws g fs k)
   where
-    here : (rs : List Restriction) (ws : List Line) → Tell ((l.from, words l.bytes) ∷ not_skipped ls) (map Restricts rs ++ (map Writes ws ++ Gives g ∷ fs))
-        → ((rs : List Restriction) (ws : List Line) → Tell (not_skipped ls) (map Restricts rs ++ (map Writes ws ++ Gives g ∷ fs)) → register_behind ls ≡ has_register (Some g))
+    here : (rs : List Restriction) (ws : List Line) → Tell target ((l.from, words l.bytes) ∷ not_skipped ls) (map Restricts rs ++ (map Writes ws ++ Gives g ∷ fs))
+        → ((rs : List Restriction) (ws : List Line) → Tell target (not_skipped ls) (map Restricts rs ++ (map Writes ws ++ Gives g ∷ fs)) → register_behind ls ≡ has_register (Some g))
         → register_behind (l ∷ ls) ≡ has_register (Some g)
     here [] [] c k = given_here l.from (words l.bytes) g (register_behind ls) c.0
     here [] (w ∷ ws) c k = passed_do (words l.bytes) c.0.words _ _ c.0.stands ∙ k [] ws c.1
     here (r ∷ rs) ws c k = passed_if (words l.bytes) c.0.words _ _ c.0.stands ∙ k rs ws c.1
 
-    at : (b : Bool) → is_skipped (words l.bytes) ≡ b → Tell (cond b (not_skipped ls) ((l.from, words l.bytes) ∷ not_skipped ls)) (map Restricts rs ++ (map Writes ws ++ Gives g ∷ fs))
-        → ((rs : List Restriction) (ws : List Line) → Tell (not_skipped ls) (map Restricts rs ++ (map Writes ws ++ Gives g ∷ fs)) → register_behind ls ≡ has_register (Some g))
+    at : (b : Bool) → is_skipped (words l.bytes) ≡ b → Tell target (cond b (not_skipped ls) ((l.from, words l.bytes) ∷ not_skipped ls)) (map Restricts rs ++ (map Writes ws ++ Gives g ∷ fs))
+        → ((rs : List Restriction) (ws : List Line) → Tell target (not_skipped ls) (map Restricts rs ++ (map Writes ws ++ Gives g ∷ fs)) → register_behind ls ≡ has_register (Some g))
         → register_behind (l ∷ ls) ≡ has_register (Some g)
     at true f c k = passed_skip (words l.bytes) _ _ f ∙ k rs ws c
     at false f c k = here rs ws c k
@@ -446,42 +446,42 @@ head_form : (class : List ℕ) (ss : List (List ℕ)) (cs : List Class) (right :
 head_form class ss cs [] e c = absurd (false≢true c)
 head_form class ss cs (x ∷ xs) e c = rw e refl
 
-head_again : (s : State) (r : Rule) (fs : List Form) → s.stage ≡ stage.Rules → AreClasses s.classes → AreSides s.classes r.left r.right → length s.rules ≤ 999
-    → Steps s (Head (name_at s.classes r.left) (map (symbol_word s.classes) r.right)) (map Restricts r.restrictions ++ (map Writes r.lines ++ Gives r.give ∷ fs)) (inside s r [] [])
-head_again s r fs g h k few n ws ls c e =
-    let q = flagged ls r.restrictions r.lines r.give fs c in
+head_again : (target : List ℕ) (s : State) (r : Rule) (fs : List Form) → s.stage ≡ stage.Rules → AreClasses s.classes → AreSides s.classes r.left r.right → length s.rules ≤ 999
+    → Steps target s (Head (name_at s.classes r.left) (map (symbol_word s.classes) r.right)) (map Restricts r.restrictions ++ (map Writes r.lines ++ Gives r.give ∷ fs)) (inside s r [] [])
+head_again target s r fs g h k few n ws ls c e =
+    let q = flagged target ls r.restrictions r.lines r.give fs c in
     let t = (tree_exactly r.right (count 1 r.right) refl).1 k.tree in
     rw (g, e, head_form (name_at s.classes r.left) (map (symbol_word s.classes) r.right) s.classes r.right refl t) (head_taken s r (register_behind ls) h k few q)
 
-if_again : (s : State) (r : Rule) (pre : List Restriction) (p : Restriction) (fs : List Form) → MayRestrict s.classes r.right p → length pre ≤ 3
-    → Steps (inside s r pre []) (Restricts p) fs (inside s r (pre ++ p ∷ []) [])
-if_again s r pre p fs h few n ws ls c e =
+if_again : (target : List ℕ) (s : State) (r : Rule) (pre : List Restriction) (p : Restriction) (fs : List Form) → MayRestrict s.classes r.right p → length pre ≤ 3
+    → Steps target (inside s r pre []) (Restricts p) fs (inside s r (pre ++ p ∷ []) [])
+if_again target s r pre p fs h few n ws ls c e =
     let b = lt-leb 4 (length pre) (omega (arith, few)) in
     rw (e.stands, e.says, b, h) refl
 
-ifs_run : (s : State) (r : Rule) (pre post : List Restriction) (fs : List Form) (d : Content) → AllByRecursion (MayRestrict s.classes r.right) post → length pre + length post ≤ 4
-    → Runs (inside s r (pre ++ post) []) fs d → Runs (inside s r pre []) (map Restricts post ++ fs) d
-ifs_run s r pre [] fs d h few runs = rw (append-nil pre) at runs
-ifs_run s r pre (p ∷ post) fs d h few runs =
+ifs_run : (target : List ℕ) (s : State) (r : Rule) (pre post : List Restriction) (fs : List Form) (d : Content) → AllByRecursion (MayRestrict s.classes r.right) post → length pre + length post ≤ 4
+    → Runs target (inside s r (pre ++ post) []) fs d → Runs target (inside s r pre []) (map Restricts post ++ fs) d
+ifs_run target s r pre [] fs d h few runs = rw (append-nil pre) at runs
+ifs_run target s r pre (p ∷ post) fs d h few runs =
     let a = append_assoc pre (p ∷ []) post in
     let len = length-append pre (p ∷ []) in
-    runs_cons (inside s r pre []) (inside s r (pre ++ p ∷ []) []) (Restricts p) _ d (if_again s r pre p _ h.0 (omega (arith, few)))
-    (ifs_run s r (pre ++ p ∷ []) post fs d h.1 (omega (arith, few, len)) (rw a runs))
+    runs_cons target (inside s r pre []) (inside s r (pre ++ p ∷ []) []) (Restricts p) _ d (if_again target s r pre p _ h.0 (omega (arith, few)))
+    (ifs_run target s r (pre ++ p ∷ []) post fs d h.1 (omega (arith, few, len)) (rw a runs))
 
-do_again : (s : State) (r : Rule) (rs : List Restriction) (pre : List Line) (l : Line) (fs : List Form) → MayWrite (has_register (Some r.give)) r.right l → length pre ≤ 7
-    → Steps (inside s r rs pre) (Writes l) fs (inside s r rs (pre ++ l ∷ []))
-do_again s r rs pre l fs h few n ws ls c e =
+do_again : (target : List ℕ) (s : State) (r : Rule) (rs : List Restriction) (pre : List Line) (l : Line) (fs : List Form) → MayWrite (has_register (Some r.give)) r.right l → length pre ≤ 7
+    → Steps target (inside s r rs pre) (Writes l) fs (inside s r rs (pre ++ l ∷ []))
+do_again target s r rs pre l fs h few n ws ls c e =
     let b = lt-leb 8 (length pre) (omega (arith, few)) in
     rw (e.stands, e.joined, b, e.pieces, h, line_again n l e.number) refl
 
-dos_run : (s : State) (r : Rule) (rs : List Restriction) (pre post : List Line) (fs : List Form) (d : Content) → AllByRecursion (MayWrite (has_register (Some r.give)) r.right) post
-    → length pre + length post ≤ 8 → Runs (inside s r rs (pre ++ post)) fs d → Runs (inside s r rs pre) (map Writes post ++ fs) d
-dos_run s r rs pre [] fs d h few runs = rw (append-nil pre) at runs
-dos_run s r rs pre (l ∷ post) fs d h few runs =
+dos_run : (target : List ℕ) (s : State) (r : Rule) (rs : List Restriction) (pre post : List Line) (fs : List Form) (d : Content) → AllByRecursion (MayWrite (has_register (Some r.give)) r.right) post
+    → length pre + length post ≤ 8 → Runs target (inside s r rs (pre ++ post)) fs d → Runs target (inside s r rs pre) (map Writes post ++ fs) d
+dos_run target s r rs pre [] fs d h few runs = rw (append-nil pre) at runs
+dos_run target s r rs pre (l ∷ post) fs d h few runs =
     let a = append_assoc pre (l ∷ []) post in
     let len = length-append pre (l ∷ []) in
-    runs_cons (inside s r rs pre) (inside s r rs (pre ++ l ∷ [])) (Writes l) _ d (do_again s r rs pre l _ h.0 (omega (arith, few)))
-    (dos_run s r rs (pre ++ l ∷ []) post fs d h.1 (omega (arith, few, len)) (rw a runs))
+    runs_cons target (inside s r rs pre) (inside s r rs (pre ++ l ∷ [])) (Writes l) _ d (do_again target s r rs pre l _ h.0 (omega (arith, few)))
+    (dos_run target s r rs (pre ++ l ∷ []) post fs d h.1 (omega (arith, few, len)) (rw a runs))
 
 -- what a rule gives
 give_taken : (s : State) (r : Rule) (n : ℕ) (w : List ℕ) (g : Give) → r.give ≡ g → GiveWord n w g → MayGive s.classes r.left r.right g
@@ -492,31 +492,31 @@ give_taken s r n w give.Scratch v e m = rw (e, m) refl
 give_taken s r n w give.Nothing v e m = rw (e, m) refl
 give_taken s r n w (give.Shape l) v e m = rw (e.0, e.1, m.0, m.1, line_again n l e.2) refl
 
-give_again : (s : State) (r : Rule) (fs : List Form) → MayGive s.classes r.left r.right r.give → Steps (inside s r r.restrictions r.lines) (Gives r.give) fs (behind s r)
-give_again s r fs m n ws ls c e = rw e.stands (give_taken s r n e.word r.give refl e.says m)
+give_again : (target : List ℕ) (s : State) (r : Rule) (fs : List Form) → MayGive s.classes r.left r.right r.give → Steps target (inside s r r.restrictions r.lines) (Gives r.give) fs (behind s r)
+give_again target s r fs m n ws ls c e = rw e.stands (give_taken s r n e.word r.give refl e.says m)
 
-rule_run : (s : State) (r : Rule) (fs : List Form) (d : Content) → s.stage ≡ stage.Rules → AreClasses s.classes → IsRule s.classes r → length s.rules ≤ 999 → Runs (behind s r) fs d
-    → Runs s (ruling s.classes r ++ fs) d
-rule_run s r fs d g h k few runs =
+rule_run : (target : List ℕ) (s : State) (r : Rule) (fs : List Form) (d : Content) → s.stage ≡ stage.Rules → AreClasses s.classes → IsRule s.classes r → length s.rules ≤ 999 → Runs target (behind s r) fs d
+    → Runs target s (ruling s.classes r ++ fs) d
+rule_run target s r fs d g h k few runs =
     let t = k.template in
-    let p : Runs (inside s r r.restrictions []) (map Writes r.lines ++ Gives r.give ∷ fs) d =
-    dos_run s r r.restrictions [] r.lines (Gives r.give ∷ fs) d t.written (let z = t.few_lines in omega (arith, z))
-    (runs_cons (inside s r r.restrictions r.lines) (behind s r) (Gives r.give) fs d (give_again s r fs k.gives) runs) in
-    let q : Runs (inside s r [] []) (map Restricts r.restrictions ++ (map Writes r.lines ++ Gives r.give ∷ fs)) d =
-    ifs_run s r [] r.restrictions _ d t.restricted (let z = t.few_restrictions in omega (arith, z)) p in
-    let whole : Runs s (Head (name_at s.classes r.left) (map (symbol_word s.classes) r.right) ∷ (map Restricts r.restrictions ++ (map Writes r.lines ++ Gives r.give ∷ fs))) d =
-    runs_cons s (inside s r [] []) _ _ d (head_again s r fs g h k.sides few) q in
+    let p : Runs target (inside s r r.restrictions []) (map Writes r.lines ++ Gives r.give ∷ fs) d =
+    dos_run target s r r.restrictions [] r.lines (Gives r.give ∷ fs) d t.written (let z = t.few_lines in omega (arith, z))
+    (runs_cons target (inside s r r.restrictions r.lines) (behind s r) (Gives r.give) fs d (give_again target s r fs k.gives) runs) in
+    let q : Runs target (inside s r [] []) (map Restricts r.restrictions ++ (map Writes r.lines ++ Gives r.give ∷ fs)) d =
+    ifs_run target s r [] r.restrictions _ d t.restricted (let z = t.few_restrictions in omega (arith, z)) p in
+    let whole : Runs target s (Head (name_at s.classes r.left) (map (symbol_word s.classes) r.right) ∷ (map Restricts r.restrictions ++ (map Writes r.lines ++ Gives r.give ∷ fs))) d =
+    runs_cons target s (inside s r [] []) _ _ d (head_again target s r fs g h k.sides few) q in
     let a = append_assoc (map Restricts r.restrictions) (map Writes r.lines ++ Gives r.give ∷ []) fs in
     let b = append_assoc (map Writes r.lines) (Gives r.give ∷ []) fs in
     rw (a, b) whole
 
-rules_run : (s : State) (post : List Rule) (d : Content) → s.stage ≡ stage.Rules → AreClasses s.classes → AllByRecursion (IsRule s.classes) post → 1 ≤ length s.rules + length post
-    → length s.rules + length post ≤ 1000 → record { pool = s.pool; classes = s.classes; spills = s.spills; rules = s.rules ++ post } ≡ d → Runs s (flat_map (ruling s.classes) post) d
-rules_run s [] d g h k some few e = runs_nil s d g (omega (arith, some))
+rules_run : (target : List ℕ) (s : State) (post : List Rule) (d : Content) → s.stage ≡ stage.Rules → AreClasses s.classes → AllByRecursion (IsRule s.classes) post → 1 ≤ length s.rules + length post
+    → length s.rules + length post ≤ 1000 → record { pool = s.pool; classes = s.classes; spills = s.spills; rules = s.rules ++ post } ≡ d → Runs target s (flat_map (ruling s.classes) post) d
+rules_run target s [] d g h k some few e = runs_nil target s d g (omega (arith, some))
     (ap (λ (x : List Rule). record { pool = s.pool; classes = s.classes; spills = s.spills; rules = x }) (sym (append-nil s.rules)) ∙ e)
-rules_run s (r ∷ post) d g h k some few e =
+rules_run target s (r ∷ post) d g h k some few e =
     let len = length-append s.rules (r ∷ []) in
-    rule_run s r _ d g h k.0 (omega (arith, few)) (rules_run (behind s r) post d refl h k.1 (omega (arith, len)) (omega (arith, few, len))
+    rule_run target s r _ d g h k.0 (omega (arith, few)) (rules_run target (behind s r) post d refl h k.1 (omega (arith, len)) (omega (arith, few, len))
     (ap (λ (x : List Rule). record { pool = s.pool; classes = s.classes; spills = s.spills; rules = x }) (append_assoc s.rules (r ∷ []) post) ∙ e))
 
 -- all of it
@@ -526,38 +526,38 @@ at_target = record start { stage = stage.Target }
 abbrev at_pool : State
 at_pool = record start { stage = stage.Pool }
 
-version_again : (fs : List Form) → Steps start Version fs at_target
-version_again fs n ws ls c e = rw e refl
+version_again : (target : List ℕ) (fs : List Form) → Steps target start Version fs at_target
+version_again target fs n ws ls c e = rw e refl
 
-target_again : (fs : List Form) → Steps at_target Target fs at_pool
-target_again fs n ws ls c e = rw e refl
+target_again : (target : List ℕ) (fs : List Form) → Steps target at_target Target fs at_pool
+target_again target fs n ws ls c e = rw (e, same_refl target) refl
 
-pool_again : (m : ℕ) (fs : List Form) → Steps at_pool (Pool m) fs (declaring m [])
-pool_again m fs n ws ls c e = rw e refl
+pool_again : (target : List ℕ) (m : ℕ) (fs : List Form) → Steps target at_pool (Pool m) fs (declaring m [])
+pool_again target m fs n ws ls c e = rw e refl
 
-all_run : (d : Content) → IsValid d → Runs start (telling d) d
-all_run d v =
-    let rules : Runs (saves stage.Rules d.pool d.classes d.spills) (flat_map (ruling d.classes) d.rules) d =
-    rules_run (saves stage.Rules d.pool d.classes d.spills) d.rules d refl v.classes v.rules (let z = v.some in omega (arith, z)) (let z = v.few in omega (arith, z)) refl in
-    let spills = spills_run d.pool d.classes d.spills _ d v.stmt v.spills v.eight rules in
-    let classes = classes_run d.pool [] d.classes _ d v.classes spills in
-    runs_cons start at_target Version _ d (version_again _) (runs_cons at_target at_pool Target _ d (target_again _)
-    (runs_cons at_pool (declaring d.pool []) (Pool d.pool) _ d (pool_again d.pool _) classes))
+all_run : (target : List ℕ) (d : Content) → IsValid d → Runs target start (telling d) d
+all_run target d v =
+    let rules : Runs target (saves stage.Rules d.pool d.classes d.spills) (flat_map (ruling d.classes) d.rules) d =
+    rules_run target (saves stage.Rules d.pool d.classes d.spills) d.rules d refl v.classes v.rules (let z = v.some in omega (arith, z)) (let z = v.few in omega (arith, z)) refl in
+    let spills = spills_run target d.pool d.classes d.spills _ d v.stmt v.spills v.eight rules in
+    let classes = classes_run target d.pool [] d.classes _ d v.classes spills in
+    runs_cons target start at_target Version _ d (version_again target _) (runs_cons target at_target at_pool Target _ d (target_again target _)
+    (runs_cons target at_pool (declaring d.pool []) (Pool d.pool) _ d (pool_again target d.pool _) classes))
 
-apply : (s : State) (fs : List Form) (d : Content) → Runs s fs d → (n : ℕ) (ls : List ExpandedLine) → Tell (not_skipped ls) fs → read_from None n s ls ≡ Ok d
+apply : (target : List ℕ) (s : State) (fs : List Form) (d : Content) → Runs target s fs d → (n : ℕ) (ls : List ExpandedLine) → Tell target (not_skipped ls) fs → read_from target None n s ls ≡ Ok d
 unfolding Runs
-apply s fs d h n ls e = h n ls e
+apply target s fs d h n ls e = h n ls e
 
-pub desc_reads : (bytes : List ℕ) (d : Content) → Desc bytes d → read bytes ≡ Ok d
-desc_reads bytes d h =
-    ap (λ (b : Option ℕ). read_from b (line_behind bytes) start (expand bytes).lines) h.good
-    ∙ apply start (telling d) d (all_run d h.valid) (line_behind bytes) (expand bytes).lines h.text
+pub desc_reads : (target : List ℕ) (bytes : List ℕ) (d : Content) → DescFor target bytes d → read_for target bytes ≡ Ok d
+desc_reads target bytes d h =
+    ap (λ (b : Option ℕ). read_from target b (line_behind bytes) start (expand bytes).lines) h.good
+    ∙ apply target start (telling d) d (all_run target d h.valid) (line_behind bytes) (expand bytes).lines h.text
 
-pub refusal : (r : Result Content DescFault) (bytes : List ℕ) → Answers r (read bytes) → IfErr r (Refused bytes)
-refusal (Ok d) bytes e = tt
-refusal (Err desc_fault.NoMemory) bytes e = tt
-refusal (Err (desc_fault.Line n k)) bytes e = λ d h. err_ok _ _ (sym e ∙ desc_reads bytes d h)
+pub refusal : (target : List ℕ) (r : Result Content DescFault) (bytes : List ℕ) → Answers r (read_for target bytes) → IfErr r (RefusedFor target bytes)
+refusal target (Ok d) bytes e = tt
+refusal target (Err desc_fault.NoMemory) bytes e = tt
+refusal target (Err (desc_fault.Line n k)) bytes e = λ d h. err_ok _ _ (sym e ∙ desc_reads target bytes d h)
 
-pub only : (r : Result Content DescFault) (bytes : List ℕ) → Answers r (read bytes) → IfOk r (λ d. (c : Content) → Desc bytes c → d ≡ c)
-only (Ok d) bytes e = λ c h. ok_same _ _ _ _ refl refl (sym e ∙ desc_reads bytes c h)
-only (Err x) bytes e = tt
+pub only : (target : List ℕ) (r : Result Content DescFault) (bytes : List ℕ) → Answers r (read_for target bytes) → IfOk r (λ d. (c : Content) → DescFor target bytes c → d ≡ c)
+only target (Ok d) bytes e = λ c h. ok_same _ _ _ _ refl refl (sym e ∙ desc_reads target bytes c h)
+only target (Err x) bytes e = tt

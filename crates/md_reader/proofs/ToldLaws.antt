@@ -32,9 +32,9 @@ use Rattle.md_reader.specs.declared.reading.Stage.TheVariants as stage
 use Rattle.md_reader.specs.Patterns.{kind_at, sorted_test, walk, count}
 use Rattle.md_reader.specs.Symbols.{token_among, tree_tokens, token_of, token_or_class, class_from, class_of, symbol_of, symbols_of}
 use Rattle.md_types.specs.declared.types.ExpandedLine.{ExpandedLine}
-use Rattle.md_types.specs.Forms.{is_skipped, are_both}
+use Rattle.md_types.specs.Forms.{is_skipped}
 use Rattle.md_types.specs.Expand.{expand}
-use Rattle.md_reader.specs.Forms.{is_version, pool_form, class_form, spill_form, saved_number}
+use Rattle.md_reader.specs.Forms.{is_version, is_target, pool_form, class_form, spill_form, saved_number}
 use Rattle.md_reader.specs.RuleForms.{rule_form, if_form, do_form, give_form, plain_give, register_behind}
 use Rattle.md_reader.specs.Restrictions.{restriction_fits}
 use Rattle.md_reader.specs.Rows.{line_fits, pieces_fit, shape_fits, plain_fits, is_bare}
@@ -44,11 +44,11 @@ use Rattle.md_reader.specs.HeadSteps.{class_line}
 use Rattle.md_reader.specs.RuleSteps.{sort_step, right_step, left_step, rule_line, if_step, do_pieces, do_text}
 use Rattle.md_reader.specs.RuleSteps.{ended_rule, shape_step, give_step, give_line, do_line, if_line}
 use Rattle.md_reader.specs.Steps.{step_at, line_step}
-use Rattle.md_reader.specs.Reads.{start, content_of, ended_at, taken, read_from, line_behind, read, Answers}
+use Rattle.md_reader.specs.Reads.{start, content_of, ended_at, taken, read_from, line_behind, read_for, Answers}
 use Rattle.md_reader.specs.Valid.{IsValid}
 use Rattle.md_reader.specs.Fine.{IsBlank, IsDeclaring, StageFact, IsFine}
-use Rattle.md_reader.specs.Desc.{Form, Version, Target, Pool, Declares, Saves, Head, Restricts, Writes, Gives, kind_words, saved_words, GiveWord, Says, name_at, symbol_word}
-use Rattle.md_reader.specs.Desc.{saving, ruling, telling, not_skipped, Tell, Desc}
+use Rattle.md_reader.specs.Telling.{Form, Version, Target, Pool, Declares, Saves, Head, Restricts, Writes, Gives, name_at, symbol_word, saving, ruling, telling}
+use Rattle.md_reader.specs.Desc.{kind_words, saved_words, GiveWord, Says, not_skipped, Tell, DescFor}
 use Rattle.md_reader.proofs.Inversion.{when, unless, ok_same, same_true}
 use Rattle.md_reader.proofs.FormLaws.{both_words, class_line_is, spill_line_is, rule_line_is, if_line_is, do_line_is, give_line_is, plain_word}
 use Rattle.md_reader.proofs.ValidLaws.{skip_kept, line_kept, is_valid, begins}
@@ -134,18 +134,18 @@ told_at stage.Rules s = telling (content_of s)
 told_at stage.Template s = telling (content_of s) ++ in_rule s
 
 -- one line more says one thing more
-record OneMore (before : List Form) (t : State) (n : ℕ) (ws : List (List ℕ)) : Type 0 where
+record OneMore (target : List ℕ) (before : List Form) (t : State) (n : ℕ) (ws : List (List ℕ)) : Type 0 where
   form : Form
-  says : Says n ws form
+  says : Says target n ws form
   more : told_at t.stage t ≡ before ++ form ∷ []
 
 blank_told : (m : ℕ) (classes : List Class) (spills : List Line) (rules : List Rule) → classes ≡ [] → spills ≡ [] → rules ≡ []
     → telling (record { pool = m; classes = classes; spills = spills; rules = rules }) ≡ Version ∷ Target ∷ Pool m ∷ []
 blank_told m classes spills rules a b c = rw (a, b, c) refl
 
-pool_told : (s t : State) (n : ℕ) (ws : List (List ℕ)) (o : Option ℕ) → pool_form ws ≡ o → IsBlank s → pool_step s o ≡ Ok t → OneMore (Version ∷ Target ∷ []) t n ws
-pool_told s t n ws None v f e = absurd (err_ok _ _ e)
-pool_told s t n ws (Some m) v f e =
+pool_told : (target : List ℕ) (s t : State) (n : ℕ) (ws : List (List ℕ)) (o : Option ℕ) → pool_form ws ≡ o → IsBlank s → pool_step s o ≡ Ok t → OneMore target (Version ∷ Target ∷ []) t n ws
+pool_told target s t n ws None v f e = absurd (err_ok _ _ e)
+pool_told target s t n ws (Some m) v f e =
     rw (← ok_same _ _ _ _ refl refl e) (record { form = Pool m; says = v; more = blank_told m s.classes s.spills s.rules f.classes f.spills f.rules })
 
 class_pushed : (m : ℕ) (classes : List Class) (c : Class) (spills : List Line) (rules : List Rule) → spills ≡ [] → rules ≡ []
@@ -154,10 +154,10 @@ class_pushed m classes c spills rules a b =
     rw (a, b) (ap (λ (x : List Form). Version ∷ Target ∷ Pool m ∷ x) (append-nil (map Declares (classes ++ c ∷ [])) ∙ map-push Declares classes c
     ∙ ap (λ (x : List Form). x ++ Declares c ∷ []) (sym (append-nil (map Declares classes)))))
 
-class_told : (s t : State) (n : ℕ) (ws : List (List ℕ)) (name : List ℕ) (k : Kind) (o : Option ℕ) → ws ≡ codes "class" ∷ name ∷ kind_words k → IsDeclaring s → s.stage ≡ stage.Classes
-    → new_class s name k o ≡ Ok t → OneMore (telling (content_of s)) t n ws
-class_told s t n ws name k (Some i) w d g e = absurd (err_ok _ _ e)
-class_told s t n ws name k None w d g e =
+class_told : (target : List ℕ) (s t : State) (n : ℕ) (ws : List (List ℕ)) (name : List ℕ) (k : Kind) (o : Option ℕ) → ws ≡ codes "class" ∷ name ∷ kind_words k → IsDeclaring s → s.stage ≡ stage.Classes
+    → new_class s name k o ≡ Ok t → OneMore target (telling (content_of s)) t n ws
+class_told target s t n ws name k (Some i) w d g e = absurd (err_ok _ _ e)
+class_told target s t n ws name k None w d g e =
     let c : Class = record { name = name; kind = k } in
     rw (← ok_same _ _ _ _ refl refl e) (record { form = Declares c; says = w; more = rw g (class_pushed s.pool s.classes c s.spills s.rules d.spills d.rules) })
 
@@ -171,9 +171,9 @@ spill_pushed m classes spills l rules a =
     (append-nil (saving 0 (spills ++ l ∷ [])) ∙ p ∙ ap (λ (x : List Form). x ++ Saves (length spills) l ∷ []) (sym (append-nil (saving 0 spills))))
     ∙ sym (append_assoc (map Declares classes) (saving 0 spills ++ []) (Saves (length spills) l ∷ []))))
 
-spill_told : (s t : State) (n : ℕ) (ws : List (List ℕ)) (x : Saved × List (List ℕ)) (w : List ℕ) (ps : List Piece) → ws ≡ saved_words x.0 ++ x.1 → saved_number x.0 ≡ length s.spills
-    → text_of x.1 ≡ Some w → pieces w ≡ Some ps → s.rules ≡ [] → spill_pieces s n (Some ps) ≡ Ok t → OneMore (telling (content_of s)) t n ws
-spill_told s t n ws x w ps a b c d r e =
+spill_told : (target : List ℕ) (s t : State) (n : ℕ) (ws : List (List ℕ)) (x : Saved × List (List ℕ)) (w : List ℕ) (ps : List Piece) → ws ≡ saved_words x.0 ++ x.1 → saved_number x.0 ≡ length s.spills
+    → text_of x.1 ≡ Some w → pieces w ≡ Some ps → s.rules ≡ [] → spill_pieces s n (Some ps) ≡ Ok t → OneMore target (telling (content_of s)) t n ws
+spill_told target s t n ws x w ps a b c d r e =
     let q = unless (line_fits true (grammar_symbol.Class 0 ∷ []) ps) _ _ t e in
     let l : Line = line_at n ps in
     rw (← ok_same _ _ _ _ refl refl q.1) (record {
@@ -187,60 +187,60 @@ spill_told s t n ws x w ps a b c d r e =
     at true = spill_pushed s.pool s.classes s.spills (line_at n ps) s.rules r
     at false = spill_pushed s.pool s.classes s.spills (line_at n ps) s.rules r
 
-spill_pieces_told : (s t : State) (n : ℕ) (ws : List (List ℕ)) (x : Saved × List (List ℕ)) (w : List ℕ) (o : Option (List Piece)) → ws ≡ saved_words x.0 ++ x.1 → saved_number x.0
-    ≡ length s.spills → text_of x.1 ≡ Some w → pieces w ≡ o → s.rules ≡ [] → spill_pieces s n o ≡ Ok t → OneMore (telling (content_of s)) t n ws
-spill_pieces_told s t n ws x w None a b c d r e = absurd (err_ok _ _ e)
-spill_pieces_told s t n ws x w (Some ps) a b c d r e = spill_told s t n ws x w ps a b c d r e
+spill_pieces_told : (target : List ℕ) (s t : State) (n : ℕ) (ws : List (List ℕ)) (x : Saved × List (List ℕ)) (w : List ℕ) (o : Option (List Piece)) → ws ≡ saved_words x.0 ++ x.1 → saved_number x.0
+    ≡ length s.spills → text_of x.1 ≡ Some w → pieces w ≡ o → s.rules ≡ [] → spill_pieces s n o ≡ Ok t → OneMore target (telling (content_of s)) t n ws
+spill_pieces_told target s t n ws x w None a b c d r e = absurd (err_ok _ _ e)
+spill_pieces_told target s t n ws x w (Some ps) a b c d r e = spill_told target s t n ws x w ps a b c d r e
 
-spill_text_told : (s t : State) (n : ℕ) (ws : List (List ℕ)) (x : Saved × List (List ℕ)) (o : Option (List ℕ)) → ws ≡ saved_words x.0 ++ x.1 → saved_number x.0 ≡ length s.spills
-    → text_of x.1 ≡ o → s.rules ≡ [] → spill_text s n o ≡ Ok t → OneMore (telling (content_of s)) t n ws
-spill_text_told s t n ws x None a b c r e = absurd (err_ok _ _ e)
-spill_text_told s t n ws x (Some w) a b c r e = spill_pieces_told s t n ws x w _ a b c refl r e
+spill_text_told : (target : List ℕ) (s t : State) (n : ℕ) (ws : List (List ℕ)) (x : Saved × List (List ℕ)) (o : Option (List ℕ)) → ws ≡ saved_words x.0 ++ x.1 → saved_number x.0 ≡ length s.spills
+    → text_of x.1 ≡ o → s.rules ≡ [] → spill_text s n o ≡ Ok t → OneMore target (telling (content_of s)) t n ws
+spill_text_told target s t n ws x None a b c r e = absurd (err_ok _ _ e)
+spill_text_told target s t n ws x (Some w) a b c r e = spill_pieces_told target s t n ws x w _ a b c refl r e
 
-spill_line_told : (s t : State) (n : ℕ) (ws : List (List ℕ)) (o : Option (Saved × List (List ℕ))) → spill_form ws ≡ o → s.rules ≡ [] → spill_line s n o ≡ Ok t → OneMore (telling (content_of s)) t n ws
-spill_line_told s t n ws None v r e = absurd (err_ok _ _ e)
-spill_line_told s t n ws (Some x) v r e =
+spill_line_told : (target : List ℕ) (s t : State) (n : ℕ) (ws : List (List ℕ)) (o : Option (Saved × List (List ℕ))) → spill_form ws ≡ o → s.rules ≡ [] → spill_line s n o ≡ Ok t → OneMore target (telling (content_of s)) t n ws
+spill_line_told target s t n ws None v r e = absurd (err_ok _ _ e)
+spill_line_told target s t n ws (Some x) v r e =
     let a = unless (eqb (saved_number x.0) (length s.spills)) _ _ t e in
     let b = unless (has_stmt s.classes) _ _ t a.1 in
-    spill_text_told s t n ws x _ (spill_line_is ws x v) (eqb-true (saved_number x.0) (length s.spills) a.0) refl r b.1
+    spill_text_told target s t n ws x _ (spill_line_is ws x v) (eqb-true (saved_number x.0) (length s.spills) a.0) refl r b.1
 
-class_line_told : (s t : State) (n : ℕ) (ws : List (List ℕ)) (o : Option (List ℕ × Kind)) → class_form ws ≡ o → IsDeclaring s → s.stage ≡ stage.Classes → class_line s n o ws ≡ Ok t
-    → OneMore (telling (content_of s)) t n ws
-class_line_told s t n ws None v d g e = spill_line_told s t n ws _ refl d.rules e
-class_line_told s t n ws (Some x) v d g e =
+class_line_told : (target : List ℕ) (s t : State) (n : ℕ) (ws : List (List ℕ)) (o : Option (List ℕ × Kind)) → class_form ws ≡ o → IsDeclaring s → s.stage ≡ stage.Classes → class_line s n o ws ≡ Ok t
+    → OneMore target (telling (content_of s)) t n ws
+class_line_told target s t n ws None v d g e = spill_line_told target s t n ws _ refl d.rules e
+class_line_told target s t n ws (Some x) v d g e =
     let a = when (nat_le 64 (length s.classes)) _ _ t e in
-    class_told s t n ws x.0 x.1 _ (class_line_is ws x v).stands d g a.1
+    class_told target s t n ws x.0 x.1 _ (class_line_is ws x v).stands d g a.1
 
 -- a rule's head
-sort_told : (s t : State) (n : ℕ) (ws : List (List ℕ)) (left : ℕ) (right : List Sym) (z : Bool) (o : Option Sort) → ws
-    ≡ codes "rule" ∷ name_at s.classes left ∷ codes ":" ∷ map (symbol_word s.classes) right → sort_step s left right z o ≡ Ok t → OneMore (telling (content_of s)) t n ws
-sort_told s t n ws left right z None w e = absurd (err_ok _ _ e)
-sort_told s t n ws left right z (Some sort) w e =
+sort_told : (target : List ℕ) (s t : State) (n : ℕ) (ws : List (List ℕ)) (left : ℕ) (right : List Sym) (z : Bool) (o : Option Sort) → ws
+    ≡ codes "rule" ∷ name_at s.classes left ∷ codes ":" ∷ map (symbol_word s.classes) right → sort_step s left right z o ≡ Ok t → OneMore target (telling (content_of s)) t n ws
+sort_told target s t n ws left right z None w e = absurd (err_ok _ _ e)
+sort_told target s t n ws left right z (Some sort) w e =
     let a = when (is_bare s.classes right) _ _ t e in
     let b = unless (walk (sorted_test s.classes) (sort ∷ []) right) _ _ t a.1 in
     rw (← ok_same _ _ _ _ refl refl b.1) (record { form = Head (name_at s.classes left) (map (symbol_word s.classes) right); says = w; more = refl })
 
-right_told : (s t : State) (n : ℕ) (ws ss : List (List ℕ)) (left : ℕ) (z : Bool) (o : Option (List Sym)) → ws ≡ codes "rule" ∷ name_at s.classes left ∷ codes ":" ∷ ss
-    → symbols_of s.classes ss ≡ o → right_step s left z o ≡ Ok t → OneMore (telling (content_of s)) t n ws
-right_told s t n ws ss left z None w f e = absurd (err_ok _ _ e)
-right_told s t n ws ss left z (Some right) w f e =
+right_told : (target : List ℕ) (s t : State) (n : ℕ) (ws ss : List (List ℕ)) (left : ℕ) (z : Bool) (o : Option (List Sym)) → ws ≡ codes "rule" ∷ name_at s.classes left ∷ codes ":" ∷ ss
+    → symbols_of s.classes ss ≡ o → right_step s left z o ≡ Ok t → OneMore target (telling (content_of s)) t n ws
+right_told target s t n ws ss left z None w f e = absurd (err_ok _ _ e)
+right_told target s t n ws ss left z (Some right) w f e =
     let a = unless (count 1 right) _ _ t e in
     let k = ap (λ (x : List (List ℕ)). codes "rule" ∷ name_at s.classes left ∷ codes ":" ∷ x) (sym (symbols_named s.classes ss right f)) in
-    sort_told s t n ws left right z _ (w ∙ k) a.1
+    sort_told target s t n ws left right z _ (w ∙ k) a.1
 
-left_told : (s t : State) (n : ℕ) (ws ss : List (List ℕ)) (class : List ℕ) (z : Bool) (o : Option ℕ) → ws ≡ codes "rule" ∷ class ∷ codes ":" ∷ ss → class_of s.classes class ≡ o
-    → left_step s z ss o ≡ Ok t → OneMore (telling (content_of s)) t n ws
-left_told s t n ws ss class z None w f e = absurd (err_ok _ _ e)
-left_told s t n ws ss class z (Some left) w f e =
+left_told : (target : List ℕ) (s t : State) (n : ℕ) (ws ss : List (List ℕ)) (class : List ℕ) (z : Bool) (o : Option ℕ) → ws ≡ codes "rule" ∷ class ∷ codes ":" ∷ ss → class_of s.classes class ≡ o
+    → left_step s z ss o ≡ Ok t → OneMore target (telling (content_of s)) t n ws
+left_told target s t n ws ss class z None w f e = absurd (err_ok _ _ e)
+left_told target s t n ws ss class z (Some left) w f e =
     let k = ap (λ (x : List ℕ). codes "rule" ∷ x ∷ codes ":" ∷ ss) (sym (class_named s.classes class left f)) in
-    right_told s t n ws ss left z _ (w ∙ k) refl e
+    right_told target s t n ws ss left z _ (w ∙ k) refl e
 
-rule_told : (s t : State) (n : ℕ) (ws : List (List ℕ)) (z : Bool) (o : Option (List ℕ × List (List ℕ))) → rule_form ws ≡ o → rule_line s z o ≡ Ok t → OneMore (telling (content_of s)) t n ws
-rule_told s t n ws z None v e = absurd (err_ok _ _ e)
-rule_told s t n ws z (Some x) v e =
+rule_told : (target : List ℕ) (s t : State) (n : ℕ) (ws : List (List ℕ)) (z : Bool) (o : Option (List ℕ × List (List ℕ))) → rule_form ws ≡ o → rule_line s z o ≡ Ok t → OneMore target (telling (content_of s)) t n ws
+rule_told target s t n ws z None v e = absurd (err_ok _ _ e)
+rule_told target s t n ws z (Some x) v e =
     let a = when (nat_le 1000 (length s.rules)) _ _ t e in
     let b = unless (nat_le (length x.1) 16) _ _ t a.1 in
-    left_told s t n ws x.1 x.0 z _ (rule_line_is ws x v) refl b.1
+    left_told target s t n ws x.1 x.0 z _ (rule_line_is ws x v) refl b.1
 
 -- the other lines of a rule
 none_written : (ls : List Line) → eqb (length ls) 0 ≡ true → ls ≡ []
@@ -258,8 +258,8 @@ do_pushed p h rs ls l =
     ap (λ (x : List Form). p ++ h ∷ x) (ap (λ (x : List Form). rs ++ x) (map-push Writes ls l) ∙ sym (append_assoc rs (map Writes ls) (Writes l ∷ [])))
     ∙ sym (append_assoc p (h ∷ (rs ++ map Writes ls)) (Writes l ∷ []))
 
-if_told : (s t : State) (n : ℕ) (ws : List (List ℕ)) (r : Restriction) → if_form ws ≡ Some r → s.stage ≡ stage.Template → if_step s r ≡ Ok t → OneMore (told_at stage.Template s) t n ws
-if_told s t n ws r v g e =
+if_told : (target : List ℕ) (s t : State) (n : ℕ) (ws : List (List ℕ)) (r : Restriction) → if_form ws ≡ Some r → s.stage ≡ stage.Template → if_step s r ≡ Ok t → OneMore target (told_at stage.Template s) t n ws
+if_told target s t n ws r v g e =
     let a = unless (eqb (length s.lines) 0) _ _ t e in
     let b = when (nat_le 4 (length s.restrictions)) _ _ t a.1 in
     let c = unless (restriction_fits s.classes s.right r) _ _ t b.1 in
@@ -269,10 +269,10 @@ if_told s t n ws r v g e =
       more = rw g (if_pushed (telling (content_of s)) (Head (name_at s.classes s.left) (map (symbol_word s.classes) s.right)) s.restrictions r s.lines (none_written s.lines a.0));
     })
 
-do_pieces_told : (s t : State) (n : ℕ) (ws rest : List (List ℕ)) (w : List ℕ) (o : Option (List Piece)) → ws ≡ codes "do" ∷ rest → text_of rest ≡ Some w → pieces w ≡ o → s.stage
-    ≡ stage.Template → do_pieces s n o ≡ Ok t → OneMore (told_at stage.Template s) t n ws
-do_pieces_told s t n ws rest w None a b c g e = absurd (err_ok _ _ e)
-do_pieces_told s t n ws rest w (Some ps) a b c g e =
+do_pieces_told : (target : List ℕ) (s t : State) (n : ℕ) (ws rest : List (List ℕ)) (w : List ℕ) (o : Option (List Piece)) → ws ≡ codes "do" ∷ rest → text_of rest ≡ Some w → pieces w ≡ o → s.stage
+    ≡ stage.Template → do_pieces s n o ≡ Ok t → OneMore target (told_at stage.Template s) t n ws
+do_pieces_told target s t n ws rest w None a b c g e = absurd (err_ok _ _ e)
+do_pieces_told target s t n ws rest w (Some ps) a b c g e =
     let q = unless (line_fits s.register s.right ps) _ _ t e in
     rw (← ok_same _ _ _ _ refl refl q.1) (record {
       form = Writes (line_at n ps);
@@ -280,18 +280,18 @@ do_pieces_told s t n ws rest w (Some ps) a b c g e =
       more = rw g (do_pushed (telling (content_of s)) (Head (name_at s.classes s.left) (map (symbol_word s.classes) s.right)) (map Restricts s.restrictions) s.lines (line_at n ps));
     })
 
-do_told : (s t : State) (n : ℕ) (ws rest : List (List ℕ)) (o : Option (List ℕ)) → ws ≡ codes "do" ∷ rest → text_of rest ≡ o → s.stage ≡ stage.Template → do_text s n o ≡ Ok t
-    → OneMore (told_at stage.Template s) t n ws
-do_told s t n ws rest None a b g e = absurd (err_ok _ _ e)
-do_told s t n ws rest (Some w) a b g e =
+do_told : (target : List ℕ) (s t : State) (n : ℕ) (ws rest : List (List ℕ)) (o : Option (List ℕ)) → ws ≡ codes "do" ∷ rest → text_of rest ≡ o → s.stage ≡ stage.Template → do_text s n o ≡ Ok t
+    → OneMore target (told_at stage.Template s) t n ws
+do_told target s t n ws rest None a b g e = absurd (err_ok _ _ e)
+do_told target s t n ws rest (Some w) a b g e =
     let q = when (nat_le 8 (length s.lines)) _ _ t e in
-    do_pieces_told s t n ws rest w _ a b refl g q.1
+    do_pieces_told target s t n ws rest w _ a b refl g q.1
 
 rule_pushed : (h : List Form) (d s q : List Form) (x : Form) (r w : List Form) (g : Form) → h ++ (d ++ (s ++ (q ++ (x ∷ (r ++ (w ++ g ∷ [])))))) ≡ ((h ++ (d ++ (s ++ q))) ++ (x ∷ (r ++ w))) ++ g ∷ []
 rule_pushed h d s q x r w g = simp append_assoc
 
-given_told : (s : State) (n : ℕ) (ws : List (List ℕ)) (w : List ℕ) (g : Give) → ws ≡ codes "give" ∷ w ∷ [] → GiveWord n w g → OneMore (told_at stage.Template s) (ended_rule s g) n ws
-given_told s n ws w g a b =
+given_told : (target : List ℕ) (s : State) (n : ℕ) (ws : List (List ℕ)) (w : List ℕ) (g : Give) → ws ≡ codes "give" ∷ w ∷ [] → GiveWord n w g → OneMore target (told_at stage.Template s) (ended_rule s g) n ws
+given_told target s n ws w g a b =
     let r : Rule = record { left = s.left; right = s.right; restrictions = s.restrictions; lines = s.lines; give = g } in
     record {
       form = Gives g;
@@ -302,50 +302,50 @@ given_told s n ws w g a b =
           (Head (name_at s.classes s.left) (map (symbol_word s.classes) s.right)) (map Restricts s.restrictions) (map Writes s.lines) (Gives g);
     }
 
-shape_told : (s t : State) (n : ℕ) (ws : List (List ℕ)) (w : List ℕ) (o : Option (List Piece)) → ws ≡ codes "give" ∷ w ∷ [] → plain_give w ≡ None → pieces w ≡ o → shape_step s n o ≡ Ok t
-    → OneMore (told_at stage.Template s) t n ws
-shape_told s t n ws w None a b c e = absurd (err_ok _ _ e)
-shape_told s t n ws w (Some ps) a b c e =
+shape_told : (target : List ℕ) (s t : State) (n : ℕ) (ws : List (List ℕ)) (w : List ℕ) (o : Option (List Piece)) → ws ≡ codes "give" ∷ w ∷ [] → plain_give w ≡ None → pieces w ≡ o → shape_step s n o ≡ Ok t
+    → OneMore target (told_at stage.Template s) t n ws
+shape_told target s t n ws w None a b c e = absurd (err_ok _ _ e)
+shape_told target s t n ws w (Some ps) a b c e =
     let p = unless (pieces_fit false s.right ps) _ _ t e in
     let q = unless (shape_fits s.classes s.right (kind_at s.classes s.left) ps) _ _ t p.1 in
-    rw (← ok_same _ _ _ _ refl refl q.1) (given_told s n ws w (give.Shape (line_at n ps)) a (b, c, refl))
+    rw (← ok_same _ _ _ _ refl refl q.1) (given_told target s n ws w (give.Shape (line_at n ps)) a (b, c, refl))
 
-give_told : (s t : State) (n : ℕ) (ws : List (List ℕ)) (w : List ℕ) (o : Option Give) → ws ≡ codes "give" ∷ w ∷ [] → plain_give w ≡ o → give_step s n w o ≡ Ok t
-    → OneMore (told_at stage.Template s) t n ws
-give_told s t n ws w None a b e = shape_told s t n ws w _ a b refl e
-give_told s t n ws w (Some g) a b e =
+give_told : (target : List ℕ) (s t : State) (n : ℕ) (ws : List (List ℕ)) (w : List ℕ) (o : Option Give) → ws ≡ codes "give" ∷ w ∷ [] → plain_give w ≡ o → give_step s n w o ≡ Ok t
+    → OneMore target (told_at stage.Template s) t n ws
+give_told target s t n ws w None a b e = shape_told target s t n ws w _ a b refl e
+give_told target s t n ws w (Some g) a b e =
     let p = unless (plain_fits (kind_at s.classes s.left) g) _ _ t e in
-    rw (← ok_same _ _ _ _ refl refl p.1) (given_told s n ws w g a (plain_word n w g b))
+    rw (← ok_same _ _ _ _ refl refl p.1) (given_told target s n ws w g a (plain_word n w g b))
 
-give_line_told : (s t : State) (n : ℕ) (ws : List (List ℕ)) (o : Option (List ℕ)) → give_form ws ≡ o → give_line s n o ≡ Ok t → OneMore (told_at stage.Template s) t n ws
-give_line_told s t n ws None v e = absurd (err_ok _ _ e)
-give_line_told s t n ws (Some w) v e = give_told s t n ws w _ (give_line_is ws w v) refl e
+give_line_told : (target : List ℕ) (s t : State) (n : ℕ) (ws : List (List ℕ)) (o : Option (List ℕ)) → give_form ws ≡ o → give_line s n o ≡ Ok t → OneMore target (told_at stage.Template s) t n ws
+give_line_told target s t n ws None v e = absurd (err_ok _ _ e)
+give_line_told target s t n ws (Some w) v e = give_told target s t n ws w _ (give_line_is ws w v) refl e
 
-do_line_told : (s t : State) (n : ℕ) (ws : List (List ℕ)) (o : Option (List (List ℕ))) → do_form ws ≡ o → s.stage ≡ stage.Template → do_line s n o ws ≡ Ok t → OneMore (told_at stage.Template s) t n ws
-do_line_told s t n ws None v g e = give_line_told s t n ws _ refl e
-do_line_told s t n ws (Some rest) v g e = do_told s t n ws rest _ (do_line_is ws rest v) refl g e
+do_line_told : (target : List ℕ) (s t : State) (n : ℕ) (ws : List (List ℕ)) (o : Option (List (List ℕ))) → do_form ws ≡ o → s.stage ≡ stage.Template → do_line s n o ws ≡ Ok t → OneMore target (told_at stage.Template s) t n ws
+do_line_told target s t n ws None v g e = give_line_told target s t n ws _ refl e
+do_line_told target s t n ws (Some rest) v g e = do_told target s t n ws rest _ (do_line_is ws rest v) refl g e
 
-if_line_told : (s t : State) (n : ℕ) (ws : List (List ℕ)) (o : Option Restriction) → if_form ws ≡ o → s.stage ≡ stage.Template → if_line s n o ws ≡ Ok t → OneMore (told_at stage.Template s) t n ws
-if_line_told s t n ws None v g e = do_line_told s t n ws _ refl g e
-if_line_told s t n ws (Some r) v g e = if_told s t n ws r v g e
+if_line_told : (target : List ℕ) (s t : State) (n : ℕ) (ws : List (List ℕ)) (o : Option Restriction) → if_form ws ≡ o → s.stage ≡ stage.Template → if_line s n o ws ≡ Ok t → OneMore target (told_at stage.Template s) t n ws
+if_line_told target s t n ws None v g e = do_line_told target s t n ws _ refl g e
+if_line_told target s t n ws (Some r) v g e = if_told target s t n ws r v g e
 
-step_told : (g : Stage) (s t : State) (n : ℕ) (ws : List (List ℕ)) (xs : List ExpandedLine) (z : Bool) → s.stage ≡ g → StageFact g s xs → step_at g s n ws z ≡ Ok t → OneMore (told_at g s) t n ws
-step_told stage.Version s t n ws xs z g f e =
+step_told : (target : List ℕ) (g : Stage) (s t : State) (n : ℕ) (ws : List (List ℕ)) (xs : List ExpandedLine) (z : Bool) → s.stage ≡ g → StageFact g s xs → step_at target g s n ws z ≡ Ok t → OneMore target (told_at g s) t n ws
+step_told target stage.Version s t n ws xs z g f e =
     let a = unless (is_version ws) _ _ t e in
     rw (← ok_same _ _ _ _ refl refl a.1) (record { form = Version; says = a.0; more = refl })
-step_told stage.Target s t n ws xs z g f e =
-    let a = unless (are_both ws (codes "target") (codes "vax")) _ _ t e in
+step_told target stage.Target s t n ws xs z g f e =
+    let a = unless (is_target target ws) _ _ t e in
     rw (← ok_same _ _ _ _ refl refl a.1) (record { form = Target; says = both_words ws _ _ a.0; more = refl })
-step_told stage.Pool s t n ws xs z g f e = pool_told s t n ws _ refl f e
-step_told stage.Classes s t n ws xs z g f e = class_line_told s t n ws _ refl f g e
-step_told stage.Spills s t n ws xs z g f e = spill_line_told s t n ws _ refl f.rules e
-step_told stage.Rules s t n ws xs z g f e = rule_told s t n ws z _ refl e
-step_told stage.Template s t n ws xs z g f e = if_line_told s t n ws _ refl g e
+step_told target stage.Pool s t n ws xs z g f e = pool_told target s t n ws _ refl f e
+step_told target stage.Classes s t n ws xs z g f e = class_line_told target s t n ws _ refl f g e
+step_told target stage.Spills s t n ws xs z g f e = spill_line_told target s t n ws _ refl f.rules e
+step_told target stage.Rules s t n ws xs z g f e = rule_told target s t n ws z _ refl e
+step_told target stage.Template s t n ws xs z g f e = if_line_told target s t n ws _ refl g e
 
 -- the lines that are left say the rest
-record TheRest (before : List Form) (xs : List (ℕ × List (List ℕ))) (d : Content) : Type 0 where
+record TheRest (target : List ℕ) (before : List Form) (xs : List (ℕ × List (List ℕ))) (d : Content) : Type 0 where
   forms : List Form
-  tell : Tell xs forms
+  tell : Tell target xs forms
   whole : before ++ forms ≡ telling d
   valid : IsValid d
 
@@ -353,22 +353,22 @@ neither : (b : Bool) (x y : ℕ × DescKind) (d : Content) → cond b (Err x) (E
 neither true x y d e = err_ok x d e
 neither false x y d e = err_ok y d e
 
-end_told : (g : Stage) (n : ℕ) (s : State) (d : Content) → s.stage ≡ g → IsFine s [] → ended_at g n s ≡ Ok d → TheRest (told_at g s) [] d
-end_told stage.Classes n s d g h e = absurd (neither (has_stmt s.classes) _ _ d e)
-end_told stage.Spills n s d g h e = absurd (neither (nat_le (length s.spills) 6) _ _ d e)
-end_told stage.Rules n s d g h e = at (nat_le 1 (length s.rules)) refl e
+end_told : (target : List ℕ) (g : Stage) (n : ℕ) (s : State) (d : Content) → s.stage ≡ g → IsFine s [] → ended_at g n s ≡ Ok d → TheRest target (told_at g s) [] d
+end_told target stage.Classes n s d g h e = absurd (neither (has_stmt s.classes) _ _ d e)
+end_told target stage.Spills n s d g h e = absurd (neither (nat_le (length s.spills) 6) _ _ d e)
+end_told target stage.Rules n s d g h e = at (nat_le 1 (length s.rules)) refl e
   where
-    at : (b : Bool) → nat_le 1 (length s.rules) ≡ b → cond {A = Result Content (ℕ × DescKind)} b (Ok (content_of s)) (Err (n, kinds.MissingRule)) ≡ Ok d → TheRest (told_at stage.Rules s) [] d
+    at : (b : Bool) → nat_le 1 (length s.rules) ≡ b → cond {A = Result Content (ℕ × DescKind)} b (Ok (content_of s)) (Err (n, kinds.MissingRule)) ≡ Ok d → TheRest target (told_at stage.Rules s) [] d
     at true f e = rw (← ok_same _ _ _ _ refl refl e) (record { forms = []; tell = tt; whole = append-nil (telling (content_of s)); valid = is_valid s g (leb-true 1 (length s.rules) f) h })
     at false f e = absurd (err_ok _ _ e)
-end_told _ n s d g h e = absurd (err_ok _ _ e)
+end_told target _ n s d g h e = absurd (err_ok _ _ e)
 
-from_told : (n : ℕ) (s : State) (ls : List ExpandedLine) (d : Content) → IsFine s ls → read_from None n s ls ≡ Ok d → TheRest (told_at s.stage s) (not_skipped ls) d
-from_told n s [] d h e = end_told s.stage n s d refl h e
-from_told n s (l ∷ ls) d h e = at (is_skipped (words l.bytes)) refl e (λ t k f. from_told n t ls d k f)
+from_told : (target : List ℕ) (n : ℕ) (s : State) (ls : List ExpandedLine) (d : Content) → IsFine s ls → read_from target None n s ls ≡ Ok d → TheRest target (told_at s.stage s) (not_skipped ls) d
+from_told target n s [] d h e = end_told target s.stage n s d refl h e
+from_told target n s (l ∷ ls) d h e = at (is_skipped (words l.bytes)) refl e (λ t k f. from_told target n t ls d k f)
   where
-    longer : (t : State) → OneMore (told_at s.stage s) t l.from (words l.bytes) → TheRest (told_at t.stage t) (not_skipped ls) d
-        → TheRest (told_at s.stage s) ((l.from, words l.bytes) ∷ not_skipped ls) d
+    longer : (t : State) → OneMore target (told_at s.stage s) t l.from (words l.bytes) → TheRest target (told_at t.stage t) (not_skipped ls) d
+        → TheRest target (told_at s.stage s) ((l.from, words l.bytes) ∷ not_skipped ls) d
     longer t o r = record {
       forms = o.form ∷ r.forms;
       tell = (o.says, r.tell);
@@ -377,36 +377,36 @@ from_told n s (l ∷ ls) d h e = at (is_skipped (words l.bytes)) refl e (λ t k 
       valid = r.valid;
     }
 
-    took : (r : Result State DescKind) → ((t : State) → r ≡ Ok t → IsFine t ls) → ((t : State) → r ≡ Ok t → OneMore (told_at s.stage s) t l.from (words l.bytes))
-        → ((t : State) → IsFine t ls → read_from None n t ls ≡ Ok d → TheRest (told_at t.stage t) (not_skipped ls) d) → taken l.from r (λ (t : State). read_from None n t ls) ≡ Ok d
-        → TheRest (told_at s.stage s) ((l.from, words l.bytes) ∷ not_skipped ls) d
+    took : (r : Result State DescKind) → ((t : State) → r ≡ Ok t → IsFine t ls) → ((t : State) → r ≡ Ok t → OneMore target (told_at s.stage s) t l.from (words l.bytes))
+        → ((t : State) → IsFine t ls → read_from target None n t ls ≡ Ok d → TheRest target (told_at t.stage t) (not_skipped ls) d) → taken l.from r (λ (t : State). read_from target None n t ls) ≡ Ok d
+        → TheRest target (told_at s.stage s) ((l.from, words l.bytes) ∷ not_skipped ls) d
     took (Err x) fine told go e = absurd (err_ok _ _ e)
     took (Ok t) fine told go e = longer t (told t refl) (go t (fine t refl) e)
 
-    at : (b : Bool) → is_skipped (words l.bytes) ≡ b → taken l.from (cond b (Ok s) (step_at s.stage s l.from (words l.bytes) (register_behind ls))) (λ (t : State). read_from None n t ls) ≡ Ok d
-        → ((t : State) → IsFine t ls → read_from None n t ls ≡ Ok d → TheRest (told_at t.stage t) (not_skipped ls) d)
-        → TheRest (told_at s.stage s) (cond b (not_skipped ls) ((l.from, words l.bytes) ∷ not_skipped ls)) d
+    at : (b : Bool) → is_skipped (words l.bytes) ≡ b → taken l.from (cond b (Ok s) (step_at target s.stage s l.from (words l.bytes) (register_behind ls))) (λ (t : State). read_from target None n t ls) ≡ Ok d
+        → ((t : State) → IsFine t ls → read_from target None n t ls ≡ Ok d → TheRest target (told_at t.stage t) (not_skipped ls) d)
+        → TheRest target (told_at s.stage s) (cond b (not_skipped ls) ((l.from, words l.bytes) ∷ not_skipped ls)) d
     at true f e go = go s (skip_kept s l ls f h) e
-    at false f e go = took _ (λ t g. line_kept s t l ls l.from h (rw f g)) (λ t g. step_told s.stage s t l.from (words l.bytes) (l ∷ ls) (register_behind ls) refl h.stage g) go e
+    at false f e go = took _ (λ t g. line_kept target s t l ls l.from h (rw f g)) (λ t g. step_told target s.stage s t l.from (words l.bytes) (l ∷ ls) (register_behind ls) refl h.stage g) go e
 
 -- nothing is read where an `each` line is bad
-none_bad : (bad : Option ℕ) (n : ℕ) (s : State) (ls : List ExpandedLine) (d : Content) → read_from bad n s ls ≡ Ok d → bad ≡ None
-none_bad None n s ls d e = refl
-none_bad (Some b) n s [] d e = absurd (err_ok _ _ e)
-none_bad (Some b) n s (l ∷ ls) d e = at (line_step s l.from (words l.bytes) (register_behind ls)) e (λ t f. none_bad (Some b) n t ls d f)
+none_bad : (target : List ℕ) (bad : Option ℕ) (n : ℕ) (s : State) (ls : List ExpandedLine) (d : Content) → read_from target bad n s ls ≡ Ok d → bad ≡ None
+none_bad target None n s ls d e = refl
+none_bad target (Some b) n s [] d e = absurd (err_ok _ _ e)
+none_bad target (Some b) n s (l ∷ ls) d e = at (line_step target s l.from (words l.bytes) (register_behind ls)) e (λ t f. none_bad target (Some b) n t ls d f)
   where
-    at : (r : Result State DescKind) → taken l.from r (λ (t : State). read_from (Some b) n t ls) ≡ Ok d → ((t : State) → read_from (Some b) n t ls ≡ Ok d → Some b ≡ None) → Some b ≡ None
+    at : (r : Result State DescKind) → taken l.from r (λ (t : State). read_from target (Some b) n t ls) ≡ Ok d → ((t : State) → read_from target (Some b) n t ls ≡ Ok d → Some b ≡ None) → Some b ≡ None
     at (Err x) e go = absurd (err_ok _ _ e)
     at (Ok t) e go = go t e
 
-pub desc_read : (bytes : List ℕ) (d : Content) → read bytes ≡ Ok d → Desc bytes d
-desc_read bytes d e =
+pub desc_read : (target : List ℕ) (bytes : List ℕ) (d : Content) → read_for target bytes ≡ Ok d → DescFor target bytes d
+desc_read target bytes d e =
     let ls = (expand bytes).lines in
-    let good : (expand bytes).bad ≡ None = none_bad (expand bytes).bad _ start ls d e in
-    let r = from_told (line_behind bytes) start ls d (begins [] [] [] [] [] [] ls refl refl refl) (ap (λ (b : Option ℕ). read_from b (line_behind bytes) start ls) (sym good) ∙ e) in
-    let P : List Form → Type 0 = Tell (not_skipped ls) in
+    let good : (expand bytes).bad ≡ None = none_bad target (expand bytes).bad _ start ls d e in
+    let r = from_told target (line_behind bytes) start ls d (begins [] [] [] [] [] [] ls refl refl refl) (ap (λ (b : Option ℕ). read_from target b (line_behind bytes) start ls) (sym good) ∙ e) in
+    let P : List Form → Type 0 = Tell target (not_skipped ls) in
     record { valid = r.valid; good = good; text = subst P r.whole r.tell }
 
-pub found : (r : Result Content DescFault) (bytes : List ℕ) → Answers r (read bytes) → IfOk r (λ d. Desc bytes d)
-found (Ok d) bytes e = desc_read bytes d e
-found (Err x) bytes e = tt
+pub found : (target : List ℕ) (r : Result Content DescFault) (bytes : List ℕ) → Answers r (read_for target bytes) → IfOk r (λ d. DescFor target bytes d)
+found target (Ok d) bytes e = desc_read target bytes d e
+found target (Err x) bytes e = tt

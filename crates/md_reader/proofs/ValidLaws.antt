@@ -27,8 +27,8 @@ use Rattle.md_reader.specs.declared.reading.Stage.TheVariants as stage
 use Rattle.md_reader.specs.Patterns.{kind_at, sort_of_symbol, sorted_test, walk, count}
 use Rattle.md_reader.specs.Symbols.{class_from, class_of, symbols_of}
 use Rattle.md_types.specs.declared.types.ExpandedLine.{ExpandedLine}
-use Rattle.md_types.specs.Forms.{is_skipped, are_both}
-use Rattle.md_reader.specs.Forms.{is_version, is_name, pool_form, class_form, spill_form, saved_number}
+use Rattle.md_types.specs.Forms.{is_skipped}
+use Rattle.md_reader.specs.Forms.{is_version, is_target, is_name, pool_form, class_form, spill_form, saved_number}
 use Rattle.md_reader.specs.RuleForms.{rule_form, if_form, do_form, give_form, plain_give, has_register, is_passed}
 use Rattle.md_reader.specs.RuleForms.{register_behind}
 use Rattle.md_reader.specs.Restrictions.{restriction_fits}
@@ -326,19 +326,19 @@ pool_kept s t xs ls ws None v f h e = absurd (err_ok _ _ e)
 pool_kept s t xs ls ws (Some m) v f h e =
     rw (← ok_same _ _ _ _ refl refl e) (record { classes = h.classes; spills = h.spills; few = h.few; rules = h.rules; stage = record { pool = pool_is ws m v; spills = f.spills; rules = f.rules } })
 
-step_kept : (g : Stage) (s t : State) (l : ExpandedLine) (ls : List ExpandedLine) (n : ℕ) → s.stage ≡ g → StageFact g s (l ∷ ls) → IsFine s (l ∷ ls)
-    → step_at g s n (words l.bytes) (register_behind ls) ≡ Ok t → IsFine t ls
-step_kept stage.Version s t l ls n g f h e =
+step_kept : (target : List ℕ) (g : Stage) (s t : State) (l : ExpandedLine) (ls : List ExpandedLine) (n : ℕ) → s.stage ≡ g → StageFact g s (l ∷ ls) → IsFine s (l ∷ ls)
+    → step_at target g s n (words l.bytes) (register_behind ls) ≡ Ok t → IsFine t ls
+step_kept target stage.Version s t l ls n g f h e =
     let a = unless (is_version (words l.bytes)) _ _ t e in
     rw (← ok_same _ _ _ _ refl refl a.1) (blank_after s (l ∷ ls) ls stage.Target f h (record { classes = f.classes; spills = f.spills; rules = f.rules }))
-step_kept stage.Target s t l ls n g f h e =
-    let a = unless (are_both (words l.bytes) (codes "target") (codes "vax")) _ _ t e in
+step_kept target stage.Target s t l ls n g f h e =
+    let a = unless (is_target target (words l.bytes)) _ _ t e in
     rw (← ok_same _ _ _ _ refl refl a.1) (blank_after s (l ∷ ls) ls stage.Pool f h (record { classes = f.classes; spills = f.spills; rules = f.rules }))
-step_kept stage.Pool s t l ls n g f h e = pool_kept s t (l ∷ ls) ls (words l.bytes) _ refl f h e
-step_kept stage.Classes s t l ls n g f h e = class_line_kept s t (l ∷ ls) ls n (words l.bytes) _ refl f g h e
-step_kept stage.Spills s t l ls n g f h e = spill_kept s t (l ∷ ls) ls n (spill_form (words l.bytes)) (record { pool = f.pool; few = f.few; rules = f.rules }) h e
-step_kept stage.Rules s t l ls n g f h e = rule_kept s t (l ∷ ls) ls (rule_form (words l.bytes)) f h e
-step_kept stage.Template s t l ls n g f h e = if_line_kept s t l ls n _ refl f g h e
+step_kept target stage.Pool s t l ls n g f h e = pool_kept s t (l ∷ ls) ls (words l.bytes) _ refl f h e
+step_kept target stage.Classes s t l ls n g f h e = class_line_kept s t (l ∷ ls) ls n (words l.bytes) _ refl f g h e
+step_kept target stage.Spills s t l ls n g f h e = spill_kept s t (l ∷ ls) ls n (spill_form (words l.bytes)) (record { pool = f.pool; few = f.few; rules = f.rules }) h e
+step_kept target stage.Rules s t l ls n g f h e = rule_kept s t (l ∷ ls) ls (rule_form (words l.bytes)) f h e
+step_kept target stage.Template s t l ls n g f h e = if_line_kept s t l ls n _ refl f g h e
 
 -- a line that says nothing
 skipped_passed : (ws : List (List ℕ)) → is_skipped ws ≡ true → is_passed ws ≡ true
@@ -357,12 +357,12 @@ stage_after stage.Template s l ls e f = record { whole = f.whole; few = f.few; s
 pub skip_kept : (s : State) (l : ExpandedLine) (ls : List ExpandedLine) → is_skipped (words l.bytes) ≡ true → IsFine s (l ∷ ls) → IsFine s ls
 skip_kept s l ls e h = record { classes = h.classes; spills = h.spills; few = h.few; rules = h.rules; stage = stage_after s.stage s l ls e h.stage }
 
-pub line_kept : (s t : State) (l : ExpandedLine) (ls : List ExpandedLine) (n : ℕ) → IsFine s (l ∷ ls) → line_step s n (words l.bytes) (register_behind ls) ≡ Ok t → IsFine t ls
-line_kept s t l ls n h e = at (is_skipped (words l.bytes)) refl e
+pub line_kept : (target : List ℕ) (s t : State) (l : ExpandedLine) (ls : List ExpandedLine) (n : ℕ) → IsFine s (l ∷ ls) → line_step target s n (words l.bytes) (register_behind ls) ≡ Ok t → IsFine t ls
+line_kept target s t l ls n h e = at (is_skipped (words l.bytes)) refl e
   where
-    at : (b : Bool) → is_skipped (words l.bytes) ≡ b → cond b (Ok s) (step_at s.stage s n (words l.bytes) (register_behind ls)) ≡ Ok t → IsFine t ls
+    at : (b : Bool) → is_skipped (words l.bytes) ≡ b → cond b (Ok s) (step_at target s.stage s n (words l.bytes) (register_behind ls)) ≡ Ok t → IsFine t ls
     at true f e = rw (← ok_same _ _ _ _ refl refl e) (skip_kept s l ls f h)
-    at false f e = step_kept s.stage s t l ls n refl h.stage h e
+    at false f e = step_kept target s.stage s t l ls n refl h.stage h e
 
 -- what is left at the end is valid
 pub is_valid : (s : State) → s.stage ≡ stage.Rules → 1 ≤ length s.rules → IsFine s [] → IsValid (record { pool = s.pool; classes = s.classes; spills = s.spills; rules = s.rules })
@@ -394,7 +394,7 @@ begins classes spills rules right restrictions written left e f g = rw (e, f, g)
 })
 
 -- a line that is taken keeps what was read fine
-pub line_fine : {X : Type 0} (r : Result X LineFault) (s t : State) (l : ExpandedLine) (ls : List ExpandedLine) (n : ℕ) → Stepped r t (line_step s n (words l.bytes) (register_behind ls))
+pub line_fine : {X : Type 0} (target : List ℕ) (r : Result X LineFault) (s t : State) (l : ExpandedLine) (ls : List ExpandedLine) (n : ℕ) → Stepped r t (line_step target s n (words l.bytes) (register_behind ls))
     → OnOk r (IsFine s (l ∷ ls) → IsFine t ls)
-line_fine (Ok x) s t l ls n e = λ h. line_kept s t l ls n h e
-line_fine (Err x) s t l ls n e = tt
+line_fine target (Ok x) s t l ls n e = λ h. line_kept target s t l ls n h e
+line_fine target (Err x) s t l ls n e = tt

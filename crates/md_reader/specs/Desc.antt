@@ -1,6 +1,5 @@
 -- Which bytes are a description, and what it says.
-use Rattle.std.specs.Prelude.{◌≡◌, ℕ, zero, suc, ◌+◌, true, List, [], ◌∷◌, ◌++◌, codes, map, Some, None, if◌then◌else◌}
-use Rattle.std.specs.List.{flat_map}
+use Rattle.std.specs.Prelude.{◌≡◌, ℕ, true, List, [], ◌∷◌, ◌++◌, codes, Some, None, if◌then◌else◌}
 use Rattle.md_reader_text.specs.Words.{words}
 use Rattle.md_types.specs.declared.types.ExpandedLine.{ExpandedLine}
 use Rattle.md_types.specs.Forms.{is_skipped}
@@ -8,16 +7,11 @@ use Rattle.md_types.specs.Copies.{letter}
 use Rattle.md_types.specs.Expand.{expand}
 use Rattle.md_reader_pieces.specs.declared.piece.Line.{Line}
 use Rattle.md_reader_pieces.specs.Pieces.{text_of, pieces}
-use Rattle.tree_core.specs.Names.{name_of}
 use Rattle.md_reader.specs.declared.types.Kind.{Kind}
 use Rattle.md_reader.specs.declared.types.Kind.TheVariants as kind
-use Rattle.md_reader.specs.declared.types.Class.{Class}
-use Rattle.md_reader.specs.declared.types.Sym.{Sym}
-use Rattle.md_reader.specs.declared.types.Sym.TheVariants as grammar_symbol
 use Rattle.md_reader.specs.declared.types.Restriction.{Restriction}
 use Rattle.md_reader.specs.declared.types.Give.{Give}
 use Rattle.md_reader.specs.declared.types.Give.TheVariants as give
-use Rattle.md_reader.specs.declared.types.Rule.{Rule}
 use Rattle.md_reader.specs.declared.forms.Saved.{Saved}
 use Rattle.md_reader.specs.declared.forms.Saved.TheVariants as saved
 use Rattle.md_reader.specs.declared.faults.DescFault.{DescFault}
@@ -26,18 +20,7 @@ use Rattle.md_reader.specs.Forms.{is_version, pool_form, saved_number}
 use Rattle.md_reader.specs.RuleForms.{restriction_form, plain_give}
 use Rattle.md_reader.specs.State.{Content}
 use Rattle.md_reader.specs.Valid.{IsValid}
-
--- what one line says
-pub data Form : Type 0 where
-  Version : Form
-  Target : Form
-  Pool : ℕ → Form
-  Declares : Class → Form
-  Saves : ℕ → Line → Form
-  Head : List ℕ → List (List ℕ) → Form
-  Restricts : Restriction → Form
-  Writes : Line → Form
-  Gives : Give → Form
+use Rattle.md_reader.specs.Telling.{Form, Version, Target, Pool, Declares, Saves, Head, Restricts, Writes, Gives, telling}
 
 abbrev pub kind_words : Kind → List (List ℕ)
 kind_words kind.Reg = codes "Reg" ∷ []
@@ -86,42 +69,17 @@ pub record IsGive (n : ℕ) (ws : List (List ℕ)) (g : Give) : Type 0 where
   pub stands : ws ≡ codes "give" ∷ word ∷ []
   pub says : GiveWord n word g
 
--- the line with this number and these words says this
-abbrev pub Says : ℕ → List (List ℕ) → Form → Type 0
-Says n ws Version = is_version ws ≡ true
-Says n ws Target = ws ≡ codes "target" ∷ codes "vax" ∷ []
-Says n ws (Pool m) = pool_form ws ≡ Some m
-Says n ws (Declares c) = ws ≡ codes "class" ∷ c.name ∷ kind_words c.kind
-Says n ws (Saves i l) = IsSaved i n ws l
-Says n ws (Head class ss) = ws ≡ codes "rule" ∷ class ∷ codes ":" ∷ ss
-Says n ws (Restricts r) = IsRestriction ws r
-Says n ws (Writes l) = IsInstruction (codes "do" ∷ []) n ws l
-Says n ws (Gives g) = IsGive n ws g
-
--- the name of the class with this number
-abbrev pub name_at : List Class → ℕ → List ℕ
-name_at [] i = []
-name_at (c ∷ cs) zero = c.name
-name_at (c ∷ cs) (suc i) = name_at cs i
-
-abbrev pub symbol_word : List Class → Sym → List ℕ
-symbol_word classes (grammar_symbol.Tok t) = name_of t
-symbol_word classes (grammar_symbol.Class c) = name_at classes c
-
--- the eight lines, from one on
-abbrev pub saving : ℕ → List Line → List Form
-saving i [] = []
-saving i (l ∷ ls) = Saves i l ∷ saving (i + 1) ls
-
--- a rule: its head, its restrictions, its template's lines, and what it gives
-abbrev pub ruling : List Class → Rule → List Form
-ruling classes r =
-    Head (name_at classes r.left) (map (symbol_word classes) r.right)
-    ∷ (map Restricts r.restrictions ++ (map Writes r.lines ++ Gives r.give ∷ []))
-
--- what the lines of a description say, in their order
-abbrev pub telling : Content → List Form
-telling d = Version ∷ Target ∷ Pool d.pool ∷ (map Declares d.classes ++ (saving 0 d.spills ++ flat_map (ruling d.classes) d.rules))
+-- the line with this number and these words says this; the word of a `target` line must be `target`
+abbrev pub Says : List ℕ → ℕ → List (List ℕ) → Form → Type 0
+Says target n ws Version = is_version ws ≡ true
+Says target n ws Target = ws ≡ codes "target" ∷ target ∷ []
+Says target n ws (Pool m) = pool_form ws ≡ Some m
+Says target n ws (Declares c) = ws ≡ codes "class" ∷ c.name ∷ kind_words c.kind
+Says target n ws (Saves i l) = IsSaved i n ws l
+Says target n ws (Head class ss) = ws ≡ codes "rule" ∷ class ∷ codes ":" ∷ ss
+Says target n ws (Restricts r) = IsRestriction ws r
+Says target n ws (Writes l) = IsInstruction (codes "do" ∷ []) n ws l
+Says target n ws (Gives g) = IsGive n ws g
 
 -- the lines that say something, each with its number and its words; blank lines and comments don't
 abbrev pub not_skipped : List ExpandedLine → List (ℕ × List (List ℕ))
@@ -129,19 +87,27 @@ not_skipped [] = []
 not_skipped (l ∷ ls) = if is_skipped (words l.bytes) then not_skipped ls else (l.from, words l.bytes) ∷ not_skipped ls
 
 -- these lines say this one after the other
-abbrev pub Tell : List (ℕ × List (List ℕ)) → List Form → Type 0
-Tell [] [] = Unit {0}
-Tell [] (f ∷ fs) = ⊥
-Tell (x ∷ xs) [] = ⊥
-Tell (x ∷ xs) (f ∷ fs) = Says x.0 x.1 f × Tell xs fs
+abbrev pub Tell : List ℕ → List (ℕ × List (List ℕ)) → List Form → Type 0
+Tell target [] [] = Unit {0}
+Tell target [] (f ∷ fs) = ⊥
+Tell target (x ∷ xs) [] = ⊥
+Tell target (x ∷ xs) (f ∷ fs) = Says target x.0 x.1 f × Tell target xs fs
 
--- these bytes are a description, and that is its content: no `each` line is bad, and the lines say it in which the rules are written out
-pub record Desc (bytes : List ℕ) (d : Content) : Type 0 where
+-- these bytes are a description for the target of that word, and that is its content: no `each` line is bad, and the lines say it in
+-- which the rules are written out
+pub record DescFor (target bytes : List ℕ) (d : Content) : Type 0 where
   pub valid : IsValid d
   pub good : (expand bytes).bad ≡ None
-  pub text : Tell (not_skipped (expand bytes).lines) (telling d)
+  pub text : Tell target (not_skipped (expand bytes).lines) (telling d)
 
--- a refusal that isn't for want of memory: these bytes are no description
+-- a refusal that isn't for want of memory: these bytes are no description for that target
+abbrev pub RefusedFor : List ℕ → List ℕ → DescFault → Type 0
+RefusedFor target bytes desc_fault.NoMemory = Unit {0}
+RefusedFor target bytes (desc_fault.Line line kind) = (d : Content) → DescFor target bytes d → ⊥
+
+-- with the VAX as the target
+abbrev pub Desc : List ℕ → Content → Type 0
+Desc bytes d = DescFor (codes "vax") bytes d
+
 abbrev pub Refused : List ℕ → DescFault → Type 0
-Refused bytes desc_fault.NoMemory = Unit {0}
-Refused bytes (desc_fault.Line line kind) = (d : Content) → Desc bytes d → ⊥
+Refused bytes fault = RefusedFor (codes "vax") bytes fault

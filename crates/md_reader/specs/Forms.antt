@@ -17,6 +17,10 @@ use Rattle.md_reader.specs.declared.forms.Saved.TheVariants as saved
 abbrev pub is_version : List (List ℕ) → Bool
 is_version ws = are_both ws (codes "version") (codes "1") || are_both ws (codes "version") (codes "2")
 
+-- `target`, and the word of the machine that is described
+abbrev pub is_target : List ℕ → List (List ℕ) → Bool
+is_target target ws = are_both ws (codes "target") target
+
 -- a register's number, 0 to 11
 abbrev pub register_numbered : ℕ → Option ℕ
 register_numbered n = if nat_le n 11 then Some n else None

@@ -14,5 +14,6 @@ pub mod Reads
 pub mod View
 pub mod Valid
 pub mod Fine
+pub mod Telling
 pub mod Desc
 pub mod First

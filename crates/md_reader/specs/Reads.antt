@@ -1,6 +1,6 @@
 -- Reading all lines: the description, or the first wrong line and what is wrong there.
 use Rattle.std.specs.Prelude.{◌≡◌, ℕ, ◌+◌, nat_le, false, List, [], ◌∷◌, length, Option, Some, None}
-use Rattle.std.specs.Prelude.{Result, Ok, Err, if◌then◌else◌}
+use Rattle.std.specs.Prelude.{Result, Ok, Err, codes, if◌then◌else◌}
 use Rattle.md_reader_text.specs.Lines.{lines}
 use Rattle.md_reader_text.specs.Words.{words}
 use Rattle.md_types.specs.declared.types.ExpandedLine.{ExpandedLine}
@@ -56,18 +56,22 @@ taken n (Ok t) go = go t
 taken n (Err k) go = Err (n, k)
 
 -- the lines that are left, with the first bad `each` line behind them; the number of the text's lines is one less than n
-abbrev pub read_from : Option ℕ → ℕ → State → List ExpandedLine → Result Content (ℕ × DescKind)
-read_from bad n s [] = closed bad n s
-read_from bad n s (l ∷ ls) = taken l.from (line_step s l.from (words l.bytes) (register_behind ls))
-    (λ (t : State). read_from bad n t ls)
+abbrev pub read_from : List ℕ → Option ℕ → ℕ → State → List ExpandedLine → Result Content (ℕ × DescKind)
+read_from target bad n s [] = closed bad n s
+read_from target bad n s (l ∷ ls) = taken l.from (line_step target s l.from (words l.bytes) (register_behind ls))
+    (λ (t : State). read_from target bad n t ls)
 
 -- the number of the line behind the last
 abbrev pub line_behind : List ℕ → ℕ
 line_behind bytes = length (lines bytes) + 1
 
 -- the lines in which each rule that is written once for several sizes stands once for each
+abbrev pub read_for : List ℕ → List ℕ → Result Content (ℕ × DescKind)
+read_for target bytes = read_from target (expand bytes).bad (line_behind bytes) start (expand bytes).lines
+
+-- with the VAX as the target
 abbrev pub read : List ℕ → Result Content (ℕ × DescKind)
-read bytes = read_from (expand bytes).bad (line_behind bytes) start (expand bytes).lines
+read bytes = read_for (codes "vax") bytes
 
 abbrev pub Refuses : DescFault → Result Content (ℕ × DescKind) → Type 0
 Refuses desc_fault.NoMemory to = Unit {0}

@@ -2,7 +2,7 @@
 ghost use Rattle.std.specs.Prelude.{◌≡◌, ◌≤◌, ◌^◌, IfSome};
 ghost use Rattle.std.specs.Option.{option_map};
 ghost use Rattle.md_reader_text.specs.Words.{words};
-ghost use Rattle.md_reader.specs.Forms.{is_version, register_of, with_register, pool_from, pool_form};
+ghost use Rattle.md_reader.specs.Forms.{is_version, is_target, register_of, with_register, pool_from, pool_form};
 ghost use Rattle.md_reader.specs.Forms.{in_name, is_name, plain_kind, sized_kind, kind_form};
 ghost use Rattle.md_reader.specs.Forms.{class_form, sized_form, spill_words, spill_form, saved_number};
 ghost use Rattle.md_reader.specs.RuleForms.{rule_form, symbol_number, same_form, range_form, restriction_form};
@@ -42,6 +42,19 @@ pub fn is_version(line: &[u8]) -> bool
     ensures { result ≡ is_version (words line.now) }
 {
     are_both(line, "version", "1") || are_both(line, "version", "2")
+}
+
+/// Whether the line is `target` with this word behind it. An empty text and one with a blank are no words: no line has them.
+pub fn is_target(target: &[u8], line: &[u8]) -> bool
+    ensures { result ≡ is_target target.now (words line.now) }
+{
+    let Some((a, rest)) = next_word(line) else {
+        return false;
+    };
+    let Some((b, rest)) = next_word(rest) else {
+        return false;
+    };
+    next_word(rest).is_none() && is_word(a, "target") && b == target
 }
 
 fn register_of(word: &[u8]) -> Option<u32>

@@ -16,6 +16,6 @@ pub use faults::{DescFault, DescKind};
 pub use md_reader_pieces::{Line, Piece, Pieces};
 pub use md_reader_text::is_word;
 pub use patterns::kind_at;
-pub use reader::read_description;
+pub use reader::{read_description, read_description_for};
 pub use rows::{is_nothing, same_size};
 pub use types::{Class, Give, Kind, Lines, Restriction, Restrictions, Rule, Sym, Symbols};

@@ -1,12 +1,12 @@
 // Reading a description.
 ghost use Rattle.std.specs.Prelude.{◌≡◌, ◌≤◌, length, IfOk, IfErr};
 ghost use Rattle.md_reader.specs.State.{Content};
-ghost use Rattle.md_reader.specs.Desc.{Desc, Refused};
-ghost use Rattle.md_reader.specs.First.{IsFirst};
+ghost use Rattle.md_reader.specs.Desc.{DescFor, RefusedFor, Desc, Refused};
+ghost use Rattle.md_reader.specs.First.{IsFirstFor, IsFirst};
 ghost use Rattle.md_reader_text.specs.Lines.{lines};
 ghost use Rattle.md_reader.specs.Fine.{IsFine};
 ghost use Rattle.md_reader.specs.View.{state};
-ghost use Rattle.md_reader.specs.Reads.{start, ended, closed, read_from, line_behind, read, Answers};
+ghost use Rattle.md_reader.specs.Reads.{start, ended, closed, read_from, line_behind, read_for, read, Answers};
 
 use crate::description::Description;
 use crate::faults::{DescFault, DescKind, LineFault};
@@ -71,8 +71,13 @@ fn close(reading: Reading, bad: Option<u32>, line: u32) -> Result<Description, D
 }
 
 #[tactic(auto, using(crate::proofs::ValidLaws::begins))]
-fn read_lines(alloc: Global, text: &Expanded, end: u32) -> Result<Description, DescFault>
-    ensures { Answers result (read_from text.now.bad end start text.now.lines) }
+fn read_lines(
+    alloc: Global,
+    target: &[u8],
+    text: &Expanded,
+    end: u32,
+) -> Result<Description, DescFault>
+    ensures { Answers result (read_from target.now text.now.bad end start text.now.lines) }
 {
     let mut reading = Reading {
         stage: Stage::Version,
@@ -88,7 +93,7 @@ fn read_lines(alloc: Global, text: &Expanded, end: u32) -> Result<Description, D
     };
     let mut rest = text.lines.as_slice();
     while let [line, after @ ..] = rest {
-        match reading.line(alloc, line, after) {
+        match reading.line(alloc, target, line, after) {
             Ok(()) => {}
             Err(LineFault::NoMemory) => return Err(DescFault::NoMemory),
             Err(LineFault::Wrong(kind)) => return wrong_at(line.from, kind),
@@ -112,18 +117,40 @@ fn line_behind(bytes: &[u8]) -> u32
     number
 }
 
-fn read_all(alloc: Global, bytes: &[u8]) -> Result<Description, DescFault>
+fn read_all(alloc: Global, target: &[u8], bytes: &[u8]) -> Result<Description, DescFault>
     requires { length bytes.now ≤ DESCRIPTION_LIMIT }
-    ensures { Answers result (read bytes.now) }
+    ensures { Answers result (read_for target.now bytes.now) }
 {
     let Ok(text) = expand(alloc, bytes) else {
         return Err(DescFault::NoMemory);
     };
-    read_lines(alloc, &text, line_behind(bytes))
+    read_lines(alloc, target, &text, line_behind(bytes))
 }
 
-/// The description that the bytes are, or the first wrong line and what is wrong there.
+/// The description that the bytes are, or the first wrong line and what is wrong there. The word of its `target` line must be
+/// `target`; where that is empty or has a blank, which no word has, no bytes are a description.
 #[tactic(auto, using(crate::proofs::ToldLaws::found, crate::proofs::AgainLaws::only, crate::proofs::AgainLaws::refusal, crate::proofs::FirstLaws::is_first))]
+pub fn read_description_for(
+    alloc: Global,
+    bytes: &[u8],
+    target: &[u8],
+) -> Result<Description, DescFault>
+    requires { length bytes.now ≤ DESCRIPTION_LIMIT }
+    // The first wrong line, and there the first kind that applies.
+    ensures answers { Answers result (read_for target.now bytes.now) }
+    // What is read is a description, and that is its content.
+    ensures found { IfOk result (λ d. DescFor target.now bytes.now d) }
+    // They are no other's.
+    ensures only { IfOk result (λ d. (c : Content) → DescFor target.now bytes.now c → d ≡ c) }
+    // Where nothing is read the bytes are no description, unless memory ran out.
+    ensures refused { IfErr result (RefusedFor target.now bytes.now) }
+    // The line that is named is the first wrong one: all before it are taken.
+    ensures first { IfErr result (IsFirstFor target.now bytes.now) }
+{
+    read_all(alloc, target, bytes)
+}
+
+/// The description for the VAX that the bytes are, or the first wrong line and what is wrong there.
 pub fn read_description(alloc: Global, bytes: &[u8]) -> Result<Description, DescFault>
     requires { length bytes.now ≤ DESCRIPTION_LIMIT }
     // The first wrong line, and there the first kind that applies.
@@ -137,5 +164,5 @@ pub fn read_description(alloc: Global, bytes: &[u8]) -> Result<Description, Desc
     // The line that is named is the first wrong one: all before it are taken.
     ensures first { IfErr result (IsFirst bytes.now) }
 {
-    read_all(alloc, bytes)
+    read_description_for(alloc, bytes, "vax".as_bytes())
 }

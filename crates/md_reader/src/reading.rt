@@ -13,8 +13,8 @@ ghost use Rattle.md_reader.specs.Steps.{step, line_step};
 
 use crate::faults::{DescKind, LineFault};
 use crate::forms::{
-    class_form, do_form, give_form, if_form, is_version, plain_give, pool_form, register_behind,
-    rule_form, spill_form,
+    class_form, do_form, give_form, if_form, is_target, is_version, plain_give, pool_form,
+    register_behind, rule_form, spill_form,
 };
 use crate::patterns::{is_sorted, is_tree, kind_at, sort_of_symbol};
 use crate::rows::{is_bare, line_fits, pieces_fit, plain_fits, restriction_fits, shape_fits};
@@ -23,7 +23,7 @@ use crate::types::{Class, Give, Kind, Lines, Restriction, Restrictions, Rule, Sy
 use gg_base::Name;
 use md_reader_pieces::{Line, Piece, Pieces, line_text, pieces};
 use md_reader_text::is_word;
-use md_types::{ExpandedLine, are_both, is_skipped};
+use md_types::{ExpandedLine, is_skipped};
 use std::alloc::Global;
 
 /// What may come next.
@@ -270,15 +270,16 @@ impl Reading {
         }
     }
 
-    /// Takes a line that says something.
+    /// Takes a line that says something; `target` is the word that its line must have.
     fn step(
         &mut self,
         alloc: Global,
+        target: &[u8],
         number: u32,
         line: &[u8],
         behind: &[ExpandedLine],
     ) -> Result<(), LineFault>
-        ensures { Stepped result (state self.new) (step (state self.old) number (words line.now)
+        ensures { Stepped result (state self.new) (step target.now (state self.old) number (words line.now)
             (register_behind behind.now)) }
     {
         match self.stage {
@@ -290,7 +291,7 @@ impl Reading {
                 Ok(())
             }
             Stage::Target => {
-                if !are_both(line, "target", "vax") {
+                if !is_target(target, line) {
                     return Err(LineFault::Wrong(DescKind::BadWord));
                 }
                 self.stage = Stage::Pool;
@@ -320,17 +321,18 @@ impl Reading {
     fn take(
         &mut self,
         alloc: Global,
+        target: &[u8],
         number: u32,
         line: &[u8],
         behind: &[ExpandedLine],
     ) -> Result<(), LineFault>
-        ensures { Stepped result (state self.new) (line_step (state self.old) number (words line.now)
+        ensures { Stepped result (state self.new) (line_step target.now (state self.old) number (words line.now)
             (register_behind behind.now)) }
     {
         if is_skipped(line) {
             return Ok(());
         }
-        self.step(alloc, number, line, behind)
+        self.step(alloc, target, number, line, behind)
     }
 
     /// Takes a line; those behind it say whether a template may have `%0`.
@@ -338,15 +340,16 @@ impl Reading {
     pub fn line(
         &mut self,
         alloc: Global,
+        target: &[u8],
         line: &ExpandedLine,
         behind: &[ExpandedLine],
     ) -> Result<(), LineFault>
-        ensures stepped { Stepped result (state self.new) (line_step (state self.old) line.now.from (words line.now.bytes)
+        ensures stepped { Stepped result (state self.new) (line_step target.now (state self.old) line.now.from (words line.now.bytes)
             (register_behind behind.now)) }
         // What was read so far stays valid.
         ensures fine { OnOk result (IsFine (state self.old) (line.now ∷ behind.now) → IsFine (state self.new) behind.now) }
     {
-        self.take(alloc, line.from, line.bytes.as_slice(), behind)
+        self.take(alloc, target, line.from, line.bytes.as_slice(), behind)
     }
 }
 

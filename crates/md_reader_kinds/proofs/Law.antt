@@ -1,6 +1,6 @@
 -- Each line's kind is the first of its row.
 use Rattle.std.proofs.Common.{◌≡◌, ℕ, ◌==◌, Bool, true, false, List, [], ◌∷◌, length, Option, Some, None, refl, ap, ◌∙◌}
-use Rattle.std.specs.Prelude.{is_none, is_some, Result, Ok, Err, codes, nat_le, not, ◌||◌, if◌then◌else◌}
+use Rattle.std.specs.Prelude.{is_none, is_some, Result, Ok, Err, nat_le, not, ◌||◌, if◌then◌else◌}
 use Rattle.tree_core.specs.declared.token.Sort.{Sort}
 use Rattle.md_reader_pieces.specs.declared.piece.Piece.{Piece}
 use Rattle.md_reader_pieces.specs.Pieces.{text_of, pieces}
@@ -16,8 +16,7 @@ use Rattle.md_reader.specs.declared.reading.Stage.{Stage}
 use Rattle.md_reader.specs.declared.reading.Stage.TheVariants as stage
 use Rattle.md_reader.specs.Patterns.{kind_at, sort_of_symbol, sorted_test, walk, count}
 use Rattle.md_reader.specs.Symbols.{class_of, symbols_of}
-use Rattle.md_types.specs.Forms.{are_both}
-use Rattle.md_reader.specs.Forms.{is_version, pool_form, class_form, spill_form, saved_number}
+use Rattle.md_reader.specs.Forms.{is_version, is_target, pool_form, class_form, spill_form, saved_number}
 use Rattle.md_reader.specs.RuleForms.{rule_form, if_form, do_form, give_form, plain_give}
 use Rattle.md_reader.specs.Restrictions.{restriction_fits}
 use Rattle.md_reader.specs.Rows.{line_fits, pieces_fit, shape_fits, plain_fits, is_bare}
@@ -201,17 +200,18 @@ module _ (s : State) (n : ℕ) (z : Bool) where
   pool_kind None = refl
   pool_kind (Some m) = refl
 
-  step_kind : (g : Stage) (ws : List (List ℕ)) → Kind_of (step_at g s n ws z) (said_at g s ws)
-  step_kind stage.Version ws = head (is_version ws) _
-  step_kind stage.Target ws = head (are_both ws (codes "target") (codes "vax")) _
-  step_kind stage.Pool ws = pool_kind (pool_form ws)
-  step_kind stage.Classes ws = class_line_kind (class_form ws) ws
-  step_kind stage.Spills ws = spill_line_kind (spill_form ws)
-  step_kind stage.Rules ws = rule_line_kind (rule_form ws)
-  step_kind stage.Template ws = if_line_kind (if_form ws) ws
+  step_kind : (target : List ℕ) (g : Stage) (ws : List (List ℕ)) → Kind_of (step_at target g s n ws z) (said_at target g s ws)
+  step_kind target stage.Version ws = head (is_version ws) _
+  step_kind target stage.Target ws = head (is_target target ws) _
+  step_kind target stage.Pool ws = pool_kind (pool_form ws)
+  step_kind target stage.Classes ws = class_line_kind (class_form ws) ws
+  step_kind target stage.Spills ws = spill_line_kind (spill_form ws)
+  step_kind target stage.Rules ws = rule_line_kind (rule_form ws)
+  step_kind target stage.Template ws = if_line_kind (if_form ws) ws
 
 pub first_kind_is_answered : FirstKindIsAnswered
-first_kind_is_answered s n ws z e = ap (λ (b : Bool). kind_of (if b then Ok s else step s n ws z)) e ∙ step_kind s n z s.stage ws
+first_kind_is_answered target s n ws z e =
+    ap (λ (b : Bool). kind_of (if b then Ok s else step target s n ws z)) e ∙ step_kind s n z target s.stage ws
 
 -- where the lines end
 spill_or_stmt : (n : ℕ) (b : Bool) → end_kind (if b then Err (n, kinds.MissingSpill) else Err (n, kinds.MissingStmt)) ≡ (if not b then Some kinds.MissingStmt else Some kinds.MissingSpill)

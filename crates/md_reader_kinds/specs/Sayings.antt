@@ -1,5 +1,5 @@
 -- What a line says by its form, if its form is allowed at the point where it stands.
-use Rattle.std.specs.Prelude.{ℕ, ◌==◌, Bool, List, length, Option, Some, None, codes, if◌then◌else◌}
+use Rattle.std.specs.Prelude.{ℕ, ◌==◌, Bool, List, length, Option, Some, None, if◌then◌else◌}
 use Rattle.std.specs.Option.{option_map}
 use Rattle.md_reader_pieces.specs.Pieces.{text_of}
 use Rattle.md_reader.specs.declared.types.Kind.{Kind}
@@ -7,8 +7,7 @@ use Rattle.md_reader.specs.declared.types.Restriction.{Restriction}
 use Rattle.md_reader.specs.declared.forms.Saved.{Saved}
 use Rattle.md_reader.specs.declared.reading.Stage.{Stage}
 use Rattle.md_reader.specs.declared.reading.Stage.TheVariants as stage
-use Rattle.md_types.specs.Forms.{are_both}
-use Rattle.md_reader.specs.Forms.{is_version, pool_form, class_form, spill_form, saved_number}
+use Rattle.md_reader.specs.Forms.{is_version, is_target, pool_form, class_form, spill_form, saved_number}
 use Rattle.md_reader.specs.RuleForms.{rule_form, if_form, do_form, give_form}
 use Rattle.md_reader.specs.State.{State}
 
@@ -43,14 +42,15 @@ abbrev pub if_said : State → Option Restriction → List (List ℕ) → Option
 if_said s (Some r) ws = if length s.lines == 0 then Some (If r) else None
 if_said s None ws = do_said (do_form ws) ws
 
-abbrev pub said_at : Stage → State → List (List ℕ) → Option Saying
-said_at stage.Version s ws = head_if (is_version ws)
-said_at stage.Target s ws = head_if (are_both ws (codes "target") (codes "vax"))
-said_at stage.Pool s ws = option_map (λ (m : ℕ). Head) (pool_form ws)
-said_at stage.Classes s ws = class_said s (class_form ws) ws
-said_at stage.Spills s ws = spill_said s (spill_form ws)
-said_at stage.Rules s ws = option_map (λ (x : List ℕ × List (List ℕ)). NewRule x.0 x.1) (rule_form ws)
-said_at stage.Template s ws = if_said s (if_form ws) ws
+-- the word of the machine is `target`
+abbrev pub said_at : List ℕ → Stage → State → List (List ℕ) → Option Saying
+said_at target stage.Version s ws = head_if (is_version ws)
+said_at target stage.Target s ws = head_if (is_target target ws)
+said_at target stage.Pool s ws = option_map (λ (m : ℕ). Head) (pool_form ws)
+said_at target stage.Classes s ws = class_said s (class_form ws) ws
+said_at target stage.Spills s ws = spill_said s (spill_form ws)
+said_at target stage.Rules s ws = option_map (λ (x : List ℕ × List (List ℕ)). NewRule x.0 x.1) (rule_form ws)
+said_at target stage.Template s ws = if_said s (if_form ws) ws
 
-abbrev pub said : State → List (List ℕ) → Option Saying
-said s ws = said_at s.stage s ws
+abbrev pub said : List ℕ → State → List (List ℕ) → Option Saying
+said target s ws = said_at target s.stage s ws

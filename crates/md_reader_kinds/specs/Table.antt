@@ -91,10 +91,11 @@ abbrev pub kind_of : Result State DescKind → Option DescKind
 kind_of (Ok t) = None
 kind_of (Err k) = Some k
 
--- The reader answers the first kind that applies to a line, and takes the line exactly where none does. A line that says nothing is taken.
+-- The reader answers the first kind that applies to a line, and takes the line exactly where none does, whatever the word of the machine
+-- is. A line that says nothing is taken.
 abbrev pub FirstKindIsAnswered : Type 0
-FirstKindIsAnswered = (s : State) (n : ℕ) (ws : List (List ℕ)) (z : Bool) → is_skipped ws ≡ false → kind_of (line_step s n ws z)
-    ≡ first (rows s z (said s ws))
+FirstKindIsAnswered = (target : List ℕ) (s : State) (n : ℕ) (ws : List (List ℕ)) (z : Bool) → is_skipped ws ≡ false
+    → kind_of (line_step target s n ws z) ≡ first (rows s z (said target s ws))
 
 -- what was read before the lines end
 abbrev pub is_at : Stage → Stage → Bool

@@ -3,7 +3,7 @@
 
 ghost use Rattle.md_reader_kinds.specs.Table.{FirstKindIsAnswered, FirstKindAtTheEnd};
 
-/// The reader answers the first kind of the table that applies to a line, and takes the line exactly where none does.
+/// The reader answers the first kind of the table that applies to a line, and takes the line exactly where none does, for any target.
 pub fn first_kind_is_answered()
     ensures { FirstKindIsAnswered }
 {}
