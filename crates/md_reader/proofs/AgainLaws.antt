@@ -123,7 +123,8 @@ All-mid (p ∷ pre) c post h = All-mid pre c post h.1
 abbrev declaring : ℕ → List Class → State
 declaring m cs = record { stage = stage.Classes; pool = m; classes = cs; spills = []; rules = []; left = 0; right = []; restrictions = []; lines = []; register = false }
 
-class_again : (target : List ℕ) (m : ℕ) (pre : List Class) (c : Class) (post : List Class) (fs : List Form) → AreClasses (pre ++ c ∷ post) → Steps target (declaring m pre) (Declares c) fs (declaring m (pre ++ c ∷ []))
+class_again : (target : List ℕ) (m : ℕ) (pre : List Class) (c : Class) (post : List Class) (fs : List Form) → AreClasses (pre ++ c ∷ post)
+    → Steps target (declaring m pre) (Declares c) fs (declaring m (pre ++ c ∷ []))
 class_again target m pre c post fs h n ws ls r e =
     let a = All-mid pre c post h.named in
     let few = h.few in
@@ -131,7 +132,8 @@ class_again target m pre c post fs h n ws ls r e =
     let f = not_found 0 pre c post h.apart in
     rw (e, a, kind_again c.kind, b, f) refl
 
-classes_run : (target : List ℕ) (m : ℕ) (pre post : List Class) (fs : List Form) (d : Content) → AreClasses (pre ++ post) → Runs target (declaring m (pre ++ post)) fs d → Runs target (declaring m pre) (map Declares post ++ fs) d
+classes_run : (target : List ℕ) (m : ℕ) (pre post : List Class) (fs : List Form) (d : Content) → AreClasses (pre ++ post) → Runs target (declaring m (pre ++ post)) fs d
+    → Runs target (declaring m pre) (map Declares post ++ fs) d
 classes_run target m pre [] fs d h runs = rw (append-nil pre) at runs
 classes_run target m pre (c ∷ post) fs d h runs =
     let a = append_assoc pre (c ∷ []) post in
@@ -177,7 +179,8 @@ saved_again : (target : List ℕ) (m : ℕ) (cs : List Class) (pre : List Line) 
     → Steps target (saves stage.Spills m cs pre) (Saves (length pre) l) fs (saves (stage_behind pre) m cs (pre ++ l ∷ []))
 saved_again target m cs pre l fs st fit some n ws ls r e = instruction_again stage.Spills m cs pre l n ws st fit e
 
-first_again : (target : List ℕ) (m : ℕ) (cs : List Class) (l : Line) (fs : List Form) → has_stmt cs ≡ true → IsSpill l → Steps target (declaring m cs) (Saves 0 l) fs (saves stage.Spills m cs (l ∷ []))
+first_again : (target : List ℕ) (m : ℕ) (cs : List Class) (l : Line) (fs : List Form) → has_stmt cs ≡ true → IsSpill l
+    → Steps target (declaring m cs) (Saves 0 l) fs (saves stage.Spills m cs (l ∷ []))
 first_again target m cs l fs st fit n ws ls r e =
     let k = e.instruction in
     rw (k.stands, no_class e.saved k.words) (instruction_again stage.Classes m cs [] l n (saved_words e.saved ++ k.words) st fit (rw k.stands at e))
@@ -380,7 +383,8 @@ passed_skip (a ∷ ws) x y e = rw e refl
 given_here : (n : ℕ) (ws : List (List ℕ)) (g : Give) (x : Bool) → IsGive n ws g → cond (is_passed ws) x (gives_register (give_form ws)) ≡ has_register (Some g)
 given_here n ws g x k = rw k.stands (has_register_word n k.word g k.says)
 
-flagged : (target : List ℕ) (ls : List ExpandedLine) (rs : List Restriction) (ws : List Line) (g : Give) (fs : List Form) → Tell target (not_skipped ls) (map Restricts rs ++ (map Writes ws ++ Gives g ∷ fs))
+flagged : (target : List ℕ) (ls : List ExpandedLine) (rs : List Restriction) (ws : List Line) (g : Give) (fs : List Form)
+    → Tell target (not_skipped ls) (map Restricts rs ++ (map Writes ws ++ Gives g ∷ fs))
     → register_behind ls ≡ has_register (Some g)
 flagged target [] [] [] g fs c = absurd c
 flagged target [] [] (w ∷ ws) g fs c = absurd c
@@ -495,7 +499,8 @@ give_taken s r n w (give.Shape l) v e m = rw (e.0, e.1, m.0, m.1, line_again n l
 give_again : (target : List ℕ) (s : State) (r : Rule) (fs : List Form) → MayGive s.classes r.left r.right r.give → Steps target (inside s r r.restrictions r.lines) (Gives r.give) fs (behind s r)
 give_again target s r fs m n ws ls c e = rw e.stands (give_taken s r n e.word r.give refl e.says m)
 
-rule_run : (target : List ℕ) (s : State) (r : Rule) (fs : List Form) (d : Content) → s.stage ≡ stage.Rules → AreClasses s.classes → IsRule s.classes r → length s.rules ≤ 999 → Runs target (behind s r) fs d
+rule_run : (target : List ℕ) (s : State) (r : Rule) (fs : List Form) (d : Content) → s.stage ≡ stage.Rules → AreClasses s.classes → IsRule s.classes r → length s.rules ≤ 999
+    → Runs target (behind s r) fs d
     → Runs target s (ruling s.classes r ++ fs) d
 rule_run target s r fs d g h k few runs =
     let t = k.template in

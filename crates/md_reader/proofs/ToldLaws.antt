@@ -154,7 +154,8 @@ class_pushed m classes c spills rules a b =
     rw (a, b) (ap (λ (x : List Form). Version ∷ Target ∷ Pool m ∷ x) (append-nil (map Declares (classes ++ c ∷ [])) ∙ map-push Declares classes c
     ∙ ap (λ (x : List Form). x ++ Declares c ∷ []) (sym (append-nil (map Declares classes)))))
 
-class_told : (target : List ℕ) (s t : State) (n : ℕ) (ws : List (List ℕ)) (name : List ℕ) (k : Kind) (o : Option ℕ) → ws ≡ codes "class" ∷ name ∷ kind_words k → IsDeclaring s → s.stage ≡ stage.Classes
+class_told : (target : List ℕ) (s t : State) (n : ℕ) (ws : List (List ℕ)) (name : List ℕ) (k : Kind) (o : Option ℕ) → ws ≡ codes "class" ∷ name ∷ kind_words k → IsDeclaring s
+    → s.stage ≡ stage.Classes
     → new_class s name k o ≡ Ok t → OneMore target (telling (content_of s)) t n ws
 class_told target s t n ws name k (Some i) w d g e = absurd (err_ok _ _ e)
 class_told target s t n ws name k None w d g e =
@@ -197,7 +198,8 @@ spill_text_told : (target : List ℕ) (s t : State) (n : ℕ) (ws : List (List �
 spill_text_told target s t n ws x None a b c r e = absurd (err_ok _ _ e)
 spill_text_told target s t n ws x (Some w) a b c r e = spill_pieces_told target s t n ws x w _ a b c refl r e
 
-spill_line_told : (target : List ℕ) (s t : State) (n : ℕ) (ws : List (List ℕ)) (o : Option (Saved × List (List ℕ))) → spill_form ws ≡ o → s.rules ≡ [] → spill_line s n o ≡ Ok t → OneMore target (telling (content_of s)) t n ws
+spill_line_told : (target : List ℕ) (s t : State) (n : ℕ) (ws : List (List ℕ)) (o : Option (Saved × List (List ℕ))) → spill_form ws ≡ o → s.rules ≡ []
+    → spill_line s n o ≡ Ok t → OneMore target (telling (content_of s)) t n ws
 spill_line_told target s t n ws None v r e = absurd (err_ok _ _ e)
 spill_line_told target s t n ws (Some x) v r e =
     let a = unless (eqb (saved_number x.0) (length s.spills)) _ _ t e in
@@ -235,7 +237,8 @@ left_told target s t n ws ss class z (Some left) w f e =
     let k = ap (λ (x : List ℕ). codes "rule" ∷ x ∷ codes ":" ∷ ss) (sym (class_named s.classes class left f)) in
     right_told target s t n ws ss left z _ (w ∙ k) refl e
 
-rule_told : (target : List ℕ) (s t : State) (n : ℕ) (ws : List (List ℕ)) (z : Bool) (o : Option (List ℕ × List (List ℕ))) → rule_form ws ≡ o → rule_line s z o ≡ Ok t → OneMore target (telling (content_of s)) t n ws
+rule_told : (target : List ℕ) (s t : State) (n : ℕ) (ws : List (List ℕ)) (z : Bool) (o : Option (List ℕ × List (List ℕ))) → rule_form ws ≡ o → rule_line s z o ≡ Ok t
+    → OneMore target (telling (content_of s)) t n ws
 rule_told target s t n ws z None v e = absurd (err_ok _ _ e)
 rule_told target s t n ws z (Some x) v e =
     let a = when (nat_le 1000 (length s.rules)) _ _ t e in
@@ -258,7 +261,8 @@ do_pushed p h rs ls l =
     ap (λ (x : List Form). p ++ h ∷ x) (ap (λ (x : List Form). rs ++ x) (map-push Writes ls l) ∙ sym (append_assoc rs (map Writes ls) (Writes l ∷ [])))
     ∙ sym (append_assoc p (h ∷ (rs ++ map Writes ls)) (Writes l ∷ []))
 
-if_told : (target : List ℕ) (s t : State) (n : ℕ) (ws : List (List ℕ)) (r : Restriction) → if_form ws ≡ Some r → s.stage ≡ stage.Template → if_step s r ≡ Ok t → OneMore target (told_at stage.Template s) t n ws
+if_told : (target : List ℕ) (s t : State) (n : ℕ) (ws : List (List ℕ)) (r : Restriction) → if_form ws ≡ Some r → s.stage ≡ stage.Template → if_step s r ≡ Ok t
+    → OneMore target (told_at stage.Template s) t n ws
 if_told target s t n ws r v g e =
     let a = unless (eqb (length s.lines) 0) _ _ t e in
     let b = when (nat_le 4 (length s.restrictions)) _ _ t a.1 in
@@ -290,7 +294,8 @@ do_told target s t n ws rest (Some w) a b g e =
 rule_pushed : (h : List Form) (d s q : List Form) (x : Form) (r w : List Form) (g : Form) → h ++ (d ++ (s ++ (q ++ (x ∷ (r ++ (w ++ g ∷ [])))))) ≡ ((h ++ (d ++ (s ++ q))) ++ (x ∷ (r ++ w))) ++ g ∷ []
 rule_pushed h d s q x r w g = simp append_assoc
 
-given_told : (target : List ℕ) (s : State) (n : ℕ) (ws : List (List ℕ)) (w : List ℕ) (g : Give) → ws ≡ codes "give" ∷ w ∷ [] → GiveWord n w g → OneMore target (told_at stage.Template s) (ended_rule s g) n ws
+given_told : (target : List ℕ) (s : State) (n : ℕ) (ws : List (List ℕ)) (w : List ℕ) (g : Give) → ws ≡ codes "give" ∷ w ∷ [] → GiveWord n w g
+    → OneMore target (told_at stage.Template s) (ended_rule s g) n ws
 given_told target s n ws w g a b =
     let r : Rule = record { left = s.left; right = s.right; restrictions = s.restrictions; lines = s.lines; give = g } in
     record {
@@ -302,7 +307,8 @@ given_told target s n ws w g a b =
           (Head (name_at s.classes s.left) (map (symbol_word s.classes) s.right)) (map Restricts s.restrictions) (map Writes s.lines) (Gives g);
     }
 
-shape_told : (target : List ℕ) (s t : State) (n : ℕ) (ws : List (List ℕ)) (w : List ℕ) (o : Option (List Piece)) → ws ≡ codes "give" ∷ w ∷ [] → plain_give w ≡ None → pieces w ≡ o → shape_step s n o ≡ Ok t
+shape_told : (target : List ℕ) (s t : State) (n : ℕ) (ws : List (List ℕ)) (w : List ℕ) (o : Option (List Piece)) → ws ≡ codes "give" ∷ w ∷ [] → plain_give w ≡ None
+    → pieces w ≡ o → shape_step s n o ≡ Ok t
     → OneMore target (told_at stage.Template s) t n ws
 shape_told target s t n ws w None a b c e = absurd (err_ok _ _ e)
 shape_told target s t n ws w (Some ps) a b c e =
@@ -321,15 +327,18 @@ give_line_told : (target : List ℕ) (s t : State) (n : ℕ) (ws : List (List �
 give_line_told target s t n ws None v e = absurd (err_ok _ _ e)
 give_line_told target s t n ws (Some w) v e = give_told target s t n ws w _ (give_line_is ws w v) refl e
 
-do_line_told : (target : List ℕ) (s t : State) (n : ℕ) (ws : List (List ℕ)) (o : Option (List (List ℕ))) → do_form ws ≡ o → s.stage ≡ stage.Template → do_line s n o ws ≡ Ok t → OneMore target (told_at stage.Template s) t n ws
+do_line_told : (target : List ℕ) (s t : State) (n : ℕ) (ws : List (List ℕ)) (o : Option (List (List ℕ))) → do_form ws ≡ o → s.stage ≡ stage.Template → do_line s n o ws ≡ Ok t
+    → OneMore target (told_at stage.Template s) t n ws
 do_line_told target s t n ws None v g e = give_line_told target s t n ws _ refl e
 do_line_told target s t n ws (Some rest) v g e = do_told target s t n ws rest _ (do_line_is ws rest v) refl g e
 
-if_line_told : (target : List ℕ) (s t : State) (n : ℕ) (ws : List (List ℕ)) (o : Option Restriction) → if_form ws ≡ o → s.stage ≡ stage.Template → if_line s n o ws ≡ Ok t → OneMore target (told_at stage.Template s) t n ws
+if_line_told : (target : List ℕ) (s t : State) (n : ℕ) (ws : List (List ℕ)) (o : Option Restriction) → if_form ws ≡ o → s.stage ≡ stage.Template → if_line s n o ws ≡ Ok t
+    → OneMore target (told_at stage.Template s) t n ws
 if_line_told target s t n ws None v g e = do_line_told target s t n ws _ refl g e
 if_line_told target s t n ws (Some r) v g e = if_told target s t n ws r v g e
 
-step_told : (target : List ℕ) (g : Stage) (s t : State) (n : ℕ) (ws : List (List ℕ)) (xs : List ExpandedLine) (z : Bool) → s.stage ≡ g → StageFact g s xs → step_at target g s n ws z ≡ Ok t → OneMore target (told_at g s) t n ws
+step_told : (target : List ℕ) (g : Stage) (s t : State) (n : ℕ) (ws : List (List ℕ)) (xs : List ExpandedLine) (z : Bool) → s.stage ≡ g → StageFact g s xs
+    → step_at target g s n ws z ≡ Ok t → OneMore target (told_at g s) t n ws
 step_told target stage.Version s t n ws xs z g f e =
     let a = unless (is_version ws) _ _ t e in
     rw (← ok_same _ _ _ _ refl refl a.1) (record { form = Version; says = a.0; more = refl })
@@ -378,12 +387,14 @@ from_told target n s (l ∷ ls) d h e = at (is_skipped (words l.bytes)) refl e (
     }
 
     took : (r : Result State DescKind) → ((t : State) → r ≡ Ok t → IsFine t ls) → ((t : State) → r ≡ Ok t → OneMore target (told_at s.stage s) t l.from (words l.bytes))
-        → ((t : State) → IsFine t ls → read_from target None n t ls ≡ Ok d → TheRest target (told_at t.stage t) (not_skipped ls) d) → taken l.from r (λ (t : State). read_from target None n t ls) ≡ Ok d
+        → ((t : State) → IsFine t ls → read_from target None n t ls ≡ Ok d → TheRest target (told_at t.stage t) (not_skipped ls) d)
+        → taken l.from r (λ (t : State). read_from target None n t ls) ≡ Ok d
         → TheRest target (told_at s.stage s) ((l.from, words l.bytes) ∷ not_skipped ls) d
     took (Err x) fine told go e = absurd (err_ok _ _ e)
     took (Ok t) fine told go e = longer t (told t refl) (go t (fine t refl) e)
 
-    at : (b : Bool) → is_skipped (words l.bytes) ≡ b → taken l.from (cond b (Ok s) (step_at target s.stage s l.from (words l.bytes) (register_behind ls))) (λ (t : State). read_from target None n t ls) ≡ Ok d
+    at : (b : Bool) → is_skipped (words l.bytes) ≡ b
+        → taken l.from (cond b (Ok s) (step_at target s.stage s l.from (words l.bytes) (register_behind ls))) (λ (t : State). read_from target None n t ls) ≡ Ok d
         → ((t : State) → IsFine t ls → read_from target None n t ls ≡ Ok d → TheRest target (told_at t.stage t) (not_skipped ls) d)
         → TheRest target (told_at s.stage s) (cond b (not_skipped ls) ((l.from, words l.bytes) ∷ not_skipped ls)) d
     at true f e go = go s (skip_kept s l ls f h) e
@@ -395,7 +406,8 @@ none_bad target None n s ls d e = refl
 none_bad target (Some b) n s [] d e = absurd (err_ok _ _ e)
 none_bad target (Some b) n s (l ∷ ls) d e = at (line_step target s l.from (words l.bytes) (register_behind ls)) e (λ t f. none_bad target (Some b) n t ls d f)
   where
-    at : (r : Result State DescKind) → taken l.from r (λ (t : State). read_from target (Some b) n t ls) ≡ Ok d → ((t : State) → read_from target (Some b) n t ls ≡ Ok d → Some b ≡ None) → Some b ≡ None
+    at : (r : Result State DescKind) → taken l.from r (λ (t : State). read_from target (Some b) n t ls) ≡ Ok d
+        → ((t : State) → read_from target (Some b) n t ls ≡ Ok d → Some b ≡ None) → Some b ≡ None
     at (Err x) e go = absurd (err_ok _ _ e)
     at (Ok t) e go = go t e
 

@@ -357,7 +357,8 @@ stage_after stage.Template s l ls e f = record { whole = f.whole; few = f.few; s
 pub skip_kept : (s : State) (l : ExpandedLine) (ls : List ExpandedLine) → is_skipped (words l.bytes) ≡ true → IsFine s (l ∷ ls) → IsFine s ls
 skip_kept s l ls e h = record { classes = h.classes; spills = h.spills; few = h.few; rules = h.rules; stage = stage_after s.stage s l ls e h.stage }
 
-pub line_kept : (target : List ℕ) (s t : State) (l : ExpandedLine) (ls : List ExpandedLine) (n : ℕ) → IsFine s (l ∷ ls) → line_step target s n (words l.bytes) (register_behind ls) ≡ Ok t → IsFine t ls
+pub line_kept : (target : List ℕ) (s t : State) (l : ExpandedLine) (ls : List ExpandedLine) (n : ℕ) → IsFine s (l ∷ ls)
+    → line_step target s n (words l.bytes) (register_behind ls) ≡ Ok t → IsFine t ls
 line_kept target s t l ls n h e = at (is_skipped (words l.bytes)) refl e
   where
     at : (b : Bool) → is_skipped (words l.bytes) ≡ b → cond b (Ok s) (step_at target s.stage s n (words l.bytes) (register_behind ls)) ≡ Ok t → IsFine t ls
@@ -394,7 +395,8 @@ begins classes spills rules right restrictions written left e f g = rw (e, f, g)
 })
 
 -- a line that is taken keeps what was read fine
-pub line_fine : {X : Type 0} (target : List ℕ) (r : Result X LineFault) (s t : State) (l : ExpandedLine) (ls : List ExpandedLine) (n : ℕ) → Stepped r t (line_step target s n (words l.bytes) (register_behind ls))
+pub line_fine : {X : Type 0} (target : List ℕ) (r : Result X LineFault) (s t : State) (l : ExpandedLine) (ls : List ExpandedLine) (n : ℕ)
+    → Stepped r t (line_step target s n (words l.bytes) (register_behind ls))
     → OnOk r (IsFine s (l ∷ ls) → IsFine t ls)
 line_fine target (Ok x) s t l ls n e = λ h. line_kept target s t l ls n h e
 line_fine target (Err x) s t l ls n e = tt

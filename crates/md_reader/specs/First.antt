@@ -15,7 +15,8 @@ use Rattle.md_reader.specs.Reads.{start, closed, line_behind}
 pub data Takes (target : List ℕ) : State → List ExpandedLine → List ExpandedLine → State → Type 0 where
   no_line : {s : State} {back : List ExpandedLine} → Takes target s [] back s
   one_line : {s t u : State} {l : ExpandedLine} {ls back : List ExpandedLine}
-      → line_step target s l.from (words l.bytes) (register_behind (ls ++ back)) ≡ Ok t → Takes target t ls back u → Takes target s (l ∷ ls) back u
+      → line_step target s l.from (words l.bytes) (register_behind (ls ++ back)) ≡ Ok t
+      → Takes target t ls back u → Takes target s (l ∷ ls) back u
 
 -- the line with the number n is wrong in this way, and all before it are taken
 pub record WrongLine (target : List ℕ) (s : State) (all : List ExpandedLine) (n : ℕ) (kind : DescKind) : Type 0 where
@@ -29,7 +30,8 @@ pub record WrongLine (target : List ℕ) (s : State) (all : List ExpandedLine) (
   pub wrong : line_step target state n (words line.bytes) (register_behind back) ≡ Err kind
 
 -- all lines are taken, and behind them stands a bad `each` line, or something is missing
-pub record WrongEnd (target : List ℕ) (bad : Option ℕ) (m : ℕ) (s : State) (all : List ExpandedLine) (n : ℕ) (kind : DescKind) : Type 0 where
+pub record WrongEnd (target : List ℕ) (bad : Option ℕ) (m : ℕ) (s : State) (all : List ExpandedLine) (n : ℕ)
+    (kind : DescKind) : Type 0 where
   pub state : State
   pub right : Takes target s all [] state
   pub wrong : closed bad m state ≡ Err (n, kind)
