@@ -4,3 +4,5 @@ pub mod Compiling
 pub mod Running
 pub mod Texts
 pub mod Bounding
+pub mod Long
+pub mod Loading

@@ -4,5 +4,6 @@
 pub mod bounds;
 pub mod exact;
 pub mod laws;
+pub mod loads;
 
 pub use cmd_compile::Pass;
