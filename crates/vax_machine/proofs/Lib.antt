@@ -13,3 +13,4 @@ pub mod TableLaws
 pub mod LayoutLaws
 pub mod Starting
 pub mod Room
+pub mod Rows

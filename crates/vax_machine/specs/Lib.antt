@@ -8,6 +8,7 @@ pub mod Operands
 pub mod Functions
 pub mod Labels
 pub mod Tables
+pub mod Rows
 pub mod Found
 pub mod LaidOut
 pub mod Nexts

@@ -2,12 +2,12 @@
 ghost use Rattle.std.specs.Prelude.{◌≡◌, ◌≤◌, vec_len};
 ghost use Rattle.gg_base.specs.declared.limits.TheConstants.{AREA_LIMIT, STACK_SIZE};
 
-use crate::function::{Action, Computed, Conditions, Function, Test, action_of};
+use crate::function::{Action, Computed, Conditions, Function, Test};
 use crate::operands::{Arguments, Destination};
-use crate::program::{Links, Program};
+use crate::program::{Links, Program, Row};
 use crate::turn::{BAD_CODE, Stop, Turn};
 use gg_base::{Name, Size};
-use vax_core::{CodeItem, Instr, Shape};
+use vax_core::{CodeItem, Instr};
 use vax_machine_live::Frames;
 
 /// A machine that runs a code on an input.
@@ -32,6 +32,7 @@ impl<'a> Machine<'a> {
     ghost use Rattle.vax_machine.specs.Step.{step_of, IsStep, act, instruction, acted, finished, pushing, branched};
     ghost use Rattle.vax_machine.specs.View.{state};
     ghost use Rattle.vax_machine.specs.Tables.{target_of, links_of};
+    ghost use Rattle.vax_machine.specs.Rows.{row_view, row_of};
     ghost use Rattle.vax_core.specs.declared.code.CodeItem.TheVariants as item_kind;
 
     /// Does the next instruction. It takes no memory. Once the run is over, each further call answers so again.
@@ -62,22 +63,19 @@ impl<'a> Machine<'a> {
             return Err(BAD_CODE);
         };
         let links = self.program.links(place);
+        let row = self.program.row(place);
         self.place = place + 1;
-        self.instruction(instr, links)
+        self.instruction(instr, row, links)
     }
 
     #[tactic(auto, unfolding(crate::specs::Step::instruction))]
-    fn instruction(&mut self, instr: &Instr, links: Links) -> Result<Option<u8>, Stop>
-        requires { links ≡ links_of self.old.program.layout.now self.old.program.items.now (item_kind.Instr instr.now) }
+    fn instruction(&mut self, instr: &Instr, row: Row, links: Links) -> Result<Option<u8>, Stop>
+        requires row { row_view row ≡ row_of (item_kind.Instr instr.now) }
+        requires links { links ≡ links_of self.old.program.layout.now self.old.program.items.now (item_kind.Instr instr.now) }
         ensures { Does result (state self.new) (instruction (state self.old) instr.now.op instr.now.operands instr.now.target) }
     {
-        let Shape {
-            mnemonic: _,
-            operands: kinds,
-            target: _,
-        } = instr.op.shape();
-        let arguments = self.evaluate_all(kinds, instr.operands.as_slice(), &links.numbers)?;
-        self.act_on(action_of(instr.op), arguments, &instr.target, links.target)
+        let arguments = self.evaluate_all(row.kinds, instr.operands.as_slice(), &links.numbers)?;
+        self.act_on(row.action, arguments, &instr.target, links.target)
     }
 
     fn act_on(

@@ -222,6 +222,9 @@ impl<'a> Machine<'a> {
             unreachable!();
         };
         let front = self.evaluate(*kind, operand, *number)?;
+        if kinds.is_empty() {
+            return Ok(Arguments::NONE.with_front(front));
+        }
         let others = self.evaluate_all(kinds, operands, numbers)?;
         Ok(others.with_front(front))
     }

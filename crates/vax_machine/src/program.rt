@@ -3,13 +3,15 @@ ghost use Rattle.std.specs.Prelude.{◌≡◌, ◌≤◌, ◌<◌, length, map, 
 ghost use Rattle.std.specs.Option.{option_copied};
 ghost use Rattle.vax_machine.specs.Labels.{next_item};
 ghost use Rattle.vax_machine.specs.Tables.{base_number, operand_number, target_of, links_of};
+ghost use Rattle.vax_machine.specs.Rows.{row_view, row_of};
 ghost use Rattle.vax_machine.specs.Nexts.{HasNexts};
 
 use crate::area::Laid;
+use crate::function::{Action, action_of};
 use crate::label::Names;
 use gg_base::Name;
 use std::alloc::{AllocError, Global};
-use vax_core::{AreaItem, Base, CodeItem, Instr, Operand};
+use vax_core::{AreaItem, Base, CodeItem, Instr, Operand, OperandKind};
 
 /// What the names of an item stand for.
 #[derive(Clone, Copy)]
@@ -20,7 +22,14 @@ pub struct Links {
     pub numbers: [u32; 3],
 }
 
-/// A code, and beside each item what its names stand for.
+/// What an item does, by the two tables of instructions: its operands, and what it does with them.
+#[derive(Clone, Copy)]
+pub struct Row {
+    pub kinds: &'static [OperandKind],
+    pub action: Action,
+}
+
+/// A code, and beside each item what its names stand for and what it does.
 #[derive(Drop)]
 pub struct Program<'a> {
     pub layout: &'a [AreaItem],
@@ -28,8 +37,10 @@ pub struct Program<'a> {
     /// For each place the place of the next item from there on.
     nexts: Vec<usize>,
     links: Vec<Links>,
+    rows: Vec<Row>,
     ghost nexts_are: { HasNexts items.now nexts.items },
     ghost links_are: { links.items ≡ map (links_of layout.now items.now) items.now },
+    ghost rows_are: { map row_view rows.items ≡ map row_of items.now },
 }
 
 fn nexts(alloc: Global, items: &[CodeItem]) -> Result<Vec<usize>, AllocError>
@@ -45,6 +56,31 @@ fn nexts(alloc: Global, items: &[CodeItem]) -> Result<Vec<usize>, AllocError>
         nexts[place] = next;
     }
     Ok(nexts)
+}
+
+fn row_of(item: &CodeItem) -> Row
+    ensures { row_view result ≡ row_of item.now }
+{
+    match item {
+        CodeItem::Label(_) | CodeItem::Globl(_) | CodeItem::Mask(_) => Row {
+            kinds: &[],
+            action: Action::Return,
+        },
+        CodeItem::Instr(instr) => Row {
+            kinds: instr.op.shape().operands,
+            action: action_of(instr.op),
+        },
+    }
+}
+
+fn rows(alloc: Global, items: &[CodeItem]) -> Result<Vec<Row>, AllocError>
+    ensures { IfOk result (λ v. map row_view v.items ≡ map row_of items.now) }
+{
+    let mut rows = Vec::with_capacity(alloc, items.len())?;
+    for item in items {
+        rows.push(row_of(item))?;
+    }
+    Ok(rows)
 }
 
 impl<'a> Names<'a> {
@@ -135,12 +171,14 @@ impl<'b, 'a> Laid<'b, 'a> {
             items: self.names.items,
             nexts: nexts(alloc, self.names.items)?,
             links: self.all_links(alloc)?,
+            rows: rows(alloc, self.names.items)?,
         })
     }
 }
 
 impl<'a> Program<'a> {
     ghost use Rattle.vax_machine.specs.Tables.{links_at};
+    ghost use Rattle.vax_machine.specs.Rows.{row_at};
 
     /// The place of the next item from a place on: the first that is neither a label nor a `.globl` line.
     pub(crate) fn next_item(&self, place: usize) -> usize
@@ -159,5 +197,13 @@ impl<'a> Program<'a> {
         ensures { result ≡ links_at self.now.layout.now self.now.items.now (slice_get self.now.items.now place) }
     {
         self.links[place]
+    }
+
+    /// What the item at a place does.
+    pub(crate) fn row(&self, place: usize) -> Row
+        requires { place < length self.now.items.now }
+        ensures { row_view result ≡ row_at (slice_get self.now.items.now place) }
+    {
+        self.rows[place]
     }
 }
