@@ -2,4 +2,5 @@
 pub mod Trees
 pub mod Naming
 pub mod Courses
+pub mod Unconfined
 pub mod Law

@@ -28,7 +28,7 @@ use Rattle.gg_compile_laws.specs.Keeping.{IsWithinLimits}
 -- each line of the VAX is a valid instruction, as it is written
 lines_pass : (q : TreeProgram) (d : Content) → CanWrite q → LinesPass vax q d is_instr
 lines_pass q d can = record {
-  rules = λ rule e hs result is_rule taken fits spelled is. lines_are_written q d.classes rule e hs result can is_rule taken fits spelled is;
+  rules = λ rule e hs result is_rule taken fits restricted spelled is. lines_are_written q d.classes rule e hs result can is_rule taken fits spelled is;
   values = λ size l a w saves is low. spills_are_written.value q size l a w can saves is low;
   places = λ size l o w saves fits low. spills_are_written.place q size l o w can saves fits low;
   addresses = λ l o w saves fits low. spills_are_written.address q l o w can saves fits low;

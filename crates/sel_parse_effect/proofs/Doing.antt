@@ -60,7 +60,8 @@ use Rattle.sel_parse_stands.specs.Stands.{NamedBy, Names, SymbolIs, Sees, IsFram
 use Rattle.sel_parse_stands.proofs.Carrying.{AllCarried}
 use Rattle.sel_parse_stands.proofs.Instances.{Hold}
 use Rattle.sel_parse_effect.specs.Places.{StoresToPlaces}
-use Rattle.sel_parse_effect.proofs.Effects.{attribute_suc, store_home_alike, store_at_alike, branch_alike, push_alike, call_alike, save_alike, return_alike, jump_alike}
+use Rattle.sel_parse_stands.specs.sel_parse_selected.proofs.Restricting.{attribute_suc}
+use Rattle.sel_parse_effect.proofs.Effects.{store_home_alike, store_at_alike, branch_alike, push_alike, call_alike, save_alike, return_alike, jump_alike}
 use Rattle.sel_parse_effect.proofs.Giving as giving
 use Rattle.sel_parse_effect.proofs.Giving.{V, Later}
 use Rattle.sel_parse_effect.proofs.Homes.{home_found, home_later, forward}

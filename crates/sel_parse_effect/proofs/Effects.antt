@@ -1,8 +1,8 @@
 -- What a template's own effect reads and gives, from its pattern's effect.
-use Rattle.std.proofs.Common.{◌≡◌, ℕ, zero, suc, ◌-◌, ◌*◌, ◌^◌, ◌<◌, ◌==◌, List, [], ◌∷◌, Option, Some, None, Bool, true, false, refl, sym, ap, ◌∙◌, subst, arith, slice_get}
-use Rattle.std.specs.Prelude.{is_some, unwrap_or, ◌||◌, Ok, cond}
+use Rattle.std.proofs.Common.{◌≡◌, ℕ, zero, suc, ◌*◌, ◌^◌, ◌<◌, ◌==◌, List, [], ◌∷◌, Option, Some, None, Bool, true, false, refl, sym, ap, ◌∙◌, subst, arith, slice_get}
+use Rattle.std.specs.Prelude.{is_some, unwrap_or, ◌||◌, Ok}
 use Rattle.std.specs.List.{AllByRecursion as All}
-use Rattle.std.proofs.lemmas.Bool.{eqb-true, and_parts}
+use Rattle.std.proofs.lemmas.Bool.{and_parts}
 use Rattle.std.proofs.lemmas.Option.{none-some, same_Some}
 use Rattle.gg_base.specs.declared.size.Size.{Size}
 use Rattle.gg_base.specs.declared.size.Size.TheVariants.{Byte, Word, Long}
@@ -45,6 +45,7 @@ use Rattle.sel_target.specs.sel_terms_meaning.proofs.Alike.{shown_is_alike}
 use Rattle.sel_target.specs.sel_terms_meaning.proofs.Narrow.{wanted_is_narrow}
 use Rattle.sel_parse_stands.specs.sel_parse_selected.specs.Entries.{Entry}
 use Rattle.sel_parse_stands.specs.sel_parse_selected.specs.Selected.{selecting}
+use Rattle.sel_parse_stands.specs.sel_parse_selected.proofs.Restricting.{attribute_suc}
 use Rattle.sel_parse_stands.specs.sel_parse_selected.specs.Entries.{spelled, same_operands}
 use Rattle.sel_parse_stands.specs.Stands.{Sees, IsFrame, SymbolIs, ClassIs}
 use Rattle.sel_parse_stands.proofs.Instances.{Hold, hs_of, symbol_by, view, symbol_at_small}
@@ -233,12 +234,6 @@ att_constant : {O I S F : Type 0} (of : Meaning O I S F) (q : TreeProgram) (d : 
 att_constant of q d first x (att.Number k) n m e = e
 att_constant of q d first x (att.Object object offset) n m e = e
 att_constant of q d first x _ n m e = absurd (none-some n e)
-
-pub attribute_suc : {X : Type 0} (xs : List X) (j : ℕ) → attribute_at xs (suc j) ≡ slice_get xs j
-attribute_suc xs j = by (suc j == 0) refl where
-  by : (b : Bool) → (suc j == 0) ≡ b → attribute_at xs (suc j) ≡ slice_get xs j
-  by true e = absurd (let h = eqb-true (suc j) 0 e in omega (arith, h))
-  by false e = ap (λ b. cond b None (slice_get xs (suc j - 1))) e ∙ ap (slice_get xs) (let back : suc j - 1 ≡ j = omega arith in back)
 
 module _ {O I S F : Type 0} (of : Meaning O I S F) (law : IsLawful of) (q : TreeProgram) (d : Content) (first : ℕ) (f : Extent) (fs : List Extent) (t : State) (s : Sight) (m0 : S)
     (frame : IsFrame of q d first f fs t s m0) (m : S) (sees : Sees of q d first f fs t s m0 m) where

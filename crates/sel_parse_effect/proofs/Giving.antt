@@ -50,6 +50,7 @@ use Rattle.sel_parse_moves.specs.sel_terms_trees.specs.Effects.{GivesBy, TrapsBy
 use Rattle.sel_target.specs.sel_terms_meaning.specs.Alike.{EffectsAlike, ActsAlike}
 use Rattle.sel_parse_stands.specs.sel_parse_selected.specs.Entries.{Entry, attrs}
 use Rattle.sel_parse_stands.specs.sel_parse_selected.specs.Selected.{selecting}
+use Rattle.sel_parse_stands.specs.sel_parse_selected.proofs.Restricting.{restricted}
 use Rattle.sel_parse_stands.specs.Stands.{Sees, IsFrame, Holds, ClassIs, value as value_is, address as address_is, place as place_is}
 use Rattle.sel_target.specs.Values.{memory as memory_is}
 use Rattle.sel_parse.specs.Shown.{IsShown}
@@ -184,8 +185,8 @@ module _ {O I S F : Type 0} (of : Meaning O I S F) (law : IsLawful of) (q : Tree
         let divisors = map_all true (IsKnown q.objects s vs) (λ i. is_some (V.symbol i) ≡ true) s.area (term_state V) wanted.divisors know ds in
         let reads = effect_reads true V (λ i. is_some (V.symbol i)) (λ i. refl) (facts_of d.classes rule) s.area frame.area found wanted alike safe divisors in
         record {
-          inst = instance of law q d first f fs t s m0 frame m sees m' later.seen true es es' rule vs found valid is_rule shown.found_is later.loaded holds later.now later.carried reads
-              later.answered;
+          inst = instance of law q d first f fs t s m0 frame m sees m' later.seen true es es' rule vs found (restricted of q d first rule.restrictions es hold) valid is_rule
+              shown.found_is later.loaded holds later.now later.carried reads later.answered;
           divides = divides_none V found (alike.divides ∙ none);
         }
 
@@ -201,8 +202,8 @@ module _ {O I S F : Type 0} (of : Meaning O I S F) (law : IsLawful of) (q : Tree
         let safe = map_each false (IsKnown q.objects s vs) (λ i. is_some (V.symbol i) ≡ true) s.area (term_state V) wanted.act know by.safe in
         let divisors = map_all false (IsKnown q.objects s vs) (λ i. is_some (V.symbol i) ≡ true) s.area (term_state V) wanted.divisors know by.divisors in
         let reads = effect_reads false V (λ i. is_some (V.symbol i)) (λ i. refl) (facts_of d.classes rule) s.area frame.area found wanted alike safe divisors in
-        let inst = instance of law q d first f fs t s m0 frame m sees m' later.seen false es es' rule vs found valid is_rule shown.found_is later.loaded holds later.now later.carried reads
-        later.answered in
+        let inst = instance of law q d first f fs t s m0 frame m sees m' later.seen false es es' rule vs found (restricted of q d first rule.restrictions es hold) valid is_rule
+        shown.found_is later.loaded holds later.now later.carried reads later.answered in
         let one = one_zero V found.divisors (law.templates.one_divisor d.classes rule found shown.found_is) (alike.divides ∙ by.divides) in
         law.templates.trap q f fs d.classes rule found one.divisor (attrs es') res V m' inst result one.only one.zero_is
 
@@ -255,7 +256,7 @@ module _ {O I S F : Type 0} (of : Meaning O I S F) (law : IsLawful of) (q : Tree
           (subst (ActsAlike (facts_of d.classes rule) (λ i. is_some (V.symbol i)) s.area (term_state V) found.act) act_is alike.act) in
           let behind = quiet l mode in
           let reads = law.shapes.value_shape q f fs d.classes rule found val.term z l (attrs es') V m' given.inst mode is val.is in
-          let fits = law.spells.shape_fits q d.classes rule found (kind.Value z) l (attrs es') can is_rule shown.found_is mode is given.inst.holes_fit spelled in
+          let fits = law.spells.shape_fits q d.classes rule found (kind.Value z) l (attrs es') can is_rule shown.found_is mode is given.inst.holes_fit given.inst.restricted spelled in
           let number = gives_number (term_state V) vs (wanted_term rule) v (subst (λ a. Gives q.objects s (term_state V) vs a v) act_is by.gives) in
           record {
             state = behind.0;
@@ -274,7 +275,7 @@ module _ {O I S F : Type 0} (of : Meaning O I S F) (law : IsLawful of) (q : Tree
           (subst (ActsAlike (facts_of d.classes rule) (λ i. is_some (V.symbol i)) s.area (term_state V) found.act) act_is alike.act) in
           let behind = quiet l mode in
           let names = law.shapes.address_shape q f fs d.classes rule found val.term Long l (attrs es') V m' given.inst mode is val.is in
-          let fits = law.spells.shape_fits q d.classes rule found kind.Ea l (attrs es') can is_rule shown.found_is mode is given.inst.holes_fit spelled in
+          let fits = law.spells.shape_fits q d.classes rule found kind.Ea l (attrs es') can is_rule shown.found_is mode is given.inst.holes_fit given.inst.restricted spelled in
           let number = gives_address (term_state V) vs (wanted_term rule) v (subst (λ a. Gives q.objects s (term_state V) vs a v) act_is by.gives) in
           record {
             state = behind.0;
@@ -293,7 +294,7 @@ module _ {O I S F : Type 0} (of : Meaning O I S F) (law : IsLawful of) (q : Tree
           (subst (ActsAlike (facts_of d.classes rule) (λ i. is_some (V.symbol i)) s.area (term_state V) found.act) act_is alike.act) in
           let behind = quiet l mode in
           let names = law.shapes.place_shape q f fs d.classes rule found val.term z l (attrs es') V m' given.inst mode is val.is in
-          let fits = law.spells.shape_fits q d.classes rule found (kind.Place z) l (attrs es') can is_rule shown.found_is mode is given.inst.holes_fit spelled in
+          let fits = law.spells.shape_fits q d.classes rule found (kind.Place z) l (attrs es') can is_rule shown.found_is mode is given.inst.holes_fit given.inst.restricted spelled in
           record {
             state = behind.0;
             ran = behind.1;

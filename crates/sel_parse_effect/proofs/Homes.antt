@@ -29,8 +29,10 @@ use Rattle.sel_parse_moves.specs.sel_terms_trees.specs.Senses.{Sense, IsPlace, u
 use Rattle.sel_target.specs.declared.attr.Attr.{Attr}
 use Rattle.sel_target.specs.declared.attr.Attr.TheVariants as attr
 use Rattle.sel_target.specs.Meaning.{Meaning}
-use Rattle.sel_target.specs.Values.{PlaceIs, local, argument, memory, token_operand, own_operand}
+use Rattle.sel_target.specs.Values.{IsArgument, PlaceIs, local, argument, memory, token_operand, own_operand}
+use Rattle.sel_target.proofs.Facts.{argument_number}
 use Rattle.sel_target.specs.Instances.{hole}
+use Rattle.tree_core.specs.Attributes.{attribute_of, is_of_kind}
 use Rattle.sel_target.specs.Laws.{IsLawful}
 use Rattle.sel_target.specs.Symbols.{size_of_entry}
 use Rattle.sel_parse_moves.specs.lr_check_parse.specs.Attributes.{attribute_at, all_hold}
@@ -41,7 +43,8 @@ use Rattle.sel_parse_stands.specs.sel_parse_selected.specs.Selected.{selecting}
 use Rattle.sel_parse_stands.specs.Stands as stands
 use Rattle.sel_parse_stands.specs.Stands.{NamedBy, ClassIs, SymbolIs, IsFrame, Holds}
 use Rattle.sel_parse_stands.proofs.Carrying.{Carried, AllCarried}
-use Rattle.sel_parse_effect.proofs.Effects.{sizes_same, attribute_suc}
+use Rattle.sel_parse_stands.specs.sel_parse_selected.proofs.Restricting.{attribute_suc}
+use Rattle.sel_parse_effect.proofs.Effects.{sizes_same}
 
 -- a value is no place
 pub no_place : (v : Value) (z : Size) (g : Place) → meaning.Of v ≡ g → IsPlace z g → ⊥
@@ -72,36 +75,37 @@ module _ {O I S F : Type 0} (of : Meaning O I S F) (law : IsLawful of) (q : Tree
         ap Some (sym long),
       )
 
-  argument_place : (m : S) (k : ℕ) (z : Size) (g : Place) → 1 ≤ k → k ≤ length t.running.arguments → meaning.Argument k ≡ g → IsPlace z g
+  argument_place : (m : S) (k : ℕ) (z : Size) (g : Place) → IsArgument k → k ≤ length t.running.arguments → meaning.Argument k ≡ g → IsPlace z g
       → Stood m z (Some (of.argument k)) g × (Some Long ≡ Some z)
-  argument_place m zero z g one le e is = absurd (omega (arith, one))
-  argument_place m (suc j) z g one le e is =
+  argument_place m zero z g numbered le e is = absurd (let one = numbered.0 in omega (arith, one))
+  argument_place m (suc j) z g numbered le e is =
       let long : z ≡ Long = subst (IsPlace z) (sym e) is in
       let next : j + 1 ≡ suc j = omega arith in (
         record {
           operand = of.argument (suc j);
           is = refl;
-          place = subst (PlaceIs of f t m z (of.argument (suc j))) (ap meaning.Argument next ∙ e) (argument j long (ap of.argument (sym next)) (omega (arith, le)));
+          place = subst (PlaceIs of f t m z (of.argument (suc j))) (ap meaning.Argument next ∙ e)
+              (argument j long (ap of.argument (sym next)) (omega (arith, le)) (subst IsArgument (sym next) numbered));
         },
         ap Some (sym long),
       )
 
-  token_place : (m : S) (x : Tok) (a : Att) (z : Size) (g : Place) → NamedBy of q d first f fs t s m0 x a
+  token_place : (m : S) (x : Tok) (a : Att) (z : Size) (g : Place) → is_of_kind (attribute_of x) a ≡ true → NamedBy of q d first f fs t s m0 x a
       → token_means q.objects s x a values.Wild values.Wild ≡ g → IsPlace z g → Stood m z (token_operand of x a) g × (Some Long ≡ Some z)
-  token_place m tok.Zero a z g named e is = absurd (no_place (values.Number 0) z g e is)
-  token_place m tok.One a z g named e is = absurd (no_place (values.Number 1) z g e is)
-  token_place m tok.Two a z g named e is = absurd (no_place (values.Number 2) z g e is)
-  token_place m tok.Four a z g named e is = absurd (no_place (values.Number 4) z g e is)
-  token_place m tok.Eight a z g named e is = absurd (no_place (values.Number 8) z g e is)
-  token_place m tok.Const (att.Number n) z g named e is = absurd (no_place (values.Number n) z g e is)
-  token_place m tok.Gaddr (att.Object object offset) z g named e is = absurd (no_place (trees.address_of (slice_get q.objects object) offset) z g e is)
-  token_place m tok.Loc (att.Slot k) z g named e is = local_place m k z g named e is
-  token_place m tok.Arg (att.Slot k) z g named e is = argument_place m k z g named.0 named.1 e is
-  token_place m _ _ z g named e is = absurd (no_place values.Wild z g e is)
+  token_place m tok.Zero a z g fit named e is = absurd (no_place (values.Number 0) z g e is)
+  token_place m tok.One a z g fit named e is = absurd (no_place (values.Number 1) z g e is)
+  token_place m tok.Two a z g fit named e is = absurd (no_place (values.Number 2) z g e is)
+  token_place m tok.Four a z g fit named e is = absurd (no_place (values.Number 4) z g e is)
+  token_place m tok.Eight a z g fit named e is = absurd (no_place (values.Number 8) z g e is)
+  token_place m tok.Const (att.Number n) z g fit named e is = absurd (no_place (values.Number n) z g e is)
+  token_place m tok.Gaddr (att.Object object offset) z g fit named e is = absurd (no_place (trees.address_of (slice_get q.objects object) offset) z g e is)
+  token_place m tok.Loc (att.Slot k) z g fit named e is = local_place m k z g named e is
+  token_place m tok.Arg (att.Slot k) z g fit named e is = argument_place m k z g (argument_number k fit) named.1 e is
+  token_place m _ _ z g fit named e is = absurd (no_place values.Wild z g e is)
 
   size_of_place : (m : S) (z y : Size) (o : O) (g : Place) → PlaceIs of f t m y o g → IsPlace z g → z ≡ y
   size_of_place m z y o g (local k long is lt low) h = h ∙ sym long
-  size_of_place m z y o g (argument k long is lt) h = h ∙ sym long
+  size_of_place m z y o g (argument k long is lt numbered) h = h ∙ sym long
   size_of_place m z y o g (memory a names) h = h
 
   class_place : (m : S) (k : Option Kind) (a : Attr O) (v : Sense) (z : Size) (g : Place) → ClassIs of q d first f fs t s m0 m k a v
@@ -119,7 +123,7 @@ module _ {O I S F : Type 0} (of : Meaning O I S F) (law : IsLawful of) (q : Tree
   -- a symbol that stands for a place has an operand that does
   symbol_place : (m : S) (x : Sym) (k : Option Kind) (a : Attr O) (v : Sense) (z : Size) (g : Place) → IsSymbol m x k a v
       → means q.objects s v ≡ g → IsPlace z g → Stood m z (own_operand of a) g × (size_of_entry k ≡ Some z)
-  symbol_place m x k a v z g (stands.token l fit named) e h = token_place m l.tok l.att z g named.0 e h
+  symbol_place m x k a v z g (stands.token l fit named) e h = token_place m l.tok l.att z g fit named.0 e h
   symbol_place m x k a v z g (stands.class c a' v' is) e h = class_place m (kind_at d.classes c) a v z g is e h
 
   class_sized : (m : S) (c : ℕ) (k : Option Kind) (a : Attr O) (v : Sense) (z : Size) → ClassIs of q d first f fs t s m0 m k a v → size_of_entry k ≡ Some z

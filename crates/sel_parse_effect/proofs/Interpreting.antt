@@ -40,7 +40,7 @@ use Rattle.sel_target.specs.Meaning.{Meaning}
 use Rattle.sel_target.specs.Courses.{Course, Ending, Comes, comes, followed}
 use Rattle.sel_target.specs.Laws.{IsLawful}
 use Rattle.sel_target.specs.EffectTerms.{begins_with_save}
-use Rattle.sel_target.specs.Instances.{IsResult, lines_of}
+use Rattle.sel_target.specs.Instances.{IsResult, InFrame, lines_of}
 use Rattle.sel_target.specs.StatementLaws.{IsStep}
 use Rattle.sel_parse_moves.specs.lr_check_parse.specs.Attributes.{Selecting, all_hold, answered}
 use Rattle.sel_parse.specs.Shown.{IsShown, AreShown}
@@ -86,19 +86,33 @@ module _ {O I S F : Type 0} (of : Meaning O I S F) (law : IsLawful of) (stores :
   slot_att (att.Slot k) e h = h.1
   slot_att _ e h = absurd (cc)
 
+  slot_low : (a : Att) → is_of_kind (attribute_of tok.Save) a ≡ true → NamedBy of q d first f fs t s m0 tok.Save a → InFrame a
+  slot_low (att.Slot k) e h =
+      let lt = h.0 in
+      let few = frame.few in
+      let within = frame.within in
+      omega (arith, lt, few, within)
+  slot_low _ e h = absurd (cc)
+
   -- the one entry of such a rule
   record SaveEntry (a : Attr O) : Type 0 where
     leaf : Leaf
     is : a ≡ attr.Token leaf
+    fits : leaf_fits leaf ≡ true
+    low : InFrame leaf.att
     answered_is : of.answer m0 ≡ t.running.result
 
   save_symbol : (m : S) (x : Sym) (k : Option Kind) (a : Attr O) (v : Sense) → SymbolIs of q d first f fs t s m0 m x k a v → x ≡ grammar_symbol.Tok tok.Save → SaveEntry a
   save_symbol m x k a v (stands.token l fit named) e =
       let same : l.tok ≡ tok.Save = cc in
+      let local_fits = subst (λ w. is_of_kind (attribute_of w) l.att ≡ true) same fit in
+      let local_named = subst (λ w. NamedBy of q d first f fs t s m0 w l.att) same named.0 in
       record {
         leaf = l;
         is = refl;
-        answered_is = slot_att l.att (subst (λ w. is_of_kind (attribute_of w) l.att ≡ true) same fit) (subst (λ w. NamedBy of q d first f fs t s m0 w l.att) same named.0);
+        fits = fit;
+        low = slot_low l.att local_fits local_named;
+        answered_is = slot_att l.att local_fits local_named;
       }
   save_symbol m x k a v (stands.class c a' v' is) e = absurd (cc)
 
@@ -179,7 +193,9 @@ module _ {O I S F : Type 0} (of : Meaning O I S F) (law : IsLawful of) (stores :
         o = save_entry alone
 
         holds_none : (b : Entry O) → b.attr ≡ attr.Token o.save.leaf → holds_register of b ≡ true → ⊥
-        holds_none b g h = token_holds_none of law q d first f fs t s m0 frame lines b.kind o.save.leaf (subst (λ (w : Attr O). holds_register of (record { kind = b.kind; attr = w }) ≡ true) g h)
+        holds_none b g h =
+            token_holds_none of law q d first f fs t s m0 frame lines b.kind o.save.leaf o.save.fits o.save.low
+            (subst (λ (w : Attr O). holds_register of (record { kind = b.kind; attr = w }) ≡ true) g h)
 
         only : (i : ℕ) → slice_get (o.entry ∷ []) i ≡ Some e → ⊥
         only zero g = holds_none e (ap (λ (w : Entry O). w.attr) (sym (same_Some o.entry e g)) ∙ o.save.is) holding

@@ -165,6 +165,7 @@ module _ {O I S F : Type 0} (of : Meaning O I S F) (law : IsLawful of) (q : Tree
         ran = quiet_end.1;
         is = subst (λ w. ClassIs of q d first f fs t s m0 quiet_end.0 (Some (kind.Place z)) (attr.Place (of.operand q l (attrs es'))) w) (sym sense)
             (stands.place z (of.operand q l (attrs es')) g (law.spells.shape_fits q d.classes rule shown.found (kind.Place z) l (attrs es') can is_rule shown.found_is mode is inst.holes_fit
+            inst.restricted
             (spelled_now of law q d first f fs t s m0 frame m sees m' later.seen es' rule.right vs later.now))
             (place_kept of q d f t [] m' quiet_end.0 z (of.operand q l (attrs es')) g quiet_end.2 tt place));
         keeps = quiet_end.2;

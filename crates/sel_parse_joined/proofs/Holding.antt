@@ -26,9 +26,10 @@ use Rattle.sel_target.specs.Values.{token_operand}
 use Rattle.sel_target.specs.Laws.{IsLawful}
 use Rattle.sel_target.specs.Instances.{some_touches, attr_touches, KindFits}
 use Rattle.sel_target.specs.Symbols.{size_of_entry}
+use Rattle.sel_target.proofs.Facts.{argument_number}
 use Rattle.sel_parse_slots.specs.sel_parse_selected.specs.Entries as selected_entries
 use Rattle.sel_parse_slots.specs.sel_parse_desk.specs.Entries as computed_entries
-use Rattle.sel_parse_slots.specs.sel_parse_stands.proofs.Saving.{bits_none}
+use Rattle.sel_parse_slots.specs.sel_parse_stands.proofs.Saving.{bits_none, token_none}
 use Rattle.sel_parse_slots.specs.Claims.{IsOwn}
 use Rattle.sel_parse_slots.proofs.Fine as fine
 use Rattle.sel_parse_slots.proofs.Counting.{AllFine}
@@ -91,37 +92,23 @@ module _ {O I S F : Type 0} (of : Meaning O I S F) (law : IsLawful of) (q : Tree
 
   -- ---- a token
 
-  none_at : (x : Tok) (a : Att) (r : ℕ) → false ≡ some_touches of (token_operand of x a) (RegAt r)
-  none_at x att.Nothing r = refl
-  none_at x (att.Number n) r = refl
-  none_at x (att.Object object offset) r = refl
-  none_at x (att.Slot k) r = by x
-    where
-      by : (x : Tok) → false ≡ some_touches of (token_operand of x (att.Slot k)) (RegAt r)
-      by tok.Loc = sym (bits_none of law (of.local k) r (law.spells.local_bits k))
-      by tok.Arg = sym (bits_none of law (of.argument k) r (law.spells.argument_bits k))
-      by x = refl
-  none_at x (att.Branch rel label) r = refl
-  none_at x (att.Label label) r = refl
-  none_at x (att.Callee function count) r = refl
-
   unequal : (k w : ℕ) → k < w → (k == w) ≡ false
   unequal k w lt = grind (arith, nat_tests)
 
-  no_word : (x : Tok) (a : Att) → IsOwn q first x a → (w : ℕ) → first ≤ w → false ≡ some_touches of (token_operand of x a) (WordAt w)
-  no_word x att.Nothing own w from = refl
-  no_word x (att.Number n) own w from = refl
-  no_word x (att.Object object offset) own w from = refl
-  no_word x (att.Slot k) own w from = by x own
+  no_word : (x : Tok) (a : Att) → is_of_kind (attribute_of x) a ≡ true → IsOwn q first x a → (w : ℕ) → first ≤ w → false ≡ some_touches of (token_operand of x a) (WordAt w)
+  no_word x att.Nothing fit own w from = refl
+  no_word x (att.Number n) fit own w from = refl
+  no_word x (att.Object object offset) fit own w from = refl
+  no_word x (att.Slot k) fit own w from = by x fit own
     where
-      by : (x : Tok) → IsOwn q first x (att.Slot k) → false ≡ some_touches of (token_operand of x (att.Slot k)) (WordAt w)
-      by tok.Loc own =
+      by : (x : Tok) → is_of_kind (attribute_of x) (att.Slot k) ≡ true → IsOwn q first x (att.Slot k) → false ≡ some_touches of (token_operand of x (att.Slot k)) (WordAt w)
+      by tok.Loc fit own =
           sym (ap (λ o. is_word o w) (law.spells.local_word k own.in_frame) ∙ unequal k w (let lt = own.own_local k refl refl in omega (arith, lt, from)))
-      by tok.Arg own = sym (ap (λ o. is_word o w) (law.spells.argument_word k))
-      by x own = refl
-  no_word x (att.Branch rel label) own w from = refl
-  no_word x (att.Label label) own w from = refl
-  no_word x (att.Callee function count) own w from = refl
+      by tok.Arg fit own = sym (ap (λ o. is_word o w) (law.spells.argument_word k (argument_number k fit)))
+      by x fit own = refl
+  no_word x (att.Branch rel label) fit own w from = refl
+  no_word x (att.Label label) fit own w from = refl
+  no_word x (att.Callee function count) fit own w from = refl
 
   token_spelled : (x : Tok) (a : Att) → is_of_kind (attribute_of x) a ≡ true
       → computed_entries.spelled_leaf of q (record { tok = x; att = a }) x ≡ token_operand of x a
@@ -143,8 +130,8 @@ module _ {O I S F : Type 0} (of : Meaning O I S F) (law : IsLawful of) (q : Tree
 
   token_agrees : (l : Leaf) → leaf_fits l ≡ true → IsOwn q first l.tok l.att → Agrees (attr.Token l)
   token_agrees l fit own = record {
-    register = λ r below. none_at l.tok l.att r;
-    word = λ w from. no_word l.tok l.att own w from;
+    register = λ r below. sym (token_none of law l.tok l.att r fit own.in_frame);
+    word = λ w from. no_word l.tok l.att fit own w from;
     spelled = token_spelled l.tok l.att fit;
   }
 

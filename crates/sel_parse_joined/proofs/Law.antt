@@ -245,7 +245,7 @@ module _ {O I S F : Type 0} (of : Meaning O I S F) (law : IsLawful of) (q : Tree
         let eq = reduced_by_same n r there ws a x m.on b in
         let o = some_kept (selected.reduced_by of q d first (Some r) x) z
         (sym eq ∙ ap (λ t. computed.reduced_by of q d first t (kept x)) (sym there) ∙ ap (computed.reduced_at of q d first n) ch.1 ∙ red) in
-        let rest = same more o.0 o.2 (walk.reduce of law q can d fit first k n r there ws a m.on x o.0 b o.1) in
+        let rest = same more o.0 o.2 (walk.reduce of law q can d fit first k n r there ws a m.on x o.0 b m.holds o.1) in
         record {
           end = rest.end;
           ends = rest.ends;

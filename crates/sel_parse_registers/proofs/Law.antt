@@ -51,9 +51,12 @@ module _ {O I S F : Type 0} (of : Meaning O I S F) (law : IsLawful of) (q : Tree
   accepted None h = h
   accepted (Some x) h = tt
 
-  shifted_owned : (l : Leaf) (x : Kept O I) → OwnedKept x → OwnedKept (shifted l x)
-  shifted_owned l None h = h
-  shifted_owned l (Some x) h = λ r lt. (let a = ap tick (token_none of law l.tok l.att r) in let b = h r lt in omega (arith, a, b))
+  shifted_owned : (l : Leaf) (ws : List Leaf) (a : List Sym) (x : Kept O I) → Before (l ∷ ws) a x → OwnedKept (shifted l x)
+  shifted_owned l ws a None b = b.1
+  shifted_owned l ws a (Some x) b = λ r lt. (
+      let none = ap tick (token_none of law l.tok l.att r b.0.leaves.0 b.0.own.0.in_frame) in
+      let before = b.1 r lt in
+      omega (arith, none, before))
 
   -- set apart, all entries are there
   apart_owned : (n : ℕ) (x : Stack O I) → Owned of d x.entries → OwnedAt of d (desk_of n x)
@@ -91,11 +94,11 @@ module _ {O I S F : Type 0} (of : Meaning O I S F) (law : IsLawful of) (q : Tree
       → Parses (by_attributes (selecting of q d first)) d.rules (stmt_of d.classes) at before ws a x log e → Before ws a x → Behind e
   iterate (parse.loops h) b = tt
   iterate (parse.accepts {x = x} h s f) b = accepted x b.1
-  iterate (parse.shifts {l = l} {ws = ws} {a = a} {x = x} h f s more) b = iterate more (walk.shift of law q can d fit first k l ws a x b.0, shifted_owned l x b.1)
+  iterate (parse.shifts {l = l} {ws = ws} {a = a} {x = x} h f s more) b = iterate more (walk.shift of law q can d fit first k l ws a x b.0, shifted_owned l ws a x b)
   iterate (parse.reduces {n = n} {ws = ws} {a = a} {x = x} {y = y} {z = z} r h c there red more) b =
       let m = known (selecting of q d first) d.classes d.rules (stmt_of d.classes) ws a x n r y c there in
       let made = ap (λ o. reduced_by of q d first o x) (sym there) ∙ ap (λ u. reduced_by of q d first (slice_get d.rules n) u) m.same ∙ red in
-      iterate more (walk.reduce of law q can d fit first k n r there ws a m.on x z b.0 made, reduced_owned n r there ws a m.on x z b made)
+      iterate more (walk.reduce of law q can d fit first k n r there ws a m.on x z b.0 m.holds made, reduced_owned n r there ws a m.on x z b made)
   iterate (parse.refuses r h c there red) b = tt
   iterate (parse.blocks h c) b = tt
 

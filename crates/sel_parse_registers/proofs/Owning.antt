@@ -87,7 +87,7 @@ module _ {O I S F : Type 0} (of : Meaning O I S F) (law : IsLawful of) (q : Tree
 
   -- what went to a slot holds no register
   gone : (s : Sym) (a : Attr O) (w r : ℕ) → w < 1024 → fine.IsFine of law q d first s a → attr_touches of (in_slot of a w) (RegAt r) ≡ false
-  gone s a w r lt (fine.token l fit own) = token_none of law l.tok l.att r
+  gone s a w r lt (fine.token l fit own) = token_none of law l.tok l.att r fit own.in_frame
   gone s a w r lt (fine.class c a' h) = by (kind_at d.classes c) a h
     where
       by : (k : Option Kind) (a : Attr O) → KindFits of k a → attr_touches of (in_slot of a w) (RegAt r) ≡ false

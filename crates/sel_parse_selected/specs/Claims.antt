@@ -1,10 +1,10 @@
 -- What is true of every selection.
-use Rattle.std.specs.Prelude.{◌≡◌, ℕ, List, Option, Some, None, slice_get}
+use Rattle.std.specs.Prelude.{◌≡◌, ℕ, List, Some, slice_get}
 use Rattle.tree_core.specs.declared.tree.Leaf.{Leaf}
 use Rattle.tree_core.specs.declared.program.TreeProgram.{TreeProgram}
 use Rattle.sel_target.specs.md_reader.specs.declared.types.Rule.{Rule}
 use Rattle.sel_target.specs.md_reader.specs.State.{Content}
-use Rattle.lr_check_parse.specs.Moves.{Move, Ending, Accepts}
+use Rattle.lr_check_parse.specs.Moves.{Move, Accepts}
 use Rattle.sel_target.specs.Meaning.{Meaning}
 use Rattle.sel_parse_selected.specs.Desk.{Stack, Full}
 use Rattle.sel_parse_selected.specs.Reductions.{reduced}

@@ -1,5 +1,5 @@
 -- The stack with its code, a reduction at work on it, and which registers and frame words are free.
-use Rattle.std.specs.Prelude.{ℕ, ◌+◌, ◌-◌, ◌==◌, ◌&&◌, ◌||◌, List, [], ◌++◌, take, drop, reverse, Option}
+use Rattle.std.specs.Prelude.{ℕ, ◌-◌, ◌==◌, ◌&&◌, ◌||◌, List, [], ◌++◌, take, drop, reverse, Option}
 use Rattle.std.specs.Prelude.{Bool, not}
 use Rattle.std.specs.List.{list_any}
 use Rattle.std.specs.Int.{bit_at}

@@ -45,6 +45,12 @@ good_bind top Full go P Q h k = h
 good_bind top Stuck go P Q h k = tt
 good_bind top (Done x) go P Q h k = k x h
 
+-- and what holds of what is done
+pub good_more : {X : Type 0} (top : ℕ) (o : Outcome X) (P Q : X → Type 0) → Good top o P → ((x : X) → o ≡ Done x → Q x) → Good top o (λ x. P x × Q x)
+good_more top Full P Q h k = h
+good_more top Stuck P Q h k = tt
+good_more top (Done x) P Q h k = (h, k x refl)
+
 -- each within a list of numbers
 abbrev pub sum : List ℕ → ℕ
 sum [] = 0

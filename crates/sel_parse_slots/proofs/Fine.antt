@@ -9,7 +9,7 @@ use Rattle.tree_core.specs.declared.tree.Att.{Att}
 use Rattle.tree_core.specs.declared.tree.Att.TheVariants as att
 use Rattle.tree_core.specs.declared.tree.Leaf.{Leaf}
 use Rattle.tree_core.specs.declared.program.TreeProgram.{TreeProgram}
-use Rattle.tree_core.specs.Attributes.{leaf_fits}
+use Rattle.tree_core.specs.Attributes.{leaf_fits, is_of_kind, attribute_of}
 use Rattle.tree_core.proofs.Windows.{some_of}
 use Rattle.md_reader.specs.declared.types.Kind.{Kind}
 use Rattle.md_reader.specs.declared.types.Kind.TheVariants as kind
@@ -22,10 +22,11 @@ use Rattle.sel_target.specs.declared.attr.Attr.TheVariants as attr
 use Rattle.sel_target.specs.Meaning.{Meaning, RegAt, WordAt, touches, is_word}
 use Rattle.sel_target.specs.Values.{token_operand}
 use Rattle.sel_target.specs.Laws.{IsLawful}
-use Rattle.sel_target.specs.Instances.{some_touches, attr_touches, KindFits}
+use Rattle.sel_target.specs.Instances.{some_touches, attr_touches, KindFits, InFrame}
+use Rattle.sel_target.proofs.Facts.{argument_number}
 use Rattle.sel_target.specs.Symbols.{lowest, is_register}
 use Rattle.sel_parse_effect.specs.sel_parse_selected.specs.Spills.{holds_register, in_slot}
-use Rattle.sel_parse_effect.specs.sel_parse_stands.proofs.Saving.{lowest_found, bits_none}
+use Rattle.sel_parse_effect.specs.sel_parse_stands.proofs.Saving.{lowest_found, bits_none, token_none}
 use Rattle.sel_parse_slots.specs.Claims.{IsOwn}
 use Rattle.sel_parse_slots.proofs.Counts.{count, count_none, count_less, count_one, count_some, tick, unequal, tick_small}
 
@@ -134,21 +135,23 @@ module _ {O I S F : Type 0} (of : Meaning O I S F) (law : IsLawful of) (q : Tree
   pub no_words : count (λ v. false) first (1024 - first) ≡ 0
   no_words = count_none (λ v. false) first (1024 - first) (λ v le. refl)
 
-  slot_words : (x : Tok) (k : ℕ) → IsOwn q first x (att.Slot k) → count (λ v. some_touches of (token_operand of x (att.Slot k)) (WordAt v)) first (1024 - first) ≡ 0
-  slot_words tok.Loc k own =
+  slot_words : (x : Tok) (k : ℕ) → is_of_kind (attribute_of x) (att.Slot k) ≡ true → IsOwn q first x (att.Slot k)
+      → count (λ v. some_touches of (token_operand of x (att.Slot k)) (WordAt v)) first (1024 - first) ≡ 0
+  slot_words tok.Loc k fit own =
       count_none (λ v. touches of (of.local k) (WordAt v)) first (1024 - first)
       (λ v le. ap (λ o. is_word o v) (law.spells.local_word k own.in_frame) ∙ unequal k v (λ e. (let lt = own.own_local k refl refl in omega (arith, lt, le, e))))
-  slot_words tok.Arg k own = count_none (λ v. touches of (of.argument k) (WordAt v)) first (1024 - first) (λ v le. ap (λ o. is_word o v) (law.spells.argument_word k))
-  slot_words x k own = no_words
+  slot_words tok.Arg k fit own =
+      count_none (λ v. touches of (of.argument k) (WordAt v)) first (1024 - first) (λ v le. ap (λ o. is_word o v) (law.spells.argument_word k (argument_number k fit)))
+  slot_words x k fit own = no_words
 
-  pub token_words : (x : Tok) (a : Att) → IsOwn q first x a → count (λ v. some_touches of (token_operand of x a) (WordAt v)) first (1024 - first) ≡ 0
-  token_words x att.Nothing own = no_words
-  token_words x (att.Number n) own = no_words
-  token_words x (att.Object object offset) own = no_words
-  token_words x (att.Slot k) own = slot_words x k own
-  token_words x (att.Branch rel label) own = no_words
-  token_words x (att.Label label) own = no_words
-  token_words x (att.Callee function count') own = no_words
+  pub token_words : (x : Tok) (a : Att) → is_of_kind (attribute_of x) a ≡ true → IsOwn q first x a → count (λ v. some_touches of (token_operand of x a) (WordAt v)) first (1024 - first) ≡ 0
+  token_words x att.Nothing fit own = no_words
+  token_words x (att.Number n) fit own = no_words
+  token_words x (att.Object object offset) fit own = no_words
+  token_words x (att.Slot k) fit own = slot_words x k fit own
+  token_words x (att.Branch rel label) fit own = no_words
+  token_words x (att.Label label) fit own = no_words
+  token_words x (att.Callee function count') fit own = no_words
 
   class_words : (k : Option Kind) (a : Attr O) → KindFits of k a → words a ≤ weight a
   class_words (Some kind.Reg) (attr.Reg r) h = (let e = register_words r h in omega (arith, e))
@@ -160,7 +163,7 @@ module _ {O I S F : Type 0} (of : Meaning O I S F) (law : IsLawful of) (q : Tree
 
   -- an entry holds no more words than it weighs
   pub fine_words : (s : Sym) (a : Attr O) → IsFine s a → words a ≤ weight a
-  fine_words s a (token l fit own) = (let e = token_words l.tok l.att own in omega (arith, e))
+  fine_words s a (token l fit own) = (let e = token_words l.tok l.att fit own in omega (arith, e))
   fine_words s a (class c a' h) = class_words (kind_at d.classes c) a h
   fine_words s a (slot c w e lt) = slot_word_one w lt
   fine_words s a (statement c e) = (let g = no_words in omega (arith, g))
@@ -173,19 +176,8 @@ module _ {O I S F : Type 0} (of : Meaning O I S F) (law : IsLawful of) (q : Tree
       let r = lowest_found (λ r. attr_touches of a (RegAt r)) 0 12 o.0 o.1 in
       count_some (λ r. attr_touches of a (RegAt r)) 0 12 o.0 r.from r.below r.is
 
-  pub token_registers : (x : Tok) (a : Att) → count (λ r. some_touches of (token_operand of x a) (RegAt r)) 0 12 ≡ 0
-  token_registers x att.Nothing = refl
-  token_registers x (att.Number n) = refl
-  token_registers x (att.Object object offset) = refl
-  token_registers x (att.Slot k) = by x
-    where
-      by : (x : Tok) → count (λ r. some_touches of (token_operand of x (att.Slot k)) (RegAt r)) 0 12 ≡ 0
-      by tok.Loc = register_none (of.local k) (law.spells.local_bits k)
-      by tok.Arg = register_none (of.argument k) (law.spells.argument_bits k)
-      by x = refl
-  token_registers x (att.Branch rel label) = refl
-  token_registers x (att.Label label) = refl
-  token_registers x (att.Callee function count') = refl
+  pub token_registers : (x : Tok) (a : Att) → is_of_kind (attribute_of x) a ≡ true → InFrame a → count (λ r. some_touches of (token_operand of x a) (RegAt r)) 0 12 ≡ 0
+  token_registers x a fit low = count_none (λ r. some_touches of (token_operand of x a) (RegAt r)) 0 12 (λ r le. token_none of law x a r fit low)
 
   pub record Spilled (s : Sym) (a : Attr O) (w : ℕ) : Type 0 where
     pub fine : IsFine s (in_slot of a w)
@@ -222,7 +214,7 @@ module _ {O I S F : Type 0} (of : Meaning O I S F) (law : IsLawful of) (q : Tree
   class_spilled c w lt k a h e some = absurd h
 
   pub fine_spilled : (s : Sym) (k : Option Kind) (a : Attr O) (w : ℕ) → w < 1024 → IsFine s a → holds_register of (record { kind = k; attr = a }) ≡ true → Spilled s a w
-  fine_spilled s k a w lt (token l fit own) h = absurd (let some = holding k (attr.Token l) h in let e = token_registers l.tok l.att in omega (arith, some, e))
+  fine_spilled s k a w lt (token l fit own) h = absurd (let some = holding k (attr.Token l) h in let e = token_registers l.tok l.att fit own.in_frame in omega (arith, some, e))
   fine_spilled s k a w lt (class c a' fits) h = class_spilled c w lt (kind_at d.classes c) a fits refl (holding k a h)
   fine_spilled s k a w lt (slot c u e low) h = absurd (let some = holding k (attr.InSlot u) h in let g = register_none (of.slot u) (law.spells.slot_bits u low) in omega (arith, some, g))
   fine_spilled s k a w lt (statement c e) h = absurd (let some = holding k attr.Nothing h in omega (arith, some))

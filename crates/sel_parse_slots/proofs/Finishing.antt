@@ -38,6 +38,7 @@ use Rattle.sel_parse_effect.specs.sel_parse_selected.specs.Entries.{Entry, attrs
 use Rattle.sel_parse_effect.specs.sel_parse_selected.specs.Desk.{Stack, Desk, desk_of}
 use Rattle.sel_parse_effect.specs.sel_parse_selected.specs.Spills.{due}
 use Rattle.sel_parse_effect.specs.sel_parse_selected.specs.Reductions.{own_register, own_number, shaped, finished, with_result, with_scratch, given_by, reloaded, reduced}
+use Rattle.sel_parse_effect.specs.sel_parse_selected.proofs.Restricting.{Restricted, still_restricted, reloaded_asked}
 use Rattle.sel_parse_effect.specs.sel_parse_stands.proofs.Loaded.{IsLoaded, AllLoaded, all_loaded}
 use Rattle.sel_parse_effect.proofs.Reducing.{reg_is, nothing_is}
 use Rattle.sel_parse_effect.proofs.Shapes.{one_hole, reg_symbol, con_symbol, IsNumeric, const_number}
@@ -48,7 +49,7 @@ use Rattle.sel_parse_slots.specs.Claims.{IsOwn}
 use Rattle.sel_parse_slots.proofs.Counts.{count, count_less, count_any, total, tick_implied}
 use Rattle.sel_parse_slots.proofs.Fine as fine
 use Rattle.sel_parse_slots.proofs.Fine.{registers, words, charge, IsFine, register_one}
-use Rattle.sel_parse_slots.proofs.Counting.{Good, good_bind, sum, charge_of, AllFine, Within, within_total, weights, Counted, IsDue, due_good, reloaded_good, fine_length}
+use Rattle.sel_parse_slots.proofs.Counting.{Good, good_bind, good_more, sum, charge_of, AllFine, Within, within_total, weights, Counted, IsDue, due_good, reloaded_good, fine_length}
 
 -- ---- no class of statements stands in a right side
 
@@ -136,8 +137,8 @@ module _ {O I S F : Type 0} (of : Meaning O I S F) (law : IsLawful of) (q : Tree
 
   held_fine : (s : Sym) (a : Attr O) → IsFine of law q d first s a → IsLoaded a → registers of law q d first a + words of law q d first a ≤ charge of law q d first a
   held_fine s a (fine.token l fit own) h =
-      let x = fine.token_registers of law q d first l.tok l.att in
-      let y = fine.token_words of law q d first l.tok l.att own in
+      let x = fine.token_registers of law q d first l.tok l.att fit own.in_frame in
+      let y = fine.token_words of law q d first l.tok l.att fit own in
       omega (arith, x, y)
   held_fine s a (fine.class c a' fit) h = class_held (kind_at d.classes c) a fit
   held_fine s a (fine.slot c w e lt) h = absurd h
@@ -186,8 +187,12 @@ module _ {O I S F : Type 0} (of : Meaning O I S F) (law : IsLawful of) (q : Tree
           let x = operand_held rule.right es (of.operand q l (attrs es)) h loaded (λ s e. law.spells.shape_touches q d.classes rule effect l (attrs es) s taken mode (holes k is apart) e) in
           omega (arith, x, within)
 
-      fits_shape : (k : Kind) (l : Line) → kind_at d.classes rule.left ≡ Some k → (k ≡ kind.Nothing → ⊥) → rule.give ≡ give.Shape l → of.fits k (of.operand q l (attrs es)) ≡ true
-      fits_shape k l is apart mode = law.spells.shape_fits q d.classes rule effect k l (attrs es) can is_rule taken mode is (holes k is apart) (all_spelled rule.right es h)
+      abbrev HoldNow : Type 0
+      HoldNow = Restricted of q d first rule.restrictions es
+
+      fits_shape : HoldNow → (k : Kind) (l : Line) → kind_at d.classes rule.left ≡ Some k → (k ≡ kind.Nothing → ⊥) → rule.give ≡ give.Shape l → of.fits k (of.operand q l (attrs es)) ≡ true
+      fits_shape restricted k l is apart mode =
+          law.spells.shape_fits q d.classes rule effect k l (attrs es) can is_rule taken mode is (holes k is apart) restricted (all_spelled rule.right es h)
 
       at_symbol : (ss : List Sym) (bs : List (Entry O)) (j : ℕ) (s : Sym) → AllFine of law q d first ss bs → AllLoaded bs → slice_get ss j ≡ Some s
           → (a : Attr O) × (slice_get (attrs bs) j ≡ Some a) × IsFine of law q d first s a × IsLoaded a
@@ -257,27 +262,27 @@ module _ {O I S F : Type 0} (of : Meaning O I S F) (law : IsLawful of) (q : Tree
           let r = own_reg (grammar_symbol.Class sy.0) sy.0 w.0 w.2 w.3 refl sy.2 in
           (r.0, r.2, ap (λ p. hole (attrs es) (first_hole p)) one.is ∙ w.1 ∙ ap Some r.1)
 
-      pub shape_given : (l : Line) → rule.give ≡ give.Shape l → (k : Option Kind) → kind_at d.classes rule.left ≡ k → shape_fits d.classes rule.right k l.pieces ≡ true
+      pub shape_given : HoldNow → (l : Line) → rule.give ≡ give.Shape l → (k : Option Kind) → kind_at d.classes rule.left ≡ k → shape_fits d.classes rule.right k l.pieces ≡ true
           → Given rule.left g (shaped of q d first k l (attrs es))
-      shape_given l mode None is fits = absurd (cc)
-      shape_given l mode (Some kind.Reg) is fits =
+      shape_given restricted l mode None is fits = absurd (cc)
+      shape_given restricted l mode (Some kind.Reg) is fits =
           let r = shape_register l fits in
           subst (Given rule.left g) (sym (ap (own_register of q d first) r.2)) (register_given r.0 r.1 is)
-      shape_given l mode (Some (kind.Value z)) is fits =
+      shape_given restricted l mode (Some (kind.Value z)) is fits =
           let apart : kind.Value z ≡ kind.Nothing → ⊥ = λ e. cc in
           record {
             fine_is = fine.class rule.left (attr.Value (of.operand q l (attrs es)))
-                (subst (λ k. KindFits of k (attr.Value (of.operand q l (attrs es)))) (sym is) (fits_shape (kind.Value z) l is apart mode));
+                (subst (λ k. KindFits of k (attr.Value (of.operand q l (attrs es)))) (sym is) (fits_shape restricted (kind.Value z) l is apart mode));
             charge_is = operand_small (kind.Value z) l is apart mode;
           }
-      shape_given l mode (Some (kind.Place z)) is fits =
+      shape_given restricted l mode (Some (kind.Place z)) is fits =
           let apart : kind.Place z ≡ kind.Nothing → ⊥ = λ e. cc in
           record {
             fine_is = fine.class rule.left (attr.Place (of.operand q l (attrs es)))
-                (subst (λ k. KindFits of k (attr.Place (of.operand q l (attrs es)))) (sym is) (fits_shape (kind.Place z) l is apart mode));
+                (subst (λ k. KindFits of k (attr.Place (of.operand q l (attrs es)))) (sym is) (fits_shape restricted (kind.Place z) l is apart mode));
             charge_is = operand_small (kind.Place z) l is apart mode;
           }
-      shape_given l mode (Some kind.Con) is fits =
+      shape_given restricted l mode (Some kind.Con) is fits =
           let sy = con_symbol d.classes _ fits in
           let one = one_hole rule.right l.pieces sy.0 sy.1 in
           let w = at_symbol rule.right es one.index sy.0 h loaded one.there in
@@ -286,13 +291,14 @@ module _ {O I S F : Type 0} (of : Meaning O I S F) (law : IsLawful of) (q : Tree
           ap (λ p. own_number of q d first (hole (attrs es) (first_hole p))) one.is ∙ ap (own_number of q d first) w.1 ∙ n.own in
           subst (Given rule.left g) (sym result)
           (record { fine_is = fine.class rule.left (attr.Con n.number) (subst (λ k. KindFits of k (attr.Con n.number)) (sym is) n.small); charge_is = omega arith })
-      shape_given l mode (Some kind.Ea) is fits =
+      shape_given restricted l mode (Some kind.Ea) is fits =
           let apart : kind.Ea ≡ kind.Nothing → ⊥ = λ e. cc in
           record {
-            fine_is = fine.class rule.left (attr.Ea (of.operand q l (attrs es))) (subst (λ k. KindFits of k (attr.Ea (of.operand q l (attrs es)))) (sym is) (fits_shape kind.Ea l is apart mode));
+            fine_is = fine.class rule.left (attr.Ea (of.operand q l (attrs es)))
+                (subst (λ k. KindFits of k (attr.Ea (of.operand q l (attrs es)))) (sym is) (fits_shape restricted kind.Ea l is apart mode));
             charge_is = operand_small kind.Ea l is apart mode;
           }
-      shape_given l mode (Some kind.Nothing) is fits = absurd (cc)
+      shape_given restricted l mode (Some kind.Nothing) is fits = absurd (cc)
 
     -- ---- the whole reduction
 
@@ -319,24 +325,24 @@ module _ {O I S F : Type 0} (of : Meaning O I S F) (law : IsLawful of) (q : Tree
           → (r : ℕ) × (r < 12) × (hole (attrs y.symbols) (first_hole l.pieces) ≡ Some (attr.Reg r))
       register_named y h l fits = shape_register y.symbols h.symbols_fine (desk_loaded y h) (all_low y h) l fits
 
-      given_good : (gv : Give) (y : Desk O I) → In (0 + length rule.right) y → rule.give ≡ gv → MayGive d.classes rule.left rule.right gv
+      given_good : (gv : Give) (y : Desk O I) → In (0 + length rule.right) y → Restricted of q d first rule.restrictions y.symbols → rule.give ≡ gv → MayGive d.classes rule.left rule.right gv
           → Good (first + c) (given_by of q d first rule gv y) Reduced
-      given_good give.Fresh y h mode may =
+      given_good give.Fresh y h restricted mode may =
           good_bind (first + c) (due of q d first false y) (with_result of q d first rule) (IsDue of law q d first rule.right a c gb gs (0 + length rule.right) y) Reduced
           (due_good of law q d first rule.right a c gb gs (0 + length rule.right) false y h)
           (λ p k. done (0 + length rule.right) p.1 (attr.Reg p.0) (attr.Reg p.0) k.after.counted (register_given p.0 k.small (reg_is (kind_at d.classes rule.left) may)))
-      given_good give.Reuse y h mode may =
+      given_good give.Reuse y h restricted mode may =
           good_bind (first + c) (due of q d first true y) (with_result of q d first rule) (IsDue of law q d first rule.right a c gb gs (0 + length rule.right) y) Reduced
           (due_good of law q d first rule.right a c gb gs (0 + length rule.right) true y h)
           (λ p k. done (0 + length rule.right) p.1 (attr.Reg p.0) (attr.Reg p.0) k.after.counted (register_given p.0 k.small (reg_is (kind_at d.classes rule.left) may)))
-      given_good give.Scratch y h mode may =
+      given_good give.Scratch y h restricted mode may =
           good_bind (first + c) (due of q d first false y) (with_scratch of q d first rule) (IsDue of law q d first rule.right a c gb gs (0 + length rule.right) y) Reduced
           (due_good of law q d first rule.right a c gb gs (0 + length rule.right) false y h)
           (λ p k. done (0 + length rule.right) p.1 (attr.Reg p.0) attr.Nothing k.after.counted (nothing_given (nothing_is (kind_at d.classes rule.left) may)))
-      given_good give.Nothing y h mode may = done (0 + length rule.right) y attr.Nothing attr.Nothing h (nothing_given (nothing_is (kind_at d.classes rule.left) may))
-      given_good (give.Shape l) y h mode may =
+      given_good give.Nothing y h restricted mode may = done (0 + length rule.right) y attr.Nothing attr.Nothing h (nothing_given (nothing_is (kind_at d.classes rule.left) may))
+      given_good (give.Shape l) y h restricted mode may =
           done (0 + length rule.right) y attr.Nothing (shaped of q d first (kind_at d.classes rule.left) l (attrs y.symbols)) h
-          (shape_given y.symbols h.symbols_fine (desk_loaded y h) (all_low y h) l mode (kind_at d.classes rule.left) refl may.1)
+          (shape_given y.symbols h.symbols_fine (desk_loaded y h) (all_low y h) restricted l mode (kind_at d.classes rule.left) refl may.1)
 
       -- before the reloads
       pub started : (x : Stack O I) → x.most ≤ first + c → sum gb + sum gs ≤ c
@@ -358,9 +364,14 @@ module _ {O I S F : Type 0} (of : Meaning O I S F) (law : IsLawful of) (q : Tree
             loaded_to = λ j e lt there. absurd (omega (arith, lt));
           }
 
-      pub reduction_good : (x : Stack O I) → In 0 (desk_of (length rule.right) x) → Good (first + c) (reduced of q d first rule x) Reduced
-      reduction_good x h =
+      -- where its restrictions hold
+      pub reduction_good : (x : Stack O I) → In 0 (desk_of (length rule.right) x) → Restricted of q d first rule.restrictions (desk_of (length rule.right) x).symbols
+          → Good (first + c) (reduced of q d first rule x) Reduced
+      reduction_good x h restricted =
           let start = desk_of (length rule.right) x in
-          good_bind (first + c) (reloaded of q d first (length rule.right) 0 start) (given_by of q d first rule rule.give) (In (0 + length rule.right)) Reduced
+          let loads = reloaded of q d first (length rule.right) 0 start in
+          good_bind (first + c) loads (given_by of q d first rule rule.give) (λ (y : Desk O I). In (0 + length rule.right) y × Restricted of q d first rule.restrictions y.symbols) Reduced
+          (good_more (first + c) loads (In (0 + length rule.right)) (λ (y : Desk O I). Restricted of q d first rule.restrictions y.symbols)
           (reloaded_good of law q d first rule.right a c gb gs (length rule.right) 0 start h)
-          (λ y k. given_good rule.give y k refl is_rule.gives)
+          (λ y e. still_restricted of q d first rule.restrictions start.symbols y.symbols (reloaded_asked of q d first (length rule.right) 0 start y e) restricted))
+          (λ y k. given_good rule.give y k.0 k.1 refl is_rule.gives)

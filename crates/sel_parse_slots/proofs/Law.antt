@@ -25,7 +25,7 @@ use Rattle.sel_parse_effect.specs.lr_tables.specs.Statements.{stmt_of}
 use Rattle.sel_parse_effect.specs.lr_tables.proofs.Validity.{rule_at}
 use Rattle.sel_parse_effect.specs.lr_check_parse.specs.Moves.{Move, Ending, Accepts, Blocks, Loops, Refuses, Parses}
 use Rattle.sel_parse_effect.specs.lr_check_parse.specs.Moves as parse
-use Rattle.sel_parse_effect.specs.lr_check_parse.specs.Attributes.{by_attributes}
+use Rattle.sel_parse_effect.specs.lr_check_parse.specs.Attributes.{by_attributes, answered}
 use Rattle.sel_parse_effect.specs.lr_check_parse.specs.Typed.{AreTyped, begins}
 use Rattle.sel_parse_effect.specs.lr_check_parse.proofs.Typing.{leaves_are_tokens}
 use Rattle.sel_target.specs.sel_terms.specs.Effects.{EffectShape}
@@ -41,6 +41,7 @@ use Rattle.sel_parse_effect.specs.sel_parse_moves.proofs.Moves.{leaves_of}
 use Rattle.sel_parse_effect.specs.sel_parse_selected.specs.Entries.{Entry, attrs}
 use Rattle.sel_parse_effect.specs.sel_parse_selected.specs.Desk.{Stack, Desk, desk_of, Outcome, Full, Stuck, Done}
 use Rattle.sel_parse_effect.specs.sel_parse_selected.specs.Reductions.{reduced}
+use Rattle.sel_parse_effect.specs.sel_parse_selected.proofs.Restricting.{Restricted, restricted}
 use Rattle.sel_parse_effect.specs.sel_parse_stands.proofs.Parting.{taken_off, left_below}
 use Rattle.sel_parse_effect.specs.sel_parse_selected.specs.Selected.{Kept, shifted, kept_of, reduced_by, selecting}
 use Rattle.sel_parse_slots.specs.Claims.{IsOwn, IsTaken, UsesFewSlots, HasRoom}
@@ -236,8 +237,8 @@ module _ {O I S F : Type 0} (of : Meaning O I S F) (law : IsLawful of) (q : Tree
           → (n : ℕ) × (n < 12) × (hole (attrs y.symbols) (first_hole l.pieces) ≡ Some (attr.Reg n))
       named = register_named of law q can d first r valid effect has g some b (k + 1) (map gamma s.low) (map gamma s.high) low_sum
 
-      good : Good (first + (k + 1)) (reduced of q d first r x) Done_well
-      good = reduction_good of law q can d first r valid effect has g some b (k + 1) (map gamma s.low) (map gamma s.high) low_sum x begun_in
+      good : Restricted of q d first r.restrictions (desk_of (length r.right) x).symbols → Good (first + (k + 1)) (reduced of q d first r x) Done_well
+      good restricted = reduction_good of law q can d first r valid effect has g some b (k + 1) (map gamma s.low) (map gamma s.high) low_sum x begun_in restricted
 
       next : (y : Stack O I) → Done_well y → At ws (grammar_symbol.Class r.left ∷ b) y
       next y w = by y.entries refl
@@ -283,21 +284,28 @@ module _ {O I S F : Type 0} (of : Meaning O I S F) (law : IsLawful of) (q : Tree
       pub has_effect : (e : EffectShape) × (of.effect d.classes r ≡ Ok e)
       has_effect = all_get (λ (r : Rule). (e : EffectShape) × (of.effect d.classes r ≡ Ok e)) d.rules n r fit.taken there
 
-      pub reduce : (x z : Kept O I) → Before ws a x → reduced_by of q d first (Some r) x ≡ Some z → Before ws (grammar_symbol.Class r.left ∷ drop (length r.right) a) z
-      reduce None z h e = subst (Before ws (grammar_symbol.Class r.left ∷ drop (length r.right) a)) (same_Some None z e) tt
-      reduce (Some x) z h e =
-          let b = drop (length r.right) a in
-          let h' : At ws (piled r.right b) x = subst (λ l. At ws l x) (sym on) h in
-          let s = split r.right b x.entries h'.parts h'.held in
-          went r is_valid has_effect.0 has_effect.1 ws b x h' s (reduced of q d first r x) (good r is_valid has_effect.0 has_effect.1 ws b x h' s) z e
+      good_at : (x : Stack O I) → answered (selecting of q d first) r (Some x) ≡ true → (h : At ws (piled r.right (drop (length r.right) a)) x)
+          (s : Split r.right (drop (length r.right) a) x.entries h.parts)
+          → Good (first + (k + 1)) (reduced of q d first r x) (Done_well r is_valid has_effect.0 has_effect.1 ws (drop (length r.right) a) x h s)
+      good_at x holds h s =
+          good r is_valid has_effect.0 has_effect.1 ws (drop (length r.right) a) x h s (restricted of q d first r.restrictions (desk_of (length r.right) x).symbols holds)
 
-      refuse : (x : Kept O I) → Before ws a x → reduced_by of q d first (Some r) x ≡ None → 1024 < first + (k + 1)
-      refuse None h e = absurd (none-some None (sym e))
-      refuse (Some x) h e =
+      pub reduce : (x z : Kept O I) → Before ws a x → answered (selecting of q d first) r x ≡ true → reduced_by of q d first (Some r) x ≡ Some z
+          → Before ws (grammar_symbol.Class r.left ∷ drop (length r.right) a) z
+      reduce None z h holds e = subst (Before ws (grammar_symbol.Class r.left ∷ drop (length r.right) a)) (same_Some None z e) tt
+      reduce (Some x) z h holds e =
           let b = drop (length r.right) a in
           let h' : At ws (piled r.right b) x = subst (λ l. At ws l x) (sym on) h in
           let s = split r.right b x.entries h'.parts h'.held in
-          full r is_valid has_effect.0 has_effect.1 ws b x h' s (reduced of q d first r x) (good r is_valid has_effect.0 has_effect.1 ws b x h' s) e
+          went r is_valid has_effect.0 has_effect.1 ws b x h' s (reduced of q d first r x) (good_at x holds h' s) z e
+
+      refuse : (x : Kept O I) → Before ws a x → answered (selecting of q d first) r x ≡ true → reduced_by of q d first (Some r) x ≡ None → 1024 < first + (k + 1)
+      refuse None h holds e = absurd (none-some None (sym e))
+      refuse (Some x) h holds e =
+          let b = drop (length r.right) a in
+          let h' : At ws (piled r.right b) x = subst (λ l. At ws l x) (sym on) h in
+          let s = split r.right b x.entries h'.parts h'.held in
+          full r is_valid has_effect.0 has_effect.1 ws b x h' s (reduced of q d first r x) (good_at x holds h' s) e
 
     iterate : {at : ℕ} {before : List (List Sym)} {ws : List Leaf} {a : List Sym} {x : Kept O I} {log : List (Move Leaf)} {e : Ending (Kept O I)}
         → Parses (by_attributes (selecting of q d first)) d.rules (stmt_of d.classes) at before ws a x log e → Before ws a x → Behind e
@@ -306,10 +314,10 @@ module _ {O I S F : Type 0} (of : Meaning O I S F) (law : IsLawful of) (q : Tree
     iterate (parse.shifts {l = l} {ws = ws} {a = a} {x = x} h f s more) b = iterate more (shift l ws a x b)
     iterate (parse.reduces {n = n} {ws = ws} {a = a} {x = x} {y = y} {z = z} r h c there red more) b =
         let m = known (selecting of q d first) d.classes d.rules (stmt_of d.classes) ws a x n r y c there in
-        iterate more (reduce n r there ws a m.on x z b (ap (λ o. reduced_by of q d first o x) (sym there) ∙ ap (λ u. reduced_by of q d first (slice_get d.rules n) u) m.same ∙ red))
+        iterate more (reduce n r there ws a m.on x z b m.holds (ap (λ o. reduced_by of q d first o x) (sym there) ∙ ap (λ u. reduced_by of q d first (slice_get d.rules n) u) m.same ∙ red))
     iterate (parse.refuses {n = n} {ws = ws} {a = a} {x = x} {y = y} r h c there red) b =
         let m = known (selecting of q d first) d.classes d.rules (stmt_of d.classes) ws a x n r y c there in
-        refuse n r there ws a m.on x b (ap (λ o. reduced_by of q d first o x) (sym there) ∙ ap (λ u. reduced_by of q d first (slice_get d.rules n) u) m.same ∙ red)
+        refuse n r there ws a m.on x b m.holds (ap (λ o. reduced_by of q d first o x) (sym there) ∙ ap (λ u. reduced_by of q d first (slice_get d.rules n) u) m.same ∙ red)
     iterate (parse.blocks h c) b = tt
 
   pub begin : (w : List Leaf) → IsTyped (root w) sort.Stmt → AllByRecursion (λ (l : Leaf). IsOwn q first l.tok l.att) w → At (forks w) w [] (record { entries = []; code = []; most = first })

@@ -29,7 +29,7 @@ module _ {O I S F : Type 0} (of : Meaning O I S F) (q : TreeProgram) (d : Conten
   pub place_kept : (spots : List Spot) (m m' : S) (z : Size) (o : O) (g : Place) → Keeps of spots m m' → All (λ x. touches of o x ≡ false) spots
       → PlaceIs of f t m z o g → PlaceIs of f t m' z o g
   place_kept spots m m' z o g keeps free (local k long is lt low) = local k long is lt low
-  place_kept spots m m' z o g keeps free (argument k long is lt) = argument k long is lt
+  place_kept spots m m' z o g keeps free (argument k long is lt numbered) = argument k long is lt numbered
   place_kept spots m m' z o g keeps free (memory a names) = memory a (keeps.names o z a free names)
 
   -- an operand that was a place's, and stands for each place that it stood for

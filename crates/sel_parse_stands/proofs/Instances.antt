@@ -1,8 +1,9 @@
 -- A rule with entries that stand for senses is an instance of the target's.
-use Rattle.std.proofs.Common.{◌≡◌, ℕ, zero, suc, ◌*◌, ◌%◌, ◌^◌, ◌<◌, List, [], ◌∷◌, Option, Some, None, Bool, true, refl, sym, ap, ◌∙◌, subst, slice_get}
+use Rattle.std.proofs.Common.{◌≡◌, ℕ, zero, suc, ◌*◌, ◌%◌, ◌^◌, ◌<◌, List, [], ◌∷◌, map, Option, Some, None, Bool, true, refl, sym, ap, ◌∙◌, subst, slice_get}
 use Rattle.std.specs.Prelude.{IsSome, option_and_then, unwrap_or, slice_index_or, Ok}
 use Rattle.std.specs.List.{AllByRecursion as All}
 use Rattle.std.proofs.lemmas.Option.{none-some, same_Some}
+use Rattle.gg_base.specs.declared.relation.Rel.{Rel}
 use Rattle.gg_base.specs.Sizes.{bytes_of}
 use Rattle.gg_base.proofs.Words.{low_long}
 use Rattle.tree_core.specs.declared.program.TreeProgram.{TreeProgram}
@@ -12,8 +13,11 @@ use Rattle.tree_meaning.specs.State.{State, Extent}
 use Rattle.tree_meaning.specs.declared.value.Value.TheVariants as values
 use Rattle.tree_meaning.specs.Values.{Sight, read}
 use Rattle.md_reader.specs.declared.types.Kind.{Kind}
+use Rattle.md_reader.specs.declared.types.Kind.TheVariants as kind
 use Rattle.md_reader.specs.declared.types.Rule.{Rule}
 use Rattle.md_reader.specs.declared.types.Sym.{Sym}
+use Rattle.md_reader.specs.declared.types.Sym.TheVariants as grammar_symbol
+use Rattle.md_reader.specs.Patterns.{kind_at}
 use Rattle.md_reader.specs.State.{Content}
 use Rattle.md_reader.specs.Valid.{IsRule}
 use Rattle.sel_target.specs.sel_terms.specs.Effects.{EffectShape}
@@ -26,10 +30,13 @@ use Rattle.sel_target.specs.Laws.{IsLawful}
 use Rattle.sel_target.specs.Spelled.{AreSpelled}
 use Rattle.sel_target.specs.Instances.{Fit, IsWhole, hole, Instance}
 use Rattle.sel_target.specs.EffectTerms.{terms_of, begins_with_save}
+use Rattle.sel_target.specs.Symbols.{token_number, branch_relation, constant_of, relation_of}
 use Rattle.sel_target.proofs.AreaBytes.{area_read}
-use Rattle.sel_terms_trees.specs.Senses.{Sense, unknown, means, means_at, StandsFor}
+use Rattle.sel_terms_trees.specs.Senses.{Sense, OfLeaf, OfNumber, unknown, means, means_at, StandsFor}
 use Rattle.sel_parse_selected.specs.Entries.{Entry, attrs}
-use Rattle.sel_parse_stands.specs.Stands.{SymbolIs, Sees, IsFrame, Holds}
+use Rattle.sel_parse_selected.proofs.Restricting.{asked, Restricted, still_restricted}
+use Rattle.sel_parse_stands.specs.Stands.{ClassIs, SymbolIs, Sees, IsFrame, Holds}
+use Rattle.sel_parse_stands.specs.Stands as stands
 use Rattle.sel_parse_stands.proofs.Loaded.{AllLoaded}
 use Rattle.sel_parse_stands.proofs.Carrying.{AllCarried, carried_at}
 use Rattle.sel_parse_stands.proofs.Symbols.{symbol_reads, symbol_small, symbol_fits, symbol_spells, symbol_whole, symbol_homes}
@@ -127,6 +134,29 @@ module _ {O I S F : Type 0} (of : Meaning O I S F) (law : IsLawful of) (q : Tree
   known es right vs zero n holds e = absurd (not_wild n e)
   known es right vs (suc j) n holds e = stands_at es right vs j n (slice_get (hs_of es) j) refl holds e
 
+  -- ---- what restrictions ask of an entry, by the sense that it stands for
+
+  abbrev class_asked : Option Kind → Sense → Option ℕ × Option Rel
+  class_asked (Some kind.Con) (OfNumber n) = (Some n, None)
+  class_asked k v = (None, None)
+
+  abbrev symbol_asked : Sym → Sense → Option ℕ × Option Rel
+  symbol_asked (grammar_symbol.Tok x) (OfLeaf l) = (token_number q l.att, branch_relation l.att)
+  symbol_asked (grammar_symbol.Class c) v = class_asked (kind_at d.classes c) v
+  symbol_asked x v = (None, None)
+
+  class_is : (n : S) (k : Option Kind) (a : Attr O) (v : Sense) → ClassIs of q d first f fs t s m0 n k a v → (constant_of q a, relation_of a) ≡ class_asked k v
+  class_is n k a v (stands.register r x lt is) = refl
+  class_is n k a v (stands.in_slot w x le lt is) = refl
+  class_is n k a v (stands.value z o x fits is) = refl
+  class_is n k a v (stands.place z o g fits is) = refl
+  class_is n k a v (stands.number x lt) = refl
+  class_is n k a v (stands.address o x fits is) = refl
+
+  symbol_is : (n : S) (x : Sym) (k : Option Kind) (a : Attr O) (v : Sense) → SymbolIs of q d first f fs t s m0 n x k a v → (constant_of q a, relation_of a) ≡ symbol_asked x v
+  symbol_is n x k a v (stands.token l fit named) = refl
+  symbol_is n x k a v (stands.class c a' v' is) = class_is n (kind_at d.classes c) a v is
+
   -- The instance in a later state, to which the symbols are carried on: the view stays that of the choice.
   module _ (m' : S) (sees' : Sees of q d first f fs t s m0 m') where
     abbrev pub HoldNow : List (Entry O) → List Sym → List Sense → Type 0
@@ -142,16 +172,28 @@ module _ {O I S F : Type 0} (of : Meaning O I S F) (law : IsLawful of) (q : Tree
     spelled_now (e ∷ es) (x ∷ xs) (v ∷ vs) holds =
         (symbol_spells of law q d first f fs t s m0 frame m' sees' x e.kind e.attr v holds.0, spelled_now es xs vs holds.1)
 
+    -- entries that stand for the same are asked for the same
+    asked_now : (es es' : List (Entry O)) (right : List Sym) (vs : List Sense) → Hold es right vs → HoldNow es' right vs
+        → map (asked of q d first) es' ≡ map (asked of q d first) es
+    asked_now [] [] [] [] holds now = refl
+    asked_now (e ∷ es) (b ∷ es') (x ∷ xs) (v ∷ vs) holds now =
+        ap (λ p. p ∷ map (asked of q d first) es') (symbol_is m' x b.kind b.attr v now.0 ∙ sym (symbol_is m x e.kind e.attr v holds.0))
+        ∙ ap (λ l. asked of q d first e ∷ l) (asked_now es es' xs vs holds.1 now.1)
+    asked_now [] (b ∷ es') [] [] holds now = absurd now
+    asked_now (e ∷ es) [] (x ∷ xs) (v ∷ vs) holds now = absurd now
+    asked_now _ _ _ _ holds now = absurd holds
+
     pub instance : (every : Bool) (es es' : List (Entry O)) (rule : Rule) (vs : List Sense) (e : EffectShape)
-        → IsValid q → IsRule d.classes rule → of.effect d.classes rule ≡ Ok e → AllLoaded es' → Hold es rule.right vs → HoldNow es' rule.right vs
+        → Restricted of q d first rule.restrictions es → IsValid q → IsRule d.classes rule → of.effect d.classes rule ≡ Ok e → AllLoaded es' → Hold es rule.right vs → HoldNow es' rule.right vs
         → AllCarried of q d f t m m' rule.right es es'
         → All (IsReadWhere every (view es rule.right)) (terms_of e) → (begins_with_save rule.right ≡ true → of.answer m' ≡ t.running.result)
         → Instance of every q f fs d.classes rule e (attrs es') (view es rule.right) m'
-    instance every es es' rule vs e valid is_rule taken loaded holds now carried reads answered = record {
+    instance every es es' rule vs e restricted valid is_rule taken loaded holds now carried reads answered = record {
       program = valid;
       rule_fits = is_rule;
       taken = taken;
       holes_fit = fits_now es' rule.right vs loaded now;
+      restricted = still_restricted of q d first rule.restrictions es es' (asked_now es es' rule.right vs holds now) restricted;
       values = values_at;
       small = small_at;
       whole = whole_at;

@@ -74,7 +74,10 @@ module _ {O I S F : Type 0} (of : Meaning O I S F) (law : IsLawful of) (q : Tree
   module _ (frame : IsFrame of q d first f fs t s m0) where
     -- a local is touched by no spot that is free
     local_untouched : (k : ℕ) (x : Spot) → k < f.locals → IsFree f x → touches of (of.local k) x ≡ false
-    local_untouched k (RegAt r) lt free = bit_none (of.registers (of.local k)) r (law.spells.local_bits k)
+    local_untouched k (RegAt r) lt free = bit_none (of.registers (of.local k)) r (law.spells.local_bits k low)
+      where
+        low : k < 1024
+        low = (let a = frame.within in let b = frame.few in omega (arith, a, b, lt))
     local_untouched k (WordAt w) lt free =
         let a = frame.within in
         let b = frame.few in

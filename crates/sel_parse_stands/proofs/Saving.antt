@@ -15,6 +15,7 @@ use Rattle.tree_core.specs.declared.tree.Att.{Att}
 use Rattle.tree_core.specs.declared.tree.Att.TheVariants as att
 use Rattle.tree_core.specs.declared.tree.Leaf.{Leaf}
 use Rattle.tree_core.specs.declared.program.TreeProgram.{TreeProgram}
+use Rattle.tree_core.specs.Attributes.{leaf_fits, is_of_kind, attribute_of}
 use Rattle.tree_core.proofs.Windows.{some_of}
 use Rattle.tree_meaning.specs.declared.value.Meaning.TheVariants as meaning
 use Rattle.tree_meaning.specs.State.{State, Extent}
@@ -38,14 +39,14 @@ use Rattle.sel_target.specs.declared.attr.Attr.TheVariants as attr
 use Rattle.sel_target.specs.Meaning.{Meaning, Spot, RegAt, WordAt, touches}
 use Rattle.sel_target.specs.Values.{View, term_state, value, IsRead}
 use Rattle.sel_target.specs.Values.{worth, token_operand, own_operand, PlaceIs, local, argument, memory}
-use Rattle.sel_target.specs.Instances.{some_touches, attr_touches, IsWhole}
+use Rattle.sel_target.specs.Instances.{some_touches, attr_touches, IsWhole, InFrame}
 use Rattle.sel_target.specs.StatementLaws.{att_of}
 use Rattle.sel_target.specs.Laws.{IsLawful}
 use Rattle.sel_target.specs.SavingLaws.{Saves, Reloads, operand as is_operand, register as a_register, IsSet, IsSlot, saving, reloading}
 use Rattle.sel_terms_trees.specs.sel_terms_meaning.specs.Alike.{IsNarrowAct}
 use Rattle.sel_target.specs.Outcomes.{Keeps}
 use Rattle.sel_target.specs.Courses.{comes}
-use Rattle.sel_target.proofs.Facts.{low_is}
+use Rattle.sel_target.proofs.Facts.{low_is, argument_number}
 use Rattle.sel_target.specs.Symbols.{lowest, saving_line, is_register}
 use Rattle.sel_terms_trees.specs.Senses.{Sense, OfNumber, OfPlace}
 use Rattle.sel_target.specs.term_core_accesses.specs.Keeping.{IsNarrow}
@@ -56,6 +57,7 @@ use Rattle.sel_parse_stands.specs.Stands.{ClassIs, SymbolIs, Sees, IsFrame}
 use Rattle.sel_parse_selected.specs.Entries.{Entry}
 use Rattle.sel_parse_selected.specs.Spills.{holds_register, in_slot}
 use Rattle.sel_parse_stands.proofs.Loaded.{IsLoaded}
+use Rattle.sel_parse_stands.proofs.Symbols.{in_frame}
 use Rattle.sel_parse_stands.proofs.Carrying.{Homed, Carried}
 
 -- the view of a line that saves: symbol 1 alone counts
@@ -194,8 +196,8 @@ module _ {O I S F : Type 0} (of : Meaning O I S F) (law : IsLawful of) (q : Tree
         }
       where
         the_place : (m' : S) → of.names (of.slot_deferred w) z m' ≡ Some n → (g : Place) → PlaceIs of f t m z o g → PlaceIs of f t m' z (of.slot_deferred w) g
-        the_place m' gets g (local k long is lt low) = absurd (spells (ap of.registers is ∙ law.spells.local_bits k))
-        the_place m' gets g (argument k long is lt) = absurd (spells (ap of.registers is ∙ law.spells.argument_bits (k + 1)))
+        the_place m' gets g (local k long is lt low) = absurd (spells (ap of.registers is ∙ law.spells.local_bits k low))
+        the_place m' gets g (argument k long is lt numbered) = absurd (spells (ap of.registers is ∙ law.spells.argument_bits (k + 1) numbered))
         the_place m' gets g (memory a named) = memory a (gets ∙ sym names ∙ named)
 
         homed : (m' : S) → of.names (of.slot_deferred w) z m' ≡ Some n → (o' : O) → Some (of.slot_deferred w) ≡ Some o'
@@ -256,19 +258,20 @@ module _ {O I S F : Type 0} (of : Meaning O I S F) (law : IsLawful of) where
   pub bits_none : (o : O) (r : ℕ) → of.registers o ≡ 0 → touches of o (RegAt r) ≡ false
   bits_none o r e = ap (λ k. bit_at k r == 1) e ∙ ap (λ b. b == 1) (bit_at-zero r)
 
-  pub token_none : (x : Tok) (a : Att) (r : ℕ) → some_touches of (token_operand of x a) (RegAt r) ≡ false
-  token_none x att.Nothing r = refl
-  token_none x (att.Number n) r = refl
-  token_none x (att.Object object offset) r = refl
-  token_none x (att.Slot k) r = by x
+  -- a token with an attribute that fits, and a number of the frame
+  pub token_none : (x : Tok) (a : Att) (r : ℕ) → is_of_kind (attribute_of x) a ≡ true → InFrame a → some_touches of (token_operand of x a) (RegAt r) ≡ false
+  token_none x att.Nothing r fit low = refl
+  token_none x (att.Number n) r fit low = refl
+  token_none x (att.Object object offset) r fit low = refl
+  token_none x (att.Slot k) r fit low = by x fit
     where
-      by : (x : Tok) → some_touches of (token_operand of x (att.Slot k)) (RegAt r) ≡ false
-      by tok.Loc = bits_none (of.local k) r (law.spells.local_bits k)
-      by tok.Arg = bits_none (of.argument k) r (law.spells.argument_bits k)
-      by x = refl
-  token_none x (att.Branch rel label) r = refl
-  token_none x (att.Label label) r = refl
-  token_none x (att.Callee function count) r = refl
+      by : (x : Tok) → is_of_kind (attribute_of x) (att.Slot k) ≡ true → some_touches of (token_operand of x (att.Slot k)) (RegAt r) ≡ false
+      by tok.Loc fit = bits_none (of.local k) r (law.spells.local_bits k low)
+      by tok.Arg fit = bits_none (of.argument k) r (law.spells.argument_bits k (argument_number k fit))
+      by x fit = refl
+  token_none x (att.Branch rel label) r fit low = refl
+  token_none x (att.Label label) r fit low = refl
+  token_none x (att.Callee function count) r fit low = refl
 
   -- an entry that holds a register: one that it touches
   holding : (e : Entry O) → holds_register of e ≡ true → (r : ℕ) × (attr_touches of e.attr (RegAt r) ≡ true)
@@ -283,10 +286,10 @@ module _ {O I S F : Type 0} (of : Meaning O I S F) (law : IsLawful of) where
 
 module _ {O I S F : Type 0} (of : Meaning O I S F) (law : IsLawful of) (q : TreeProgram) (d : Content) (first : ℕ) (f : Extent) (fs : List Extent) (t : State) (s : Sight) (m0 : S)
     (frame : IsFrame of q d first f fs t s m0) (lines : LinesSave of d) where
-  pub token_holds_none : (k : Option Kind) (l : Leaf) → holds_register of (record { kind = k; attr = attr.Token l }) ≡ true → ⊥
-  token_holds_none k l h =
+  pub token_holds_none : (k : Option Kind) (l : Leaf) → leaf_fits l ≡ true → InFrame l.att → holds_register of (record { kind = k; attr = attr.Token l }) ≡ true → ⊥
+  token_holds_none k l fit low h =
       let r = holding of law (record { kind = k; attr = attr.Token l }) h in
-      both_ways (some_touches of (token_operand of l.tok l.att) (RegAt r.0)) (token_none of law l.tok l.att r.0) r.1
+      both_ways (some_touches of (token_operand of l.tok l.att) (RegAt r.0)) (token_none of law l.tok l.att r.0 fit low) r.1
 
   -- an entry that holds a register is saved by the line for its kind
   pub record Saved (m : S) (x : Sym) (e : Entry O) (v : Sense) (w : ℕ) : Type 0 where
@@ -329,8 +332,8 @@ module _ {O I S F : Type 0} (of : Meaning O I S F) (law : IsLawful of) (q : Tree
             both_ways (touches of o (RegAt r.0)) (bits_none of law o r.0 e) r.1
 
         by : (g : Place) → PlaceIs of f t m z o g → Moved (Some (kind.Place z)) (attr.Place o) (OfPlace g)
-        by g (local k' long is' lt low) = absurd (spells (ap of.registers is' ∙ law.spells.local_bits k'))
-        by g (argument k' long is' lt) = absurd (spells (ap of.registers is' ∙ law.spells.argument_bits (k' + 1)))
+        by g (local k' long is' lt low) = absurd (spells (ap of.registers is' ∙ law.spells.local_bits k' low))
+        by g (argument k' long is' lt numbered) = absurd (spells (ap of.registers is' ∙ law.spells.argument_bits (k' + 1) numbered))
         by g (memory n names) =
             place_saved of law q d first f fs t s m0 frame m sees (saving_line d (Some (kind.Place z))) z (lines.places z) o n w fits spells names from below
     class_moved k a v (stands.number n lt) h = absurd (let r = holding of law (record { kind = k; attr = attr.Con n }) h in both_ways false refl r.1)
@@ -339,7 +342,8 @@ module _ {O I S F : Type 0} (of : Meaning O I S F) (law : IsLawful of) (q : Tree
 
     pub entry_saved : (x : Sym) (k : Option Kind) (a : Attr O) (v : Sense) → SymbolIs of q d first f fs t s m0 m x k a v
         → holds_register of (record { kind = k; attr = a }) ≡ true → Saved m x (record { kind = k; attr = a }) v w
-    entry_saved x k a v (stands.token l fit named) h = absurd (token_holds_none None l h)
+    entry_saved x k a v (stands.token l fit named) h =
+        absurd (token_holds_none None l fit (in_frame of law q d first f fs t s m0 frame m sees l.tok l.att fit named.0) h)
     entry_saved x k a v (stands.class c a' v' is) h =
         let p = class_moved (kind_at d.classes c) a v is h in
         of_moves c a v p.1 p.0

@@ -82,7 +82,7 @@ module _ {O I S F : Type 0} (of : Meaning O I S F) (law : IsLawful of) (q : Tree
   place_reads : (z : Size) (o : O) (g : Place) (n : ℕ) → of.fits (kind.Place z) o ≡ true → PlaceIs of f t m z o g → read s g ≡ values.Number n → of.reads o z m ≡ Some n
   place_reads z o g n fits (local k long is lt low) e =
       subst (λ y. of.reads o y m ≡ Some n) (sym long) (subst (λ p. of.reads p Long m ≡ Some n) (sym is) (sees.locals k n (there_is (s.locals k) n e)))
-  place_reads z o g n fits (argument k long is lt) e =
+  place_reads z o g n fits (argument k long is lt numbered) e =
       subst (λ y. of.reads o y m ≡ Some n) (sym long)
       (subst (λ p. of.reads p Long m ≡ Some n) (sym is) (argument_reads (k + 1) n (let one : 1 ≤ k + 1 = omega arith in one) (there_is (slice_get s.arguments (k + 1 - 1)) n e)))
   place_reads z o g n fits (memory a names) e =
@@ -412,7 +412,7 @@ module _ {O I S F : Type 0} (of : Meaning O I S F) (law : IsLawful of) (q : Tree
   class_fits k a v loaded (number x lt) = lt
   class_fits k a v loaded (address o x fits is) = fits
 
-  in_frame : (x : Tok) (a : Att) → is_of_kind (attribute_of x) a ≡ true → NamedBy of q d first f fs t s m0 x a → InFrame a
+  pub in_frame : (x : Tok) (a : Att) → is_of_kind (attribute_of x) a ≡ true → NamedBy of q d first f fs t s m0 x a → InFrame a
   in_frame tok.Zero att.Nothing fit named = tt
   in_frame tok.Zero (att.Number k) fit named = tt
   in_frame tok.Zero (att.Object object offset) fit named = tt
@@ -749,7 +749,7 @@ module _ {O I S F : Type 0} (of : Meaning O I S F) (law : IsLawful of) (q : Tree
   -- a place can be found
   place_homes : (z : Size) (o : O) (g : Place) → PlaceIs of f t m z o g → IsSome (of.names o z m)
   place_homes z o g (local k long is lt low) = subst (λ y. IsSome (of.names o y m)) (sym long) (subst (λ p. IsSome (of.names p Long m)) (sym is) (local_homes k lt))
-  place_homes z o g (argument k long is lt) =
+  place_homes z o g (argument k long is lt numbered) =
       subst (λ y. IsSome (of.names o y m)) (sym long)
       (subst (λ p. IsSome (of.names p Long m)) (sym is) (argument_homes (k + 1) (let one : 1 ≤ k + 1 = omega arith in one) (let le : k + 1 ≤ length t.running.arguments = omega (arith, lt) in le)))
   place_homes z o g (memory a names) = is_some (of.names o z m) a names

@@ -1,5 +1,5 @@
 -- The instructions of a parse pass.
-use Rattle.std.proofs.Common.{◌≡◌, ℕ, ◌+◌, List, [], ◌∷◌, length, map, Some, None, Bool, sym, ap, ◌∙◌, subst, slice_get, drop, take}
+use Rattle.std.proofs.Common.{◌≡◌, ℕ, ◌+◌, List, [], ◌∷◌, length, map, Some, None, Bool, true, sym, ap, ◌∙◌, subst, slice_get, drop, take}
 use Rattle.std.specs.Prelude.{reverse, Ok}
 use Rattle.std.specs.List.{AllByRecursion as All}
 use Rattle.std.proofs.lemmas.Option.{same_Some, none-some}
@@ -14,7 +14,7 @@ use Rattle.md_reader.specs.State.{Content}
 use Rattle.sel_parse_lines.specs.lr_tables.specs.Statements.{stmt_of}
 use Rattle.sel_parse_lines.specs.lr_check_parse.specs.Moves.{Move, Ending, Accepts, Blocks, Loops, Refuses, Parses}
 use Rattle.sel_parse_lines.specs.lr_check_parse.specs.Moves as parse
-use Rattle.sel_parse_lines.specs.lr_check_parse.specs.Attributes.{by_attributes}
+use Rattle.sel_parse_lines.specs.lr_check_parse.specs.Attributes.{by_attributes, answered}
 use Rattle.sel_target.specs.sel_terms.specs.Effects.{EffectShape}
 use Rattle.sel_parse_lines.specs.sel_terms_trees.specs.Senses.{piled}
 use Rattle.sel_target.specs.Meaning.{Meaning}
@@ -23,9 +23,10 @@ use Rattle.sel_parse_law.specs.sel_parse.specs.Shown.{IsShown}
 use Rattle.sel_parse_lines.specs.sel_parse_moves.proofs.Covering.{known}
 use Rattle.sel_parse_law.specs.sel_parse_desk.specs.Selected as desk
 use Rattle.sel_parse_lines.specs.sel_parse_selected.specs.Entries.{Entry}
-use Rattle.sel_parse_lines.specs.sel_parse_selected.specs.Desk.{Stack, Outcome, Full, Stuck, Done}
+use Rattle.sel_parse_lines.specs.sel_parse_selected.specs.Desk.{Stack, desk_of, Outcome, Full, Stuck, Done}
 use Rattle.sel_parse_lines.specs.sel_parse_selected.specs.Reductions.{reduced}
 use Rattle.sel_parse_lines.specs.sel_parse_selected.specs.Selected.{Selected, Kept, kept_of, reduced_by, selecting, shifted}
+use Rattle.sel_parse_lines.specs.sel_parse_selected.proofs.Restricting.{restricted}
 use Rattle.sel_parse_law.specs.sel_parse_stands.specs.Lines.{LinesSave}
 use Rattle.sel_parse_law.specs.sel_parse_stands.proofs.Parting.{taken_off, left_below}
 use Rattle.sel_parse_law.specs.sel_parse_effect.specs.Claims.{IsFit}
@@ -78,9 +79,10 @@ module _ {O I S F : Type 0} (of : Meaning O I S F) (law : IsLawful of) (q : Tree
     abbrev others : List Sym
     others = drop (length r.right) a
 
-    stack_passes : (x : Stack O I) → walk.At of law q can d fit first k ws (piled r.right others) x → AllKinds d (piled r.right others) x.entries → Passes of law q d first good pass lines x.code
+    stack_passes : (x : Stack O I) → answered (selecting of q d first) r (Some x) ≡ true
+        → walk.At of law q can d fit first k ws (piled r.right others) x → AllKinds d (piled r.right others) x.entries → Passes of law q d first good pass lines x.code
         → Each (Stacked (grammar_symbol.Class r.left ∷ others)) (reduced of q d first r x)
-    stack_passes x h kinds code =
+    stack_passes x holds h kinds code =
         let s = walk.split of law q can d fit first r.right others x.entries h.parts h.held in
         let valid = walk.is_valid of law q can d fit first k n r there ws a on in
         let effect = walk.has_effect of law q can d fit first k n r there ws a on in
@@ -94,12 +96,13 @@ module _ {O I S F : Type 0} (of : Meaning O I S F) (law : IsLawful of) (q : Tree
           symbols = subst (AllKinds d r.right) (sym symbols_are) parted.0;
           code = code;
         })
+        (restricted of q d first r.restrictions (desk_of (length r.right) x).symbols holds)
 
-    reduce : (x z : Kept O I) → Before ws a x → Wrote a x → reduced_by of q d first (Some r) x ≡ Some z → Wrote (grammar_symbol.Class r.left ∷ others) z
-    reduce None z h g e = subst (Wrote (grammar_symbol.Class r.left ∷ others)) (same_Some None z e) tt
-    reduce (Some x) z h g e =
+    reduce : (x z : Kept O I) → Before ws a x → Wrote a x → answered (selecting of q d first) r x ≡ true → reduced_by of q d first (Some r) x ≡ Some z → Wrote (grammar_symbol.Class r.left ∷ others) z
+    reduce None z h g holds e = subst (Wrote (grammar_symbol.Class r.left ∷ others)) (same_Some None z e) tt
+    reduce (Some x) z h g holds e =
         kept (grammar_symbol.Class r.left ∷ others) (reduced of q d first r x) z
-        (stack_passes x (subst (λ (l : List Sym). walk.At of law q can d fit first k ws l x) (sym on) h)
+        (stack_passes x holds (subst (λ (l : List Sym). walk.At of law q can d fit first k ws l x) (sym on) h)
         (subst (λ (l : List Sym). AllKinds d l x.entries) (sym on) g.kinds) g.code) e
 
   iterate : {at : ℕ} {before : List (List Sym)} {ws : List Leaf} {a : List Sym} {x : Kept O I} {log : List (Move Leaf)} {e : Ending (Kept O I)}
@@ -110,7 +113,7 @@ module _ {O I S F : Type 0} (of : Meaning O I S F) (law : IsLawful of) (q : Tree
   iterate (parse.reduces {n = n} {ws = ws} {a = a} {x = x} {y = y} {z = z} r h c there red more) b g =
       let m = known (selecting of q d first) d.classes d.rules (stmt_of d.classes) ws a x n r y c there in
       let done = ap (λ o. reduced_by of q d first o x) (sym there) ∙ ap (λ u. reduced_by of q d first (slice_get d.rules n) u) m.same ∙ red in
-      iterate more (walk.reduce of law q can d fit first k n r there ws a m.on x z b done) (reduce n r there ws a m.on x z b g done)
+      iterate more (walk.reduce of law q can d fit first k n r there ws a m.on x z b m.holds done) (reduce n r there ws a m.on x z b g m.holds done)
   iterate (parse.refuses r h c there red) b g = tt
   iterate (parse.blocks h c) b g = tt
 
@@ -140,7 +143,8 @@ selections_are_written of law q d first w code most h s = selections_pass of law
   where
     pass : LinesPass of q d of.is_instr
     pass = record {
-      rules = λ rule e hs result is_rule taken fits spelled is. law.templates.lines_written q d.classes rule e hs result h.spelled is_rule taken fits spelled is;
+      rules = λ rule e hs result is_rule taken fits restricted spelled is.
+          law.templates.lines_written q d.classes rule e hs result h.spelled is_rule taken fits restricted spelled is;
       values = λ size l a w saves is low. law.saves.value_written q size l a w h.spelled saves is low;
       places = λ size l o w saves fits low. law.saves.place_written q size l o w h.spelled saves fits low;
       addresses = λ l o w saves fits low. law.saves.address_written q l o w h.spelled saves fits low;

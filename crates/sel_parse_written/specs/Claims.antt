@@ -14,18 +14,20 @@ use Rattle.sel_target.specs.sel_terms.specs.Effects.{EffectShape}
 use Rattle.sel_target.specs.declared.attr.Attr.{Attr}
 use Rattle.sel_target.specs.declared.attr.Attr.TheVariants as attr
 use Rattle.sel_target.specs.Meaning.{Meaning}
-use Rattle.sel_target.specs.Instances.{Fit, IsResult, lines_of}
+use Rattle.sel_target.specs.Instances.{hole, Fit, IsResult, lines_of}
+use Rattle.sel_target.specs.Restrictions.{AreRestricted}
 use Rattle.sel_target.specs.Spelled.{AreSpelled}
 use Rattle.sel_target.specs.SavingLaws.{Saves, Reloads, IsValue}
 use Rattle.sel_parse_law.specs.sel_parse_desk.specs.Selected.{Selected}
 use Rattle.sel_parse_law.specs.Claims.{IsReady}
 
 module _ {O I S F : Type 0} (of : Meaning O I S F) (q : TreeProgram) (d : Content) where
-  -- A test of instructions that each line passes as it is written: those of a rule, where its holes fit its symbols and can be spelled, and
-  -- those that save and reload.
+  -- A test of instructions that each line passes as it is written: those of a rule, where its holes fit its symbols, are as its
+  -- restrictions say, and can be spelled, and those that save and reload.
   pub record LinesPass (good : I → Bool) : Type 0 where
     pub rules : (rule : Rule) (e : EffectShape) (hs : List (Attr O)) (result : Attr O) → IsRule d.classes rule
-        → of.effect d.classes rule ≡ Ok e → Fit of d.classes rule.right hs → AreSpelled q hs → IsResult of rule.give hs result
+        → of.effect d.classes rule ≡ Ok e → Fit of d.classes rule.right hs → AreRestricted q (hole hs) rule.restrictions → AreSpelled q hs
+        → IsResult of rule.give hs result
         → AllByRecursion (λ (i : I). good i ≡ true) (lines_of of q rule hs result)
     pub values : (size : Size) (l : Line) (a : Attr O) (w : ℕ) → Saves of (kind.Value size) l → IsValue of size a → w < NEED_LIMIT
         → good (of.instr q l (a ∷ []) (attr.Place (of.slot w))) ≡ true

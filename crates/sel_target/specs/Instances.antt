@@ -30,13 +30,14 @@ use Rattle.sel_target.specs.declared.attr.Attr.TheVariants as attr
 use Rattle.sel_target.specs.Meaning.{Meaning, Spot, RegAt, touches}
 use Rattle.sel_target.specs.Values.{View, IsReadWhere, worth, own_operand, token_operand}
 use Rattle.sel_target.specs.EffectTerms.{terms_of, DividesByNone, begins_with_save}
+use Rattle.sel_target.specs.Restrictions.{AreRestricted}
 
 -- the symbols are numbered from 1
 abbrev pub hole : {X : Type 0} → List X → ℕ → Option X
 hole hs zero = None
 hole hs (suc i) = slice_get hs i
 
--- a local's and an argument's number is that of a word
+-- A local's number is that of a word. An argument's is from 1 to 255 by its leaf.
 abbrev pub InFrame : Att → Type 0
 InFrame (att.Slot k) = k < NEED_LIMIT
 InFrame a = Unit {0}
@@ -112,14 +113,15 @@ module _ {O I S F : Type 0} (of : Meaning O I S F) where
   abbrev pub lines_of : TreeProgram → Rule → List (Attr O) → Attr O → List I
   lines_of q rule hs res = map (λ (l : Line). of.instr q l hs res) rule.lines
 
-  -- A rule that the target takes: its holes are of the symbols' kinds and have the view's numbers, and no access to
-  -- memory breaks that its effect makes, every one, or all but those whose address divides by zero.
+  -- A rule that the target takes: its holes are of the symbols' kinds, are as its restrictions say, and have the view's numbers, and no
+  -- access to memory breaks that its effect makes, every one, or all but those whose address divides by zero.
   pub record Instance (every : Bool) (q : TreeProgram) (f : Extent) (fs : List Extent) (classes : List Class) (rule : Rule)
       (e : EffectShape) (hs : List (Attr O)) (v : View) (m : S) : Type 0 where
     pub program : IsValid q
     pub rule_fits : IsRule classes rule
     pub taken : of.effect classes rule ≡ Ok e
     pub holes_fit : Fit classes rule.right hs
+    pub restricted : AreRestricted q (hole hs) rule.restrictions
     -- each symbol that has a number is worth it, the number is of its size, and each symbol but a place has one
     pub values : (i x : ℕ) (h : Attr O) → hole hs i ≡ Some h → v.symbol i ≡ Some x → worth of q (size_at classes rule.right i) h m ≡ Some x
     pub small : (i x : ℕ) → v.symbol i ≡ Some x → x < 2 ^ (8 * bytes_of (size_at classes rule.right i))

@@ -8,6 +8,7 @@ pub mod Laws
 pub mod Meaning
 pub mod OperandLaws
 pub mod Outcomes
+pub mod Restrictions
 pub mod SavingLaws
 pub mod Spelled
 pub mod StatementLaws

@@ -20,7 +20,8 @@ use Rattle.sel_terms_meaning.specs.md_reader.specs.Valid.{IsRule}
 use Rattle.sel_terms_meaning.specs.sel_terms.specs.Effects.{EffectShape}
 use Rattle.sel_target.specs.declared.attr.Attr.{Attr}
 use Rattle.sel_target.specs.Meaning.{Meaning, Spot, touches}
-use Rattle.sel_target.specs.Values.{own_operand}
+use Rattle.sel_target.specs.Values.{own_operand, IsArgument}
+use Rattle.sel_target.specs.Restrictions.{AreRestricted}
 use Rattle.sel_target.specs.Spelled.{AreSpelled}
 use Rattle.sel_target.specs.Instances.{hole, attr_touches, Fit}
 
@@ -35,10 +36,10 @@ module _ {O I S F : Type 0} (of : Meaning O I S F) where
     pub slot_word : (w : ℕ) → w < NEED_LIMIT → of.word (of.slot w) ≡ Some w
     pub deferred_bits : (w : ℕ) → w < NEED_LIMIT → of.registers (of.slot_deferred w) ≡ 0
     pub deferred_word : (w : ℕ) → w < NEED_LIMIT → of.word (of.slot_deferred w) ≡ Some w
-    pub local_bits : (k : ℕ) → of.registers (of.local k) ≡ 0
+    pub local_bits : (k : ℕ) → k < NEED_LIMIT → of.registers (of.local k) ≡ 0
     pub local_word : (k : ℕ) → k < NEED_LIMIT → of.word (of.local k) ≡ Some k
-    pub argument_bits : (k : ℕ) → of.registers (of.argument k) ≡ 0
-    pub argument_word : (k : ℕ) → of.word (of.argument k) ≡ None
+    pub argument_bits : (k : ℕ) → IsArgument k → of.registers (of.argument k) ≡ 0
+    pub argument_word : (k : ℕ) → IsArgument k → of.word (of.argument k) ≡ None
     -- a shape touches nothing that none of its holes touches
     pub shape_touches : (q : TreeProgram) (classes : List Class) (rule : Rule) (e : EffectShape) (l : Line) (hs : List (Attr O))
         (s : Spot) →
@@ -51,11 +52,12 @@ module _ {O I S F : Type 0} (of : Meaning O I S F) where
     pub slot_fits : (size : Size) (w : ℕ) → w < NEED_LIMIT → of.fits (kind.Value size) (of.slot w) ≡ true
     pub deferred_fits : (size : Size) (w : ℕ) → w < NEED_LIMIT → of.fits (kind.Place size) (of.slot_deferred w) ≡ true
     pub deferred_fits_address : (w : ℕ) → w < NEED_LIMIT → of.fits kind.Ea (of.slot_deferred w) ≡ true
-    -- A shape may stand for what its rule gives, with its tokens' numbers longwords and their objects the program's.
+    -- A shape may stand for what its rule gives, where the rule's restrictions hold, with its tokens' numbers longwords and their objects
+    -- the program's.
     pub shape_fits : (q : TreeProgram) (classes : List Class) (rule : Rule) (e : EffectShape) (k : Kind) (l : Line) (hs : List (Attr O)) →
         of.can_write q → IsRule classes rule → of.effect classes rule ≡ Ok e → rule.give ≡ give.Shape l
         → kind_at classes rule.left ≡ Some k →
-        Fit of classes rule.right hs → AreSpelled q hs → of.fits k (of.operand q l hs) ≡ true
+        Fit of classes rule.right hs → AreRestricted q (hole hs) rule.restrictions → AreSpelled q hs → of.fits k (of.operand q l hs) ≡ true
 
   -- In a state that stands for a tree state, operands read and name what is there.
   pub record ReadsWhatIsThere : Type 0 where

@@ -21,6 +21,7 @@ use Rattle.sel_target.specs.declared.attr.Attr.TheVariants as attr
 use Rattle.sel_target.specs.Courses.{comes, traps, followed}
 use Rattle.sel_target.specs.Meaning.{Meaning, RegAt}
 use Rattle.sel_target.specs.Values.{View, value, worth, own_operand}
+use Rattle.sel_target.specs.Restrictions.{AreRestricted}
 use Rattle.sel_target.specs.Spelled.{AreSpelled}
 use Rattle.sel_target.specs.Instances.{hole, Fit, IsResult, lines_of, Instance, Ready}
 use Rattle.sel_target.specs.Outcomes.{Keeps, Sets}
@@ -50,10 +51,12 @@ module _ {O I S F : Type 0} (of : Meaning O I S F) where
     -- a statement has a line
     pub some_line : (classes : List Class) (rule : Rule) (e : EffectShape) →
         of.effect classes rule ≡ Ok e → kind_at classes rule.left ≡ Some kind.Nothing → 1 ≤ length rule.lines
-    -- The lines of a program whose names can be spelled, with its tokens' numbers longwords and its objects there, are valid instructions.
+    -- The lines of a program whose names can be spelled, with its tokens' numbers longwords and its objects there, are valid instructions
+    -- where the rule's restrictions hold.
     pub lines_written : (q : TreeProgram) (classes : List Class) (rule : Rule) (e : EffectShape) (hs : List (Attr O)) (res : Attr O) →
-        of.can_write q → IsRule classes rule → of.effect classes rule ≡ Ok e → Fit of classes rule.right hs → AreSpelled q hs →
-        IsResult of rule.give hs res → AllByRecursion (λ i. of.is_instr i ≡ true) (lines_of of q rule hs res)
+        of.can_write q → IsRule classes rule → of.effect classes rule ≡ Ok e → Fit of classes rule.right hs →
+        AreRestricted q (hole hs) rule.restrictions → AreSpelled q hs → IsResult of rule.give hs res →
+        AllByRecursion (λ i. of.is_instr i ≡ true) (lines_of of q rule hs res)
 
   -- A rule that gives a shape: its lines change nothing, and the operand stands for what the rule gives.
   pub record GivesShapes : Type 0 where

@@ -1,6 +1,6 @@
 -- What the symbols of a rule stand for, and what the terms of an effect are worth: by the value of terms, with the
 -- symbols' values, and with the memory and the last result of a tree state.
-use Rattle.std.specs.Prelude.{◌≡◌, ℕ, ◌+◌, ◌-◌, ◌<◌, Bool, true, Option, Some, None, IsSome, unwrap_or, slice_get}
+use Rattle.std.specs.Prelude.{◌≡◌, ℕ, ◌+◌, ◌-◌, ◌<◌, ◌≤◌, Bool, true, Option, Some, None, IsSome, unwrap_or, slice_get}
 use Rattle.std.specs.Prelude.{slice_index, length}
 use Rattle.gg_base.specs.declared.limits.TheConstants.{AREA_START, NEED_LIMIT}
 use Rattle.gg_base.specs.declared.size.Size.{Size}
@@ -49,6 +49,10 @@ IsRead v t = IsReadWhere true v t
 abbrev pub address_of : Option Object → ℕ → Option ℕ
 address_of None offset = None
 address_of (Some o) offset = Some (add32 o.address offset)
+
+-- the numbers of arguments in trees: from 1 to 255
+abbrev pub IsArgument : ℕ → Type 0
+IsArgument k = (1 ≤ k) × (k ≤ 255)
 
 -- the place of a local's or an argument's token
 abbrev pub slot_place : {O : Type 0} → (ℕ → O) → (ℕ → O) → Tok → ℕ → Option O
@@ -105,6 +109,6 @@ module _ {O I S F : Type 0} (of : Meaning O I S F) where
   -- An operand stands for a place of a size: a local's and an argument's are longwords and have their own operands.
   pub data PlaceIs (f : Extent) (t : State) (m : S) (size : Size) (o : O) : (g : Place) → Type 0 where
     local : (k : ℕ) → size ≡ Long → o ≡ of.local k → k < f.locals → k < NEED_LIMIT → PlaceIs f t m size o (meaning.Local k)
-    argument : (k : ℕ) → size ≡ Long → o ≡ of.argument (k + 1) → k < length t.running.arguments
+    argument : (k : ℕ) → size ≡ Long → o ≡ of.argument (k + 1) → k < length t.running.arguments → IsArgument (k + 1)
         → PlaceIs f t m size o (meaning.Argument (k + 1))
     memory : (a : ℕ) → of.names o size m ≡ Some a → PlaceIs f t m size o (meaning.Memory size a)

@@ -20,16 +20,16 @@ toy_spells = record {
   slot_word = λ w lt. refl;
   deferred_bits = λ w lt. refl;
   deferred_word = λ w lt. refl;
-  local_bits = λ k. refl;
+  local_bits = λ k lt. refl;
   local_word = λ k lt. refl;
-  argument_bits = λ k. refl;
-  argument_word = λ k. refl;
+  argument_bits = λ k is. refl;
+  argument_word = λ k is. refl;
   shape_touches = λ q classes rule e l hs s taken gives fit touched. shape_touches q l hs s touched;
   alone = alone;
   slot_fits = λ size w lt. refl;
   deferred_fits = λ size w lt. refl;
   deferred_fits_address = λ w lt. refl;
-  shape_fits = λ q classes rule e k l hs can fits taken gives is fit spelled. shape_fits q classes rule e k l hs taken gives is fit;
+  shape_fits = λ q classes rule e k l hs can fits taken gives is fit restricted spelled. shape_fits q classes rule e k l hs taken gives is fit;
 }
 
 pub toy_is_lawful : IsLawful toy

@@ -295,5 +295,5 @@ toy_templates = record {
   narrow = λ classes rule e h. is_narrow classes rule e (taken_by classes rule e h);
   one_divisor = λ classes rule e h. few_divisors classes rule e (taken_by classes rule e h);
   some_line = λ classes rule e h k. has_line classes rule e (taken_by classes rule e h) k;
-  lines_written = λ q classes rule e hs res can fits taken fit spelled result. all_valid (lines_of toy q rule hs res);
+  lines_written = λ q classes rule e hs res can fits taken fit restricted spelled result. all_valid (lines_of toy q rule hs res);
 }

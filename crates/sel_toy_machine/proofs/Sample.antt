@@ -131,6 +131,7 @@ sum_is_ready = record {
     rule_fits = rule_is;
     taken = refl;
     holes_fit = ((refl, refl, tt), (refl, (refl, tt)));
+    restricted = tt;
     values = values_are;
     small = small_are;
     whole = whole_are;

@@ -319,7 +319,7 @@ module _ (q : TreeProgram) (f : Extent) (fs : List Extent) (classes : List Class
       IsStep toy q f fs v.state m (followed (put_place size o x m) [] (run [])) (deed_step q v.state (Puts g x))
   put_is size o g x h small (is_local k z is lt below) =
       subst (λ p. IsStep toy q f fs v.state m (followed (put_place size p x m) [] (run [])) (deed_step q v.state (Puts g x))) (sym is) (put_local size k x h lt small)
-  put_is size o g x h small (is_argument k z is lt) =
+  put_is size o g x h small (is_argument k z is lt numbered) =
       subst (λ p. IsStep toy q f fs v.state m (followed (put_place size p x m) [] (run [])) (deed_step q v.state (Puts g x))) (sym is) (put_argument size (k + 1) x h small)
   put_is size o g x h small (is_memory a e) = put_named size o a x h e
 

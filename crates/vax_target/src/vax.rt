@@ -46,7 +46,7 @@ impl Model for State {
 pub struct Vax;
 
 impl Templates for Vax {
-    ghost use Rattle.vax_target_judging.specs.vax_target_meaning.specs.Vax.{vax};
+    ghost use Rattle.vax_target_laws.specs.vax_target_meaning.specs.Vax.{vax};
 
     type Operand = Operand;
 

@@ -16,14 +16,13 @@ use Rattle.tree_core.specs.Valid.{named, service_args, args_or, takes}
 use Rattle.tree_core.specs.Names.{function_label}
 use Rattle.tree_meaning.specs.State.{State as Trees, Extent}
 use Rattle.gg_base.specs.declared.run.Finish.TheVariants as finish
-use Rattle.tree_meaning.specs.Deeds.{Deed, Puts, Branches, Pushes, Returns as Leaves, Calls as Enters, Saves, Jumps, Traps, Strays}
+use Rattle.tree_meaning.specs.Deeds.{Deed, Calls as Enters}
 use Rattle.tree_meaning.specs.Steps as steps
 use Rattle.tree_meaning.specs.Steps.{Step, without_pushed, called_as, wrote, got as answered, strays, deed_step}
 use Rattle.vax_target_statements.specs.md_reader.specs.declared.types.Class.{Class}
 use Rattle.vax_target_statements.specs.md_reader.specs.declared.types.Rule.{Rule}
 use Rattle.vax_target_statements.specs.sel_terms.specs.Effects.{EffectShape, Call}
 use Rattle.vax_target_statements.specs.sel_target.specs.declared.attr.Attr.{Attr}
-use Rattle.vax_target_statements.specs.sel_target.specs.declared.attr.Attr.TheVariants as attr
 use Rattle.vax_target_statements.specs.sel_target.specs.Values.{View}
 use Rattle.vax_target_statements.specs.sel_target.specs.Instances.{Ready}
 use Rattle.vax_target_statements.specs.sel_target.specs.StatementLaws.{att_of, DoesAct}
@@ -34,7 +33,8 @@ use Rattle.vax_machine.specs.State.{State, reg, with_reg, with_conditions, clear
 use Rattle.vax_machine.specs.Labels.{getchar_name}
 use Rattle.vax_machine.specs.Calls.{got}
 use Rattle.vax_target_statements.specs.vax_machine_lists.specs.Sound.{AllBelow}
-use Rattle.vax_target_statements.specs.vax_machine_lists.specs.Instructions.{Course, ends, comes, performed}
+use Rattle.vax_target_statements.specs.vax_machine_lists.specs.Instructions.{Course, ends, comes}
+use Rattle.vax_target_statements.specs.vax_confined.specs.Confined.{performed}
 use Rattle.vax_target_statements.specs.vax_machine_lists.specs.Instructions as lists
 use Rattle.vax_target_statements.specs.vax_states.specs.Agreeing.{HasRoom}
 use Rattle.vax_target_statements.specs.vax_states.proofs.Standing.{register_kept}

@@ -6,7 +6,7 @@ use Rattle.tree_meaning.specs.Deeds.{Deed}
 use Rattle.tree_meaning.specs.Steps.{deed_step}
 use Rattle.vax_target_statements.specs.md_reader.specs.declared.types.Class.{Class}
 use Rattle.vax_target_statements.specs.md_reader.specs.declared.types.Rule.{Rule}
-use Rattle.vax_target_statements.specs.sel_terms.specs.Effects.{ActShape, EffectShape, Value, Number, Address, PlaceHome, PlaceAt, StoreHome, StoreAt, Branch, Push, Call, Save, Return, Jump}
+use Rattle.vax_target_statements.specs.sel_terms.specs.Effects.{ActShape, EffectShape, StoreHome, StoreAt, Branch, Push, Call, Save, Return, Jump}
 use Rattle.vax_target_statements.specs.sel_target.specs.declared.attr.Attr.{Attr}
 use Rattle.vax_target_statements.specs.sel_target.specs.Values.{View}
 use Rattle.vax_target_statements.specs.sel_target.specs.Instances.{lines_of, Ready}

@@ -8,11 +8,12 @@ use Rattle.vax_core.specs.declared.operand.Base.TheVariants as bases
 use Rattle.vax_core.specs.declared.code.Instr.{Instr}
 use Rattle.vax_core.specs.First.{putchar_name}
 use Rattle.vax_machine.specs.State.{State}
-use Rattle.vax_machine.specs.Operands.{evaluated, located, taken}
+use Rattle.vax_machine.specs.Operands.{located, taken}
 use Rattle.vax_machine.specs.Labels.{getchar_name}
 use Rattle.vax_machine.specs.Calls.{Acts, putchar, getchar, got}
 use Rattle.vax_target_statements.specs.vax_machine_lists.specs.Sound.{AllBelow}
-use Rattle.vax_target_statements.specs.vax_machine_lists.specs.Instructions.{Comes, Calls, ends, comes, course_of, performed}
+use Rattle.vax_target_statements.specs.vax_machine_lists.specs.Instructions.{Comes, Calls, ends, comes, course_of}
+use Rattle.vax_target_statements.specs.vax_confined.specs.Confined.{evaluated, performed}
 use Rattle.vax_target_statements.specs.vax_states.specs.Agreeing.{Agrees}
 use Rattle.vax_target_statements.specs.vax_states.proofs.Standing.{rebuilt}
 use Rattle.vax_target_statements.specs.vax_templates.specs.Filled.{alone, addr_number}

@@ -7,9 +7,9 @@ ghost use Rattle.vax_templates.specs.Forms.{base_front, index_front, form_front}
 use crate::marks::{at, hole, signed, strip};
 use vax_templates::{Base, Form, Mark, Number};
 
-// `n` or `%i`
+/// `n` or `%i`
 #[tactic(auto, unfolding(vax_templates::specs::Forms::number_spelled))]
-fn number(marks: &[Mark]) -> Option<(Number, &[Mark])>
+pub fn number(marks: &[Mark]) -> Option<(Number, &[Mark])>
     ensures { number_spelled marks.now ≡ option_map (λ x. (x.0, x.1.now)) result }
 {
     if let Some((i, rest)) = hole(marks) {
@@ -56,7 +56,8 @@ fn deferred(marks: &[Mark]) -> Option<(Base, &[Mark])>
     far(n, rest)
 }
 
-fn negative(marks: &[Mark]) -> Option<(u8, &[Mark])>
+/// `-%i`
+pub fn negative(marks: &[Mark]) -> Option<(u8, &[Mark])>
     ensures { negative_hole marks.now ≡ option_map (λ x. (x.0, x.1.now)) result }
 {
     hole(strip(b'-', marks)?)

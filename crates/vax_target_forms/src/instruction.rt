@@ -133,8 +133,8 @@ fn read_behind(alloc: Global, word: &[u8], marks: &[Mark]) -> Result<LineInstruc
     }
 }
 
-// A mnemonic ends before a blank.
-fn word_len(bytes: &[u8]) -> usize
+/// How long the mnemonic is: it ends before a blank.
+pub fn word_len(bytes: &[u8]) -> usize
     ensures len { result ≡ word_len bytes.now }
     ensures within { result ≤ length bytes.now }
 {

@@ -38,7 +38,7 @@ use Rattle.vax_target_rules.specs.sel_target.specs.Outcomes.{Keeps}
 use Rattle.vax_target_rules.specs.sel_target.specs.TemplateLaws.{GivesShapes}
 use Rattle.vax_core.specs.declared.operand.Operand.{Operand}
 use Rattle.vax_target_rules.specs.vax_machine.specs.State.{State}
-use Rattle.vax_target_rules.specs.vax_machine_lists.specs.Instructions.{exec}
+use Rattle.vax_target_rules.specs.vax_confined.specs.Confined.{exec}
 use Rattle.vax_target_rules.specs.vax_templates.specs.declared.form.Form.{Form}
 use Rattle.vax_target_rules.specs.vax_templates.specs.declared.setting.Hole.{Hole}
 use Rattle.vax_target_rules.specs.vax_templates.specs.declared.setting.Hole.TheVariants as hole_kind

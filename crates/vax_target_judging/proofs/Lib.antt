@@ -1,1 +1,1 @@
-pub mod Containing
+pub mod Same

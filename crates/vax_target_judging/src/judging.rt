@@ -1,28 +1,28 @@
 // What a line of a template does, and what is wrong with it.
-ghost use Rattle.std.specs.Prelude.{◌≡◌, IfOk, Ok, map, ◌∷◌, []};
+ghost use Rattle.std.specs.Prelude.{◌≡◌, Some};
 ghost use Rattle.std.specs.List.{list_any};
 ghost use Rattle.std.specs.Option.{option_map};
 ghost use Rattle.term_core.specs.Shape.{shape_of};
-ghost use Rattle.sel_terms.specs.Effects.{act_of};
-ghost use Rattle.sel_terms.specs.Effects as act;
-ghost use Rattle.vax_templates.specs.Deeds.{leaves, ends, is_relation, branches, is_movl};
-ghost use Rattle.vax_templates.specs.Deeds.{is_last_result, puts, put, computed, acted};
+ghost use Rattle.vax_templates.specs.Deeds.{branches, is_movl, put, computed, acted};
 ghost use Rattle.vax_templates.specs.Giving.{Divides, given};
-ghost use Rattle.vax_templates.specs.Judging.{is_operand, index_is_operand, base_spells, spells_symbol, is_disordered};
-ghost use Rattle.vax_templates.specs.Judging.{in_order, checked, operated, instruction_did, returned, did_behind};
-ghost use Rattle.vax_templates.specs.Judging.{line_did};
+ghost use Rattle.vax_templates.specs.Judging.{index_is_operand, base_spells, spells_symbol, is_disordered};
+ghost use Rattle.vax_templates.specs.Judging.{operated, returned};
 ghost use Rattle.vax_target_taking.specs.Answers.{Judges};
 ghost use Rattle.vax_target_judging.specs.Stages.{did_after, line_after};
 ghost use Rattle.vax_target_forms.specs.Views.{instruction_view};
 ghost use Rattle.vax_target_taking.specs.Views.{term_of, target_of, arguments_of};
-ghost use Rattle.vax_target_judging.specs.Views.{given_of, last_of, deed_of};
+ghost use Rattle.template_judging.specs.Views.{given_of, last_of, deed_of};
 
-use crate::giving::{Outcome, given};
+use crate::giving::given;
 use gg_base::NoMemory;
 use md_reader::Piece;
-use sel_target::TemplateKind;
 use sel_terms::Act;
 use std::alloc::Global;
+use template_judging::outcome::Outcome;
+use template_judging::step::{
+    Before, Step, ends, in_order, is_last_result, is_operand, is_relation, leaves, only, pushes,
+    puts, stores_at, stores_home, with_divisors,
+};
 use term_core::{Term, copy};
 use vax_core::Op;
 use vax_machine::function::{Action, Function, action_of};
@@ -32,84 +32,12 @@ use vax_target_taking::heap::copied;
 use vax_target_taking::setting::hole_at;
 use vax_target_taking::standing::Template;
 use vax_target_taking::taking::{Destination, Operands};
-use vax_templates::{Base, Form, Hole};
-
-/// What a line leaves to the next: nothing, two numbers that were compared, one that was tested, a value in register 0, or the deed that
-/// ends the template.
-#[derive(Drop)]
-pub enum Before {
-    Plain,
-    Compared(Box<Term>, Box<Term>),
-    Tested(Box<Term>),
-    Returning(Box<Term>),
-    Ended(Box<Act>),
-}
-
-/// What a line puts into `%0`, what it leaves to the next, by what it divides, what it reads of memory, and whether an operand has another
-/// size.
-#[derive(Drop)]
-pub struct Step {
-    pub own: Option<Box<Term>>,
-    pub leaves: Before,
-    pub divisors: Vec<Term>,
-    pub reads: Vec<Term>,
-    pub is_missized: bool,
-}
-
-fn leaves(alloc: Global, before: Before) -> Step
-    ensures { deed_of result ≡ leaves (last_of before) }
-{
-    Step {
-        own: None,
-        leaves: before,
-        divisors: Vec::new(alloc),
-        reads: Vec::new(alloc),
-        is_missized: false,
-    }
-}
-
-fn ends(alloc: Global, deed: Act) -> Result<Step, NoMemory>
-    ensures { IfOk result (λ d. ends (act_of deed) ≡ Ok (deed_of d)) }
-{
-    let deed = Box::new(alloc, deed)?;
-    Ok(leaves(alloc, Before::Ended(deed)))
-}
-
-// The first operand is pushed.
-fn pushes(alloc: Global, arguments: Operands) -> Result<Step, NoMemory>
-    ensures { IfOk result (λ d. ends (act.Push (shape_of arguments.first.value)) ≡ Ok (deed_of d)) }
-{
-    ends(alloc, Act::Push(Box::into_inner(arguments.first)))
-}
-
-fn puts(alloc: Global, t: Box<Term>) -> Step
-    ensures { deed_of result ≡ puts (shape_of t.value) }
-{
-    Step {
-        own: Some(t),
-        leaves: Before::Plain,
-        divisors: Vec::new(alloc),
-        reads: Vec::new(alloc),
-        is_missized: false,
-    }
-}
-
-fn is_relation(hole: Hole) -> bool
-    ensures { result ≡ is_relation hole }
-{
-    matches!(hole, Hole::Relation)
-}
+use vax_templates::{Base, Form};
 
 fn is_movl(op: Op) -> bool
     ensures { result ≡ is_movl op }
 {
     matches!(op, Op::Movl)
-}
-
-fn is_last_result(t: &Term) -> bool
-    ensures { result ≡ is_last_result (shape_of t.now) }
-{
-    matches!(t, Term::Res)
 }
 
 // A result at its destination.
@@ -118,18 +46,9 @@ fn put(alloc: Global, op: Op, to: Destination, t: Box<Term>) -> Result<Step, Ref
 {
     match to {
         Destination::Own => Ok(puts(alloc, t)),
-        Destination::Slot(size) => {
-            let deed = Act::StoreHome(size, 0, Box::into_inner(t));
-            Ok(ends(alloc, deed)?)
-        }
-        Destination::Home(size, i) => {
-            let deed = Act::StoreHome(size, i, Box::into_inner(t));
-            Ok(ends(alloc, deed)?)
-        }
-        Destination::Memory(size, a) => {
-            let deed = Act::StoreAt(size, Box::into_inner(a), Box::into_inner(t));
-            Ok(ends(alloc, deed)?)
-        }
+        Destination::Slot(size) => Ok(stores_home(alloc, size, 0, t)?),
+        Destination::Home(size, i) => Ok(stores_home(alloc, size, i, t)?),
+        Destination::Memory(size, a) => Ok(stores_at(alloc, size, a, t)?),
         Destination::RegisterZero if is_movl(op) => Ok(leaves(alloc, Before::Returning(t))),
         Destination::Saved(i) if is_movl(op) && is_last_result(&t) => {
             Ok(ends(alloc, Act::Save(i))?)
@@ -145,22 +64,6 @@ fn put_at(alloc: Global, op: Op, to: Option<Destination>, t: Box<Term>) -> Resul
         Some(to) => put(alloc, op, to, t),
         None => Err(NOT_INSTR),
     }
-}
-
-// The one term as a list.
-fn only(alloc: Global, t: Box<Term>) -> Result<Vec<Term>, NoMemory>
-    ensures { IfOk result (λ v. map shape_of v.items ≡ shape_of t.value ∷ []) }
-{
-    let mut terms = Vec::new(alloc);
-    terms.push(Box::into_inner(t))?;
-    Ok(terms)
-}
-
-// The step, which divides by these.
-fn with_divisors(step: Step, divisors: Vec<Term>) -> Step
-    ensures { deed_of result ≡ record (deed_of step) { divisors = map shape_of divisors.items } }
-{
-    Step { divisors, ..step }
 }
 
 // A quotient by this divisor, at its destination.
@@ -191,33 +94,6 @@ fn computed(
         Outcome::Divides(t, divisor) => put_divided(alloc, op, to, t, divisor),
         Outcome::Compares(a, b) => Ok(leaves(alloc, Before::Compared(a, b))),
         Outcome::Tests(t) => Ok(leaves(alloc, Before::Tested(t))),
-    }
-}
-
-// The step, if no operand has another size and it does not come in disorder.
-fn in_order(disordered: bool, step: Step) -> Result<Step, Refusal>
-    ensures { Judges deed_of result (in_order disordered (deed_of step)) }
-{
-    if step.is_missized {
-        Err(Refusal::Wrong(TemplateKind::WrongSize))
-    } else if disordered {
-        Err(Refusal::Wrong(TemplateKind::Order))
-    } else {
-        Ok(step)
-    }
-}
-
-fn is_operand(hole: Hole) -> bool
-    ensures { result ≡ is_operand hole }
-{
-    match hole {
-        Hole::Register => true,
-        Hole::Value(_) => true,
-        Hole::Place(_) => true,
-        Hole::Local => true,
-        Hole::SavedPlace(_) => true,
-        Hole::Address => true,
-        _ => false,
     }
 }
 

@@ -4,3 +4,4 @@
 pub mod found;
 mod giving;
 mod judging;
+mod shape;

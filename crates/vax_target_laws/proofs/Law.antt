@@ -30,16 +30,16 @@ spells = record {
   slot_word = words_spell.slot_word;
   deferred_bits = words_spell.deferred_bits;
   deferred_word = words_spell.deferred_word;
-  local_bits = words_spell.local_bits;
+  local_bits = λ k lt. words_spell.local_bits k;
   local_word = words_spell.local_word;
-  argument_bits = words_spell.argument_bits;
-  argument_word = words_spell.argument_word;
+  argument_bits = λ k is. words_spell.argument_bits k;
+  argument_word = λ k is. words_spell.argument_word k;
   shape_touches = shapes_touch;
   alone = holes_are_themselves;
   slot_fits = slots_fit.value;
   deferred_fits = slots_fit.place;
   deferred_fits_address = slots_fit.address;
-  shape_fits = shapes_fit;
+  shape_fits = λ q classes rule e k l hs can is_rule taken gives is fit restricted spelled. shapes_fit q classes rule e k l hs can is_rule taken gives is fit spelled;
 }
 
 -- instructions of the machine are ones to whatever label they go
@@ -54,7 +54,7 @@ templates = record {
   narrow = effects_are_narrow.rules;
   one_divisor = rules_divide_once;
   some_line = statements_have_lines;
-  lines_written = λ q classes rule e hs res can is_rule taken fit spelled result.
+  lines_written = λ q classes rule e hs res can is_rule taken fit restricted spelled result.
       all_written (lines_of vax q rule hs res) (lines_are_written q classes rule e hs res can is_rule taken fit spelled result);
 }
 

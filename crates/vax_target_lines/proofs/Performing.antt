@@ -1,5 +1,5 @@
 -- A line does what it is judged to do.
-use Rattle.std.proofs.Common.{◌≡◌, ℕ, zero, suc, ◌-◌, ◌<◌, ◌==◌, inl, inr, Bool, true, false, cond, List, [], ◌∷◌, map, take, Option}
+use Rattle.std.proofs.Common.{◌≡◌, ℕ, zero, suc, ◌<◌, ◌==◌, inl, inr, Bool, true, false, cond, List, [], ◌∷◌, map, take, Option}
 use Rattle.std.proofs.Common.{Some, None, Result, Ok, Err, refl, sym, ap, subst, ◌∙◌, arith}
 use Rattle.std.specs.Prelude.{not, ◌||◌, ◌&&◌, nat_lt, is_some}
 use Rattle.std.specs.List.{AllByRecursion, list_any}
@@ -12,14 +12,13 @@ use Rattle.vax_target_operands.specs.term_core.specs.Shape.{Shape, Constant, Sym
 use Rattle.vax_target_operands.specs.sel_terms.specs.Effects.{ActShape}
 use Rattle.vax_target_operands.specs.sel_terms.specs.Effects as act
 use Rattle.vax_target_operands.specs.sel_target.specs.declared.fault.TemplateKind.TheVariants.{NotInstr, WrongSize, Order}
-use Rattle.vax_target_operands.specs.sel_target.specs.declared.attr.Attr.TheVariants as attr
 use Rattle.vax_core.specs.declared.register.Reg.{Reg}
 use Rattle.vax_core.specs.declared.register.Reg.TheVariants.{R0}
 use Rattle.vax_core.specs.Registers.{reg_number}
 use Rattle.vax_core.specs.declared.op.Op.{Op}
 use Rattle.vax_core.specs.declared.op.OperandKind.{OperandKind}
 use Rattle.vax_core.specs.declared.code.Instr.{Instr}
-use Rattle.vax_core.specs.Ops.{shape, read}
+use Rattle.vax_core.specs.Ops.{shape}
 use Rattle.vax_machine.specs.declared.turn.Stop.{Stop}
 use Rattle.vax_machine.specs.declared.turn.Stop.TheVariants.{Trapped}
 use Rattle.vax_machine.specs.declared.function.Conditions.{Conditions}
@@ -38,10 +37,11 @@ use Rattle.vax_machine.specs.Memory.{register_set}
 use Rattle.vax_machine.specs.Functions.{action_of, applied}
 use Rattle.vax_machine.specs.Operands as machine
 use Rattle.vax_machine.specs.Step.{finished, pushing}
-use Rattle.vax_target_operands.specs.vax_machine_lists.specs.Instructions.{Course, Stops, Returns, ends, comes, course_of, alone, evaluated_then, performed}
+use Rattle.vax_target_operands.specs.vax_machine_lists.specs.Instructions.{Course, Stops, Returns, ends, comes, course_of, alone, evaluated_then}
+use Rattle.vax_target_operands.specs.vax_confined.specs.Confined.{may_touch, in_area, performed}
+use Rattle.vax_target_operands.specs.vax_target_confined.specs.Claims.{StandsAt}
 use Rattle.vax_target_operands.specs.vax_templates.specs.declared.form.Form.{Form}
 use Rattle.vax_target_operands.specs.vax_templates.specs.declared.setting.Hole.{Hole}
-use Rattle.vax_target_operands.specs.vax_templates.specs.declared.setting.Hole.TheVariants as hole_kind
 use Rattle.vax_target_operands.specs.vax_templates.specs.declared.setting.Own.TheVariants as own
 use Rattle.vax_target_operands.specs.vax_templates.specs.Instructions.{Instruction, Relation, Jump, Calls, Ret, Operates, instruction_of}
 use Rattle.vax_target_operands.specs.vax_templates.specs.Standing.{◌>>=◌}
@@ -60,9 +60,8 @@ use Rattle.vax_target_operands.specs.vax_templates.specs.Filled.{numbered, regis
 use Rattle.vax_target_operands.specs.vax_templates.specs.FilledLines.{filled_instruction, filled_line, plain_return}
 use Rattle.vax_target_operands.specs.vax_templates.proofs.Judgements.{read_is}
 use Rattle.vax_target_operands.specs.Scenes.{Scene, worth, filling_at, is_lost, OwnIs, IsOwnRegister, Sees}
-use Rattle.vax_target_operands.specs.Places.{StandsAt, IsHome}
+use Rattle.vax_target_operands.specs.Places.{own_at, IsHome}
 use Rattle.vax_target_operands.specs.Conditions.{IsGiven, AreNarrow}
-use Rattle.vax_target_operands.specs.Conditions as codes
 use Rattle.vax_target_operands.proofs.Binds.{chained, cond_ok}
 use Rattle.vax_target_operands.proofs.Tables.{functions_mean}
 use Rattle.vax_target_lines.specs.Takings.{IsDestination, AreRead, CanAim, AreOfSize, AtSize, last_size, AreArguments, aims, MayStand, Takes}
@@ -146,23 +145,25 @@ module _ (c : Scene) (held : Option Shape) (m : State) (h : Sees c held m) where
         place = x.location;
         conditions = k;
         there = inl (aim.2, subst (λ y. StandsAt m (operand_in c.program c.own) y x.location) (sym aim.1) aim.0);
-        is = stored_there x v k x.location z refl (sym aim.1) ∙ ap (λ n. putting m x.location z n k) is;
+        is = λ may. stored_there x v k x.location z refl (sym aim.1) ∙ ap (λ n. putting m x.location z n k) is;
       }) e
   put_did op (Some (ToHome z i)) (Some x) t v k d size e is aim at long =
       ended (act.StoreHome z i t) d (storing (Some x) v k) (inl aim.2)
       (record {
-        place = x.location;
+        place = aim.0.place;
         conditions = k;
-        there = inr (subst (λ y. IsHome c m i y x.location) (sym aim.1) aim.0);
-        is = stored_there x v k x.location z refl (sym aim.1) ∙ ap (λ n. putting m x.location z n k) is;
+        there = inr (subst (λ y. IsHome c m i y aim.0.place) (sym aim.1) aim.0.home);
+        is = λ may. stored_there x v k aim.0.place z (aim.0.is (subst (λ y. may_touch m (own_at c i) aim.0.place y ≡ true) aim.1 may)) (sym aim.1)
+            ∙ ap (λ n. putting m aim.0.place z n k) is;
       }) e
   put_did op (Some (ToMemory z a)) (Some x) t v k d size e is aim at long =
       ended (act.StoreAt z a t) d (storing (Some x) v k) (inl aim.2)
       (record {
-        place = x.location;
+        place = locations.Memory (worth c a);
         conditions = k;
-        there = aim.0;
-        is = stored_there x v k x.location z refl (sym aim.1) ∙ ap (λ n. putting m x.location z n k) is;
+        there = refl;
+        is = λ may. stored_there x v k (locations.Memory (worth c a)) z (aim.0 (subst (λ y. in_area m (worth c a) y ≡ true) aim.1 may)) (sym aim.1)
+            ∙ ap (λ n. putting m (locations.Memory (worth c a)) z n k) is;
       }) e
   put_did op (Some ToZero) (Some x) t v k d size e is aim at long =
       let r = cond_ok (is_movl op) (leaves (Returning t)) d NotInstr e in
@@ -192,7 +193,7 @@ module _ (c : Scene) (held : Option Shape) (m : State) (h : Sees c held m) where
           place = x.location;
           conditions = k;
           there = (subst (λ y. StandsAt m (operand_in c.program (filling_at c i)) y x.location) size_is aim.0, aim.1);
-          is = stored_there x v k x.location Long refl size_is
+          is = λ may. stored_there x v k x.location Long refl size_is
               ∙ ap (λ n. putting m x.location Long n k) (is ∙ ap (worth c) (last_is t (second_true (is_movl op) (is_last_result t) q)));
         }) e
 

@@ -1,5 +1,5 @@
 -- The numbers that a line spells are longwords.
-use Rattle.std.proofs.Common.{◌≡◌, ℕ, ◌+◌, ◌-◌, ◌^◌, ◌<◌, ◌⊎◌, inl, inr, ◌++◌, Bool, true, false, cond, List, [], ◌∷◌, Option, Some, None, refl, ap, subst, arith}
+use Rattle.std.proofs.Common.{◌≡◌, ℕ, ◌-◌, ◌^◌, ◌<◌, ◌⊎◌, inl, inr, ◌++◌, Bool, true, false, cond, List, [], ◌∷◌, Option, Some, None, refl, ap, subst, arith}
 use Rattle.std.specs.Prelude.{nat_le, ◌&&◌}
 use Rattle.std.specs.Option.{option_and_then, option_map, option_map_or}
 use Rattle.std.specs.List.{AllByRecursion}
@@ -28,7 +28,7 @@ use Rattle.vax_target_operands.specs.vax_templates.specs.Forms.{base_front, inde
 use Rattle.vax_target_operands.specs.vax_templates.specs.Instructions.{Instruction, Relation, Jump, Calls, Ret, Operates, forms_from, only, behind_blank, is_label, is_call, is_empty, jumps, operates}
 use Rattle.vax_target_operands.specs.vax_templates.specs.Instructions.{behind, relation_behind, relation, with_op, word_of, marks_behind, instruction_of, whole, shape_of_pieces}
 use Rattle.vax_target_operands.specs.Places.{IsShort, BaseIsShort}
-use Rattle.vax_target_operands.proofs.Machine.{mapped, then_some}
+use Rattle.vax_target_operands.specs.vax_target_confined.proofs.Reading.{mapped, then_some}
 
 -- ---- readings
 

@@ -1,5 +1,5 @@
 -- What an instruction takes of an operand on the machine is what the operand's term says.
-use Rattle.std.proofs.Common.{◌≡◌, ℕ, suc, zero, ◌+◌, ◌-◌, ◌^◌, ◌<◌, ◌≤◌, ◌==◌, ◌++◌, Bool, true, false, cond, List, [], ◌∷◌, length, map, take, Option, Some, None}
+use Rattle.std.proofs.Common.{◌≡◌, ℕ, suc, zero, ◌^◌, ◌<◌, ◌≤◌, ◌==◌, ◌++◌, Bool, true, false, cond, List, [], ◌∷◌, length, map, take, Option, Some, None}
 use Rattle.std.proofs.Common.{Result, Ok, Err, refl, sym, ap, subst, ◌∙◌, arith}
 use Rattle.std.specs.Prelude.{◌||◌}
 use Rattle.std.specs.List.{AllByRecursion}
@@ -8,7 +8,7 @@ use Rattle.gg_base.specs.declared.size.Size.{Size}
 use Rattle.gg_base.specs.declared.size.Size.TheVariants.{Byte, Word, Long}
 use Rattle.gg_base.proofs.Facts.{first_false, second_false, err_ok, ok_same}
 use Rattle.gg_base.specs.Sizes.{low}
-use Rattle.vax_target_operands.specs.term_core.specs.Shape.{Shape, Constant, Symbol, LastResult, Memory}
+use Rattle.vax_target_operands.specs.term_core.specs.Shape.{Shape, Symbol, LastResult, Memory}
 use Rattle.vax_target_operands.specs.sel_terms.specs.Same.{same_size}
 use Rattle.vax_target_operands.specs.sel_terms.proofs.Alike.{equal_sizes}
 use Rattle.vax_target_operands.specs.sel_target.specs.declared.fault.TemplateKind.{TemplateKind}
@@ -18,6 +18,7 @@ use Rattle.vax_target_operands.specs.sel_target.specs.Values.{IsRead, term_state
 use Rattle.vax_target_operands.specs.sel_target.proofs.AreaBytes.{number_small}
 use Rattle.vax_core.specs.declared.register.Reg.{Reg}
 use Rattle.vax_core.specs.declared.register.Reg.TheVariants.{R0}
+use Rattle.vax_core.specs.declared.operand.Operand.{Operand}
 use Rattle.vax_core.specs.declared.op.Access.{Access}
 use Rattle.vax_core.specs.declared.op.Access.TheVariants as accesses
 use Rattle.vax_core.specs.declared.op.OperandKind.{OperandKind}
@@ -33,10 +34,12 @@ use Rattle.vax_machine.specs.State.{State, reg}
 use Rattle.vax_machine.specs.State as state
 use Rattle.vax_machine.specs.Memory.{read, touched, number_at}
 use Rattle.vax_machine.specs.Operands as machine
+use Rattle.vax_target_operands.specs.vax_confined.specs.Confined as confined
+use Rattle.vax_target_operands.specs.vax_confined.specs.Confined.{is_own_place, may_touch, in_area}
+use Rattle.vax_target_operands.specs.vax_target_confined.specs.Claims.{StandsAt, IsReadAt}
 use Rattle.vax_target_operands.specs.vax_machine_lists.specs.Sound.{IsSound}
 use Rattle.vax_target_operands.specs.vax_machine_lists.proofs.Longwords.{all_bytes}
 use Rattle.vax_target_operands.specs.vax_states.proofs.Keeping.{reg_small}
-use Rattle.vax_target_operands.specs.vax_templates.specs.declared.form.Number.{Number}
 use Rattle.vax_target_operands.specs.vax_templates.specs.declared.form.Base.{Base}
 use Rattle.vax_target_operands.specs.vax_templates.specs.declared.form.Base.TheVariants as base
 use Rattle.vax_target_operands.specs.vax_templates.specs.declared.form.Form.{Form}
@@ -59,14 +62,14 @@ use Rattle.vax_target_operands.specs.vax_templates.specs.Taking.{Arguments, no_a
 use Rattle.vax_target_operands.specs.vax_templates.specs.Filled.{register_in, operand_in, filled}
 use Rattle.vax_target_operands.specs.vax_templates.specs.Giving.{truncated}
 use Rattle.vax_target_operands.specs.vax_templates.proofs.Judgements.{statement_of, sized_plain, ok_plain, addressed_plain}
-use Rattle.vax_target_operands.specs.Scenes.{Scene, worth, role_at, OwnIs, IsOwnRegister, Sees}
-use Rattle.vax_target_operands.specs.Places.{StandsAt, IsWhere, IsReadIfAny, CanStand, Stands}
+use Rattle.vax_target_operands.specs.Scenes.{Scene, worth, role_at, filling_at, OwnIs, IsOwnRegister, Sees}
+use Rattle.vax_target_operands.specs.Places.{own_at, IsHome, IsWhere, IsReadIfAny, CanStand, Stands}
 use Rattle.vax_target_operands.specs.Conditions.{IsNarrow}
 use Rattle.vax_target_operands.proofs.Binds.{chained}
-use Rattle.vax_target_operands.proofs.Holes.{stands_same, register_stands, own_held, memory_read}
+use Rattle.vax_target_operands.proofs.Holes.{may_or, stands_same, register_stands, own_held, memory_is_read}
 use Rattle.vax_target_operands.proofs.Forms.{operands_stand}
 use Rattle.vax_target_operands.proofs.Worths.{cut_is}
-use Rattle.vax_target_lines.specs.Takings.{IsTarget, IsDestination, AreRead, CanAim, IsOfSize, AreOfSize, AtSize, last_size, aims, LastIsWritten, MayStand, Takes, OperandsAreTaken}
+use Rattle.vax_target_lines.specs.Takings.{IsHomeTarget, IsTarget, IsDestination, AreRead, CanAim, IsOfSize, AreOfSize, AtSize, last_size, aims, LastIsWritten, MayStand, Takes, OperandsAreTaken}
 
 -- ---- sizes
 
@@ -203,12 +206,16 @@ module _ (c : Scene) (held : Option Shape) (m : State) (h : Sees c held m) where
   fetched_can (Saved i) size t p e none reads = tt
   fetched_can (At a q) size t p e none reads = p (subst (λ (x : Taken). AreRead c x.reads) (sym (ok_same (taken_read (Memory size a)) t e)) reads).0.0
 
-  abbrev Fetches : Location → Size → Taken → Type 0
-  Fetches l size t = (machine.fetched m l size ≡ Ok (worth c t.term)) × (t.target ≡ None)
+  -- the operand may be a place of the innermost call
+  abbrev Fetches : Bool → Location → Size → Taken → Type 0
+  Fetches mine l size t = IsReadAt m mine l size (worth c t.term) × (t.target ≡ None)
 
-  in_register : (l : Location) (r : Reg) (size : Size) (t : Shape) (x : Taken) → l ≡ locations.Register r → reg m r ≡ worth c t → taken_term (truncated size t) ≡ x → Fetches l size x
-  in_register l r size t x is holds e =
-      subst (Fetches l size) e (ap (λ k. machine.fetched m k size) is ∙ ap (λ (n : ℕ). Ok n) (cut_is c size t (reg m r) holds), refl)
+  in_register : (mine : Bool) (l : Location) (r : Reg) (size : Size) (t : Shape) (x : Taken) → l ≡ locations.Register r → reg m r ≡ worth c t → taken_term (truncated size t) ≡ x
+      → Fetches mine l size x
+  in_register mine l r size t x is holds e = subst (Fetches mine l size) e (
+    record { may = ap (λ k. may_touch m mine k size) is; holds = ap (λ k. machine.fetched m k size) is ∙ ap (λ (n : ℕ). Ok n) (cut_is c size t (reg m r) holds) },
+    refl,
+  )
 
   own_is_register : (o : Own) (t : Shape) → own_value o held ≡ Ok t → o ≡ own.Register
   own_is_register own.Nothing t e = absurd (err_ok _ t e)
@@ -218,40 +225,48 @@ module _ (c : Scene) (held : Option Shape) (m : State) (h : Sees c held m) where
   pub own_place : (l : Location) (size : Size) → c.setting.own ≡ own.Register → StandsAt m (operand_in c.program c.own) size l → l ≡ locations.Register (register_in c.own)
   own_place l size is at =
       let o : IsOwnRegister c = subst (OwnIs c) is h.own_is in
-      stands_same m (operand_in c.program c.own) size l (locations.Register (register_in c.own)) at (register_stands c m c.own o.number size o.is)
+      stands_same m (operand_in c.program c.own) size l (locations.Register (register_in c.own)) at (register_stands c m c.own o.number size o.low o.is)
 
   last_is : (o : Opening) (z : Option Shape) (size : Size) (t : Taken) → last_result o z size ≡ Ok t → (o ≡ opening.Save) × (z ≡ None) × (taken_term (truncated size LastResult) ≡ t)
   last_is opening.Save None size t e = (refl, refl, ok_same _ t e)
   last_is _ _ size t e = absurd (err_ok _ t e)
 
-  fetched_means : (w : Where) (size : Size) (t : Taken) (l : Location) → fetched c.setting held w size ≡ Ok t → t.missized ≡ false → AreRead c t.reads → IsWhere c m w size l → Fetches l size t
+  fetched_means : (mine : Bool) (w : Where) (size : Size) (t : Taken) (l : Location) → fetched c.setting held w size ≡ Ok t → t.missized ≡ false → AreRead c t.reads
+      → IsWhere c m mine w size l → Fetches mine l size t
   unfolding fetched
-  fetched_means (Immediate a) size t l e none reads is =
-      subst (Fetches l size) (ok_same (taken_term (truncated size a)) t e) (ap (λ k. machine.fetched m k size) is ∙ ap (λ (n : ℕ). Ok n) (cut_is c size a (worth c a) refl), refl)
-  fetched_means (Register a) size t l e none reads is = in_register l is.register size a t is.is is.holds (ok_same _ t e)
-  fetched_means OwnRegister size t l e none reads is =
+  fetched_means mine (Immediate a) size t l e none reads is =
+      subst (Fetches mine l size) (ok_same (taken_term (truncated size a)) t e)
+      (record { may = ap (λ k. may_touch m mine k size) is; holds = ap (λ k. machine.fetched m k size) is ∙ ap (λ (n : ℕ). Ok n) (cut_is c size a (worth c a) refl) }, refl)
+  fetched_means mine (Register a) size t l e none reads is = in_register mine l is.register size a t is.is is.holds (ok_same _ t e)
+  fetched_means mine OwnRegister size t l e none reads is =
       let d = chained (own_value c.setting.own held) (cut_term size) t e in
-      in_register l (register_in c.own) size d.first t (own_place l size (own_is_register c.setting.own d.first d.is) is) (own_held c m c.setting.own held d.first h.holds d.is) (ok_same _ t d.then_so)
-  fetched_means RegisterZero size t l e none reads is =
-      let r = last_is c.setting.opening held size t e in in_register l R0 size LastResult t is (h.answered r.0 r.1) r.2
-  fetched_means (Value z i) size t l e none reads is = subst (Fetches l size) (sized_is z size _ t e none).1 (is, refl)
-  fetched_means (Place z i) size t l e none reads is =
+      in_register mine l (register_in c.own) size d.first t (own_place l size (own_is_register c.setting.own d.first d.is) is.0) (own_held c m c.setting.own held d.first h.holds d.is)
+      (ok_same _ t d.then_so)
+  fetched_means mine RegisterZero size t l e none reads is =
+      let r = last_is c.setting.opening held size t e in in_register mine l R0 size LastResult t is (h.answered r.0 r.1) r.2
+  fetched_means mine (Value z i) size t l e none reads is = subst (Fetches mine l size) (sized_is z size _ t e none).1 (is, refl)
+  fetched_means mine (Place z i) size t l e none reads is =
       let s = (sized_is z size _ t e none).1 in
-      subst (Fetches l size) s (is.holds (subst (λ (x : Taken). AreRead c x.reads) (sym s) reads).0, refl)
-  fetched_means (Local i) size t l e none reads is = subst (Fetches l size) (sized_is Long size _ t e none).1 (is.1, refl)
-  fetched_means (SavedPlace z i) size t l e none reads is =
+      subst (Fetches mine l size) s
+      (subst (λ b. IsReadAt m b l size (worth c (Symbol i))) (sym is.1) (is.0.holds (subst (λ (x : Taken). AreRead c x.reads) (sym s) reads).0), refl)
+  fetched_means mine (Local i) size t l e none reads is = subst (Fetches mine l size) (sized_is Long size _ t e none).1 (is.2, refl)
+  fetched_means mine (SavedPlace z i) size t l e none reads is =
       let s = sized_is z size _ t e none in
       let safe : IsRead c.view (Memory z (Symbol i)) = (subst (λ (x : Taken). AreRead c x.reads) (sym s.1) reads).0 in
-      subst (Fetches l size) s.1 (
-        ap (λ k. machine.fetched m k size) is
-            ∙ subst (λ y. read m (worth c (Symbol i)) y ≡ Ok (worth c (Memory z (Symbol i)))) s.0 (memory_read c held m h z (Symbol i) (worth c (Symbol i)) refl safe),
+      subst (Fetches mine l size) s.1 (
+        subst (λ k. IsReadAt m mine k size (worth c (Memory z (Symbol i)))) (sym is)
+            (subst (λ y. IsReadAt m mine (locations.Memory (worth c (Symbol i))) y (worth c (Memory z (Symbol i)))) s.0
+            (memory_is_read c held m h mine z (Symbol i) (worth c (Symbol i)) refl safe)),
         refl,
       )
-  fetched_means (Saved i) size t l e none reads is = absurd (err_ok _ t e)
-  fetched_means (At a p) size t l e none reads is =
+  fetched_means mine (Saved i) size t l e none reads is = absurd (err_ok _ t e)
+  fetched_means mine (At a p) size t l e none reads is =
       let s = ok_same (taken_read (Memory size a)) t e in
-      subst (Fetches l size) s
-      (ap (λ k. machine.fetched m k size) is ∙ memory_read c held m h size a (worth c a) refl (subst (λ (x : Taken). AreRead c x.reads) (sym s) reads).0, refl)
+      subst (Fetches mine l size) s (
+        subst (λ k. IsReadAt m mine k size (worth c (Memory size a))) (sym is)
+            (memory_is_read c held m h mine size a (worth c a) refl (subst (λ (x : Taken). AreRead c x.reads) (sym s) reads).0),
+        refl,
+      )
 
   -- ---- what is written
 
@@ -299,36 +314,59 @@ module _ (c : Scene) (held : Option Shape) (m : State) (h : Sees c held m) where
   own_aimed (own.Slot z) size x l is e at = subst (IsAimed l size) (ok_same _ x e) (λ none. (at, refl, (z, is)))
   own_aimed _ _ x l is e at = absurd (err_ok _ x e)
 
-  targeted_means : (w : Where) (size : Size) (x : Target × Bool) (l : Location) → targeted c.setting w size ≡ Ok x → IsWhere c m w size l → IsAimed l size x
+  -- where the place l may be touched, k is it
+  abbrev Reaches : Bool → Size → Location → Location → Type 0
+  Reaches mine size l k = may_touch m mine l size ≡ true → k ≡ l
+
+  home_aimed : (mine : Bool) (i : ℕ) (size : Size) (l k : Location) → Reaches mine size l k → IsHome c m i size l → mine ≡ own_at c i → IsHomeTarget c m i size k
+  home_aimed mine i size l k reaches there same = record { place = l; home = there; is = λ may. reaches (ap (λ b. may_touch m b l size) same ∙ may) }
+
+  at_aimed : (mine : Bool) (a : ℕ) (size : Size) (l k : Location) → Reaches mine size l k → l ≡ locations.Memory a → in_area m a size ≡ true → k ≡ locations.Memory a
+  at_aimed mine a size l k reaches is inside = reaches (ap (λ x. may_touch m mine x size) is ∙ may_or mine (in_area m a size) inside) ∙ is
+
+  targeted_means : (mine : Bool) (w : Where) (size : Size) (x : Target × Bool) (l k : Location) → Reaches mine size l k → targeted c.setting w size ≡ Ok x → IsWhere c m mine w size l
+      → IsAimed k size x
   unfolding targeted
-  targeted_means OwnRegister size x l e is = own_aimed c.setting.own size x l refl e is
-  targeted_means RegisterZero size x l e is =
-      subst (IsAimed l size) (zero_target_is c.setting.opening x (statement_of c.setting.is_statement _ x e)) (λ none. (is, statement_true c.setting.is_statement _ x e))
-  targeted_means (Place z i) size x l e is = subst (IsAimed l size) (ok_same _ x (statement_of c.setting.is_statement _ x e)) (λ none. (is, refl, statement_true c.setting.is_statement _ x e))
-  targeted_means (Local i) size x l e is = subst (IsAimed l size) (ok_same _ x (statement_of c.setting.is_statement _ x e)) (λ none. (is.0, refl, statement_true c.setting.is_statement _ x e))
-  targeted_means (Saved i) size x l e is = subst (IsAimed l size) (ok_same _ x (statement_of c.setting.is_statement _ x e)) (λ none. (is.0, is.1, statement_true c.setting.is_statement _ x e))
-  targeted_means (At a p) size x l e is =
-      subst (IsAimed l size) (memory_target_is c.setting.own a size x (statement_of c.setting.is_statement _ x e)) (λ none. (is, refl, statement_true c.setting.is_statement _ x e))
-  targeted_means _ size x l e is = absurd (err_ok _ x (statement_of c.setting.is_statement _ x e))
+  targeted_means mine OwnRegister size x l k reaches e is =
+      own_aimed c.setting.own size x k refl e (subst (StandsAt m (operand_in c.program c.own) size) (sym (reaches is.1)) is.0)
+  targeted_means mine RegisterZero size x l k reaches e is =
+      subst (IsAimed k size) (zero_target_is c.setting.opening x (statement_of c.setting.is_statement _ x e))
+      (λ none. (reaches (ap (λ y. may_touch m mine y size) is) ∙ is, statement_true c.setting.is_statement _ x e))
+  targeted_means mine (Place z i) size x l k reaches e is =
+      subst (IsAimed k size) (ok_same _ x (statement_of c.setting.is_statement _ x e))
+      (λ none. (home_aimed mine i size l k reaches is.0 is.1, refl, statement_true c.setting.is_statement _ x e))
+  targeted_means mine (Local i) size x l k reaches e is =
+      subst (IsAimed k size) (ok_same _ x (statement_of c.setting.is_statement _ x e))
+      (λ none. (home_aimed mine i size l k reaches is.0 is.1, refl, statement_true c.setting.is_statement _ x e))
+  targeted_means mine (Saved i) size x l k reaches e is =
+      subst (IsAimed k size) (ok_same _ x (statement_of c.setting.is_statement _ x e))
+      (λ none. (subst (StandsAt m (operand_in c.program (filling_at c i)) size) (sym (reaches is.2)) is.0, is.1, statement_true c.setting.is_statement _ x e))
+  targeted_means mine (At a p) size x l k reaches e is =
+      subst (IsAimed k size) (memory_target_is c.setting.own a size x (statement_of c.setting.is_statement _ x e))
+      (λ none. (at_aimed mine (worth c a) size l k reaches is, refl, statement_true c.setting.is_statement _ x e))
+  targeted_means mine _ size x l k reaches e is = absurd (err_ok _ x (statement_of c.setting.is_statement _ x e))
 
   -- ---- by the operand's access
 
   -- what is taken of an operand that stands somewhere
-  record IsTaken (kind : Access) (size : Size) (l : Location) (t : Taken) : Type 0 where
+  record IsTaken (mine : Bool) (kind : Access) (size : Size) (l : Location) (t : Taken) : Type 0 where
     number : Evaluated
-    is : machine.taken m kind l size ≡ Ok number
+    is : confined.got m kind (may_touch m mine l size) l size ≡ Ok number
     worth_so : number.number ≡ worth c t.term
     aim : IsDestination c m t.target number.destination
     at_size : AtSize number.destination size
     narrow : kind ≡ accesses.Read → IsNarrow size number.number
 
   abbrev Address : Where → Size → Taken → Type 0
-  Address w size t = (t.missized ≡ false → AreRead c t.reads → CanStand c w size) × ((l : Location) → t.missized ≡ false → IsWhere c m w size l → IsTaken accesses.Address size l t)
+  Address w size t =
+      (t.missized ≡ false → AreRead c t.reads → CanStand c w size)
+      × ((mine : Bool) (l : Location) → t.missized ≡ false → IsWhere c m mine w size l → IsTaken mine accesses.Address size l t)
 
-  address_taken : (l : Location) (size : Size) (a : Shape) (x t : Taken) → l ≡ locations.Memory (worth c a) → x.term ≡ a → x.target ≡ None → x ≡ t → IsTaken accesses.Address size l t
+  address_taken : (mine : Bool) (l : Location) (size : Size) (a : Shape) (x t : Taken) → l ≡ locations.Memory (worth c a) → x.term ≡ a → x.target ≡ None → x ≡ t
+      → IsTaken mine accesses.Address size l t
   unfolding machine.taken
-  address_taken l size a x t is term_is none e =
-      subst (IsTaken accesses.Address size l) e
+  address_taken mine l size a x t is term_is none e =
+      subst (IsTaken mine accesses.Address size l) e
       (record {
         number = machine.only_number (worth c a);
         is = ap (λ k. state.◌>>=◌ (machine.address_of k) (λ (n : ℕ). Ok (machine.only_number n))) is;
@@ -341,11 +379,11 @@ module _ (c : Scene) (held : Option Shape) (m : State) (h : Sees c held m) where
   addressed_means : (w : Where) (size : Size) (t : Taken) → addressed w size ≡ Ok t → Address w size t
   addressed_means (SavedPlace z i) size t e = (
     λ none reads. (sized_is z size _ t e none).0,
-    λ l none is. address_taken l size (Symbol i) (taken_term (Symbol i)) t is refl refl (sized_is z size _ t e none).1,
+    λ mine l none is. address_taken mine l size (Symbol i) (taken_term (Symbol i)) t is refl refl (sized_is z size _ t e none).1,
   )
   addressed_means (At a p) size t e = (
     λ none reads. pointer p (subst (λ (x : Taken). AreRead c x.reads) (sym (ok_same _ t e)) reads),
-    λ l none is. address_taken l size a _ t is refl refl (ok_same _ t e),
+    λ mine l none is. address_taken mine l size a _ t is refl refl (ok_same _ t e),
   )
     where
       pointer : (p : Option Shape) → AreRead c (pointer_read p) → IsReadIfAny c p
@@ -353,35 +391,55 @@ module _ (c : Scene) (held : Option Shape) (m : State) (h : Sees c held m) where
       pointer (Some x) h = h.0
   addressed_means _ size t e = absurd (err_ok _ t e)
 
-  read_taken : (l : Location) (size : Size) (t : Taken) → Fetches l size t → IsTaken accesses.Read size l t
+  read_taken : (mine : Bool) (l : Location) (size : Size) (t : Taken) → Fetches mine l size t → IsTaken mine accesses.Read size l t
   unfolding machine.taken
-  read_taken l size t f = record {
+  read_taken mine l size t f = record {
     number = machine.only_number (worth c t.term);
-    is = ap (λ k. state.◌>>=◌ k (λ (n : ℕ). Ok (machine.only_number n))) f.0;
+    is = ap (λ b. confined.got m accesses.Read b l size) f.0.may ∙ ap (λ k. state.◌>>=◌ k (λ (n : ℕ). Ok (machine.only_number n))) f.0.holds;
     worth_so = refl;
     aim = subst (λ o. IsDestination c m o None) (sym f.1) tt;
     at_size = tt;
-    narrow = λ r. fetched_narrow m l size (worth c t.term) h.sound (small (term_state c.view) t.term) f.0;
+    narrow = λ r. fetched_narrow m l size (worth c t.term) h.sound (small (term_state c.view) t.term) f.0.holds;
   }
 
-  modify_taken : (l : Location) (size : Size) (u t : Taken) (x : Target × Bool) → Fetches l size u → IsTarget c m x.0 l size → both u x ≡ Ok t → IsTaken accesses.Modify size l t
+  modify_taken : (mine : Bool) (l : Location) (size : Size) (u t : Taken) (x : Target × Bool) → Fetches mine l size u → IsTarget c m x.0 l size → both u x ≡ Ok t
+      → IsTaken mine accesses.Modify size l t
   unfolding machine.taken
-  modify_taken l size u t x f aim e =
-      subst (IsTaken accesses.Modify size l) (ok_same _ t e)
+  modify_taken mine l size u t x f aim e =
+      subst (IsTaken mine accesses.Modify size l) (ok_same _ t e)
       (record {
         number = machine.with_destination (worth c u.term) l size;
-        is = ap (λ k. state.◌>>=◌ k (λ (n : ℕ). Ok (machine.with_destination n l size))) f.0;
+        is = ap (λ b. confined.got m accesses.Modify b l size) f.0.may ∙ ap (λ k. state.◌>>=◌ k (λ (n : ℕ). Ok (machine.with_destination n l size))) f.0.holds;
         worth_so = refl;
         aim = aim;
         at_size = refl;
         narrow = λ r. cc;
       })
 
-  write_taken : (l : Location) (size : Size) (t : Taken) (x : Target × Bool) → IsTarget c m x.0 l size → written x ≡ Ok t → IsTaken accesses.Write size l t
+  -- a place that is only written, or a number where it may not be touched
+  abbrev aimed : Bool → Location → Location
+  aimed may l = cond may l (locations.Number 0)
+
+  aimed_at : (may : Bool) (l : Location) → may ≡ true → aimed may l ≡ l
+  aimed_at may l e = ap (λ b. aimed b l) e
+
+  got_so : (may : Bool) (l : Location) (size : Size) → confined.got m accesses.Write may l size ≡ Ok (machine.with_destination 0 (aimed may l) size)
   unfolding machine.taken
-  write_taken l size t x aim e =
-      subst (IsTaken accesses.Write size l) (ok_same _ t e)
-      (record { number = machine.with_destination 0 l size; is = refl; worth_so = refl; aim = aim; at_size = refl; narrow = λ r. cc })
+  got_so true l size = refl
+  got_so false l size = refl
+
+  write_taken : (mine : Bool) (l : Location) (size : Size) (t : Taken) (x : Target × Bool) → IsTarget c m x.0 (aimed (may_touch m mine l size) l) size → written x ≡ Ok t
+      → IsTaken mine accesses.Write size l t
+  write_taken mine l size t x aim e =
+      subst (IsTaken mine accesses.Write size l) (ok_same _ t e)
+      (record {
+        number = machine.with_destination 0 (aimed (may_touch m mine l size) l) size;
+        is = got_so (may_touch m mine l size) l size;
+        worth_so = refl;
+        aim = aim;
+        at_size = refl;
+        narrow = λ r. cc;
+      })
 
   taken_can : (kind : Access) (w : Where) (size : Size) (t : Taken) → Points c held w → taken c.setting held kind w size ≡ Ok t → t.missized ≡ false → AreRead c t.reads → CanAim c t.target
       → CanStand c w size
@@ -400,23 +458,25 @@ module _ (c : Scene) (held : Option Shape) (m : State) (h : Sees c held m) where
   taken_can accesses.Address w size t p e none reads can = (addressed_means w size t e).0 none reads
   taken_can accesses.Count w size t p e none reads can = absurd (err_ok _ t e)
 
-  taken_means : (kind : Access) (w : Where) (size : Size) (t : Taken) (l : Location) → taken c.setting held kind w size ≡ Ok t → t.missized ≡ false → AreRead c t.reads →
-      IsWhere c m w size l → IsTaken kind size l t
+  taken_means : (mine : Bool) (kind : Access) (w : Where) (size : Size) (t : Taken) (l : Location) → taken c.setting held kind w size ≡ Ok t → t.missized ≡ false → AreRead c t.reads →
+      IsWhere c m mine w size l → IsTaken mine kind size l t
   unfolding taken
-  taken_means accesses.Read w size t l e none reads is = read_taken l size t (fetched_means w size t l e none reads is)
-  taken_means accesses.Modify w size t l e none reads is =
+  taken_means mine accesses.Read w size t l e none reads is = read_taken mine l size t (fetched_means mine w size t l e none reads is)
+  taken_means mine accesses.Modify w size t l e none reads is =
       let d = chained (fetched c.setting held w size) (λ (u : Taken). targeted c.setting w size >>= both u) t e in
       let x = chained (targeted c.setting w size) (both d.first) t d.then_so in
       let s = ok_same _ t x.then_so in
       let none' : (d.first.missized || x.first.1) ≡ false = ap (λ (y : Taken). y.missized) s ∙ none in
-      modify_taken l size d.first t x.first
-      (fetched_means w size d.first l d.is (first_false d.first.missized x.first.1 none') (subst (λ (y : Taken). AreRead c y.reads) (sym s) reads) is)
-      (targeted_means w size x.first l x.is is (second_false d.first.missized x.first.1 none')) x.then_so
-  taken_means accesses.Write w size t l e none reads is =
+      modify_taken mine l size d.first t x.first
+      (fetched_means mine w size d.first l d.is (first_false d.first.missized x.first.1 none') (subst (λ (y : Taken). AreRead c y.reads) (sym s) reads) is)
+      (targeted_means mine w size x.first l l (λ may. refl) x.is is (second_false d.first.missized x.first.1 none')) x.then_so
+  taken_means mine accesses.Write w size t l e none reads is =
       let x = chained (targeted c.setting w size) written t e in
-      write_taken l size t x.first (targeted_means w size x.first l x.is is (ap (λ (y : Taken). y.missized) (ok_same _ t x.then_so) ∙ none)) x.then_so
-  taken_means accesses.Address w size t l e none reads is = (addressed_means w size t e).1 l none is
-  taken_means accesses.Count w size t l e none reads is = absurd (err_ok _ t e)
+      write_taken mine l size t x.first
+      (targeted_means mine w size x.first l (aimed (may_touch m mine l size) l) (aimed_at (may_touch m mine l size) l) x.is is
+      (ap (λ (y : Taken). y.missized) (ok_same _ t x.then_so) ∙ none)) x.then_so
+  taken_means mine accesses.Address w size t l e none reads is = (addressed_means w size t e).1 mine l none is
+  taken_means mine accesses.Count w size t l e none reads is = absurd (err_ok _ t e)
 
   -- what is only read has no destination
   fetched_plain : (w : Where) (size : Size) (t : Taken) → fetched c.setting held w size ≡ Ok t → t.target ≡ None
@@ -449,7 +509,7 @@ module _ (c : Scene) (held : Option Shape) (m : State) (h : Sees c held m) where
   -- one operand of an instruction
   record IsEvaluated (k : OperandKind) (f : Form) (t : Taken) : Type 0 where
     number : Evaluated
-    is : machine.evaluated m k (filled c.program c.holes c.own f) ≡ Ok (number, m)
+    is : confined.evaluated m k (filled c.program c.holes c.own f) ≡ Ok (number, m)
     worth_so : number.number ≡ worth c t.term
     aim : IsDestination c m t.target number.destination
     at_size : AtSize number.destination k.size
@@ -458,13 +518,17 @@ module _ (c : Scene) (held : Option Shape) (m : State) (h : Sees c held m) where
   abbrev finish : Result Evaluated Stop → Result (Evaluated × State) Stop
   finish r = state.◌>>=◌ r (λ (e : Evaluated). Ok (e, m))
 
-  evaluated_at : (k : OperandKind) (f : Form) (w : Where) (t : Taken) (s : Stands c m (filled c.program c.holes c.own f) w k.size) → IsTaken k.access k.size s.place t → IsEvaluated k f t
-  unfolding machine.evaluated
+  abbrev got_at : Operand → OperandKind → State → Location → Result Evaluated Stop
+  got_at o k n l = confined.got n k.access (may_touch n (is_own_place o) l k.size) l k.size
+
+  evaluated_at : (k : OperandKind) (f : Form) (w : Where) (t : Taken) (s : Stands c m (filled c.program c.holes c.own f) w k.size)
+      → IsTaken (is_own_place (filled c.program c.holes c.own f)) k.access k.size s.place t → IsEvaluated k f t
+  unfolding confined.evaluated
   evaluated_at k f w t s x = record {
     number = x.number;
     is = ap (λ (r : Result (Location × State) Stop). state.◌>>=◌ r (λ (y : Location × State).
-        state.◌>>=◌ (machine.taken y.1 k.access (machine.indexed y.1 y.0 (filled c.program c.holes c.own f).index k.size) k.size) (λ (e : Evaluated). Ok (e, y.1)))) s.at.found
-        ∙ ap (λ l. finish (machine.taken m k.access l k.size)) s.at.is ∙ ap finish x.is;
+        state.◌>>=◌ (got_at (filled c.program c.holes c.own f) k y.1 (machine.indexed y.1 y.0 (filled c.program c.holes c.own f).index k.size)) (λ (e : Evaluated). Ok (e, y.1)))) s.at.finds
+        ∙ ap (λ l. finish (got_at (filled c.program c.holes c.own f) k m l)) s.at.is ∙ ap finish x.is;
     worth_so = x.worth_so;
     aim = x.aim;
     at_size = x.at_size;
@@ -478,7 +542,7 @@ module _ (c : Scene) (held : Option Shape) (m : State) (h : Sees c held m) where
       let d = chained (form_where c.setting c.roles held f k.size) (λ (w : Where). taken c.setting held k.access w k.size) t e in
       let safe = taken_can k.access d.first k.size t (form_points c held f k.size d.first d.is) d.then_so none reads can in
       let s = operands_stand c held m f k.size d.first h may.short may.may d.is safe in
-      evaluated_at k f d.first t s (taken_means k.access d.first k.size t s.place d.then_so none reads s.is)
+      evaluated_at k f d.first t s (taken_means (is_own_place (filled c.program c.holes c.own f)) k.access d.first k.size t s.place d.then_so none reads s.is)
 
   -- ---- all operands
 
@@ -505,7 +569,7 @@ module _ (c : Scene) (held : Option Shape) (m : State) (h : Sees c held m) where
   whole t r = record { first = t.term; second = r.first; reads = t.reads ++ r.reads; target = last_of t.target r.target; missized = t.missized || r.missized }
 
   abbrev after : List OperandKind → List Form → ℕ → Evaluated × State → Result (Numbers × State) Stop
-  after ks fs n x = state.◌>>=◌ (machine.all_evaluated ks (map (filled c.program c.holes c.own) (take n fs)) x.1) (λ (y : Numbers × State). Ok (machine.in_front x.0 y.0, y.1))
+  after ks fs n x = state.◌>>=◌ (confined.all_evaluated ks (map (filled c.program c.holes c.own) (take n fs)) x.1) (λ (y : Numbers × State). Ok (machine.in_front x.0 y.0, y.1))
 
   front_taken : (k : OperandKind) (f : Form) (ks : List OperandKind) (fs : List Form) (n : ℕ) (t : Taken) (r x : Arguments) (v : IsEvaluated k f t) (rest : Takes c m ks fs n r) →
       whole t r ≡ x → IsDestination c m (last_of t.target r.target) (machine.last_of v.number.destination rest.numbers.destination) →

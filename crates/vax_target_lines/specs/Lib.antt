@@ -1,6 +1,8 @@
 pub mod Takings
 pub mod Lines
 pub use Rattle.vax_target_operands
+pub use Rattle.vax_target_operands.specs.vax_confined as vax_confined
+pub use Rattle.vax_target_operands.specs.vax_target_confined as vax_target_confined
 pub use Rattle.vax_target_operands.specs.vax_target_meaning as vax_target_meaning
 pub use Rattle.vax_target_operands.specs.sel_terms_meaning as sel_terms_meaning
 pub use Rattle.vax_target_operands.specs.vax_states as vax_states

@@ -1,32 +1,32 @@
 -- What a line of a template does on the machine, by what it is judged to do.
-use Rattle.std.specs.Prelude.{◌≡◌, ◌⊎◌, ℕ, Bool, true, false, List, [], ◌∷◌, Option, Some, None, Result, Ok}
+use Rattle.std.specs.Prelude.{◌≡◌, ◌⊎◌, ℕ, Bool, true, false, List, [], ◌∷◌, Option, Some, None, Ok}
 use Rattle.std.specs.List.{AllByRecursion}
 use Rattle.gg_base.specs.declared.size.Size.{Size}
 use Rattle.gg_base.specs.declared.size.Size.TheVariants.{Long}
 use Rattle.vax_target_operands.specs.md_reader_pieces.specs.declared.piece.Piece.{Piece}
 use Rattle.vax_target_operands.specs.term_core.specs.Shape.{Shape, Constant, LastResult}
-use Rattle.vax_target_operands.specs.sel_terms.specs.Effects.{ActShape, Value, Number, Address, PlaceHome, PlaceAt, StoreHome, StoreAt, Branch}
-use Rattle.vax_target_operands.specs.sel_terms.specs.Effects.{Push, Call, Save, Return, Jump}
+use Rattle.vax_target_operands.specs.sel_terms.specs.Effects.{ActShape, Value, Number, Address, PlaceHome, PlaceAt, StoreHome, StoreAt}
+use Rattle.vax_target_operands.specs.sel_terms.specs.Effects.{Branch, Push, Call, Save, Return, Jump}
 use Rattle.vax_target_operands.specs.sel_terms_meaning.specs.Meaning.{terms_of_act}
 use Rattle.vax_core.specs.declared.register.Reg.TheVariants.{R0}
 use Rattle.vax_core.specs.declared.op.Op.TheVariants as ops
-use Rattle.vax_machine.specs.declared.turn.Stop.{Stop}
 use Rattle.vax_machine.specs.declared.turn.Stop.TheVariants.{Trapped}
 use Rattle.vax_machine.specs.declared.function.Conditions.{Conditions}
 use Rattle.vax_machine.specs.declared.operands.Location.{Location}
 use Rattle.vax_machine.specs.declared.operands.Location.TheVariants as locations
 use Rattle.vax_machine.specs.State.{State, reg, with_reg, with_conditions, ◌>>=◌}
 use Rattle.vax_machine.specs.Operands.{put}
-use Rattle.vax_machine.specs.Calls.{Acts}
 use Rattle.vax_machine.specs.Step.{pushing}
-use Rattle.vax_target_operands.specs.vax_machine_lists.specs.Instructions.{Course, Returns, Stops, ends, comes, course_of, performed}
+use Rattle.vax_target_operands.specs.vax_machine_lists.specs.Instructions.{Course, Returns, Stops, ends, comes, course_of}
+use Rattle.vax_target_operands.specs.vax_confined.specs.Confined.{may_touch, performed}
+use Rattle.vax_target_operands.specs.vax_target_confined.specs.Claims.{StandsAt}
 use Rattle.vax_target_operands.specs.vax_templates.specs.declared.setting.Own.TheVariants as own
 use Rattle.vax_target_operands.specs.vax_templates.specs.Deeds.{Last, Plain, Compared, Tested, Returning, Ended, Deed}
 use Rattle.vax_target_operands.specs.vax_templates.specs.Judging.{line_did}
 use Rattle.vax_target_operands.specs.vax_templates.specs.Filled.{register_in, operand_in}
 use Rattle.vax_target_operands.specs.vax_templates.specs.FilledLines.{op_in, branch_to, call_of, callee_among, filled_line}
 use Rattle.vax_target_operands.specs.Scenes.{Scene, worth, filling_at, IsSavedLocal, Sees}
-use Rattle.vax_target_operands.specs.Places.{StandsAt, IsHome}
+use Rattle.vax_target_operands.specs.Places.{own_at, IsHome}
 use Rattle.vax_target_operands.specs.Conditions as codes
 use Rattle.vax_target_lines.specs.Takings.{AreRead}
 
@@ -51,11 +51,12 @@ IsStored c m size i l = (((y : Size) × (c.setting.own ≡ own.Slot y)) × Stand
 abbrev pub putting : State → Location → Size → ℕ → Conditions → Course
 putting m l size v k = course_of (put m l size v >>= λ (n : State). Ok (None, with_conditions n k))
 
-pub record Puts (c : Scene) (m : State) (size : Size) (v : ℕ) (IsThere : Location → Type 0) (did : Course) : Type 0 where
+-- that is done where the place may be touched, as one of the innermost call's own or as another
+pub record Puts (c : Scene) (m : State) (is_own : Bool) (size : Size) (v : ℕ) (IsThere : Location → Type 0) (did : Course) : Type 0 where
   pub place : Location
   pub conditions : Conditions
   pub there : IsThere place
-  pub is : did ≡ putting m place size v conditions
+  pub is : may_touch m is_own place size ≡ true → did ≡ putting m place size v conditions
 
 -- the codes with which a branch is met: those of its two numbers, or of a test of bits where the relation compares with signs
 abbrev pub IsMet : Scene → Conditions → Shape → Shape → Type 0
@@ -68,13 +69,13 @@ DoesDeed c m (Number t) did = ⊥
 DoesDeed c m (Address t) did = ⊥
 DoesDeed c m (PlaceHome z i) did = ⊥
 DoesDeed c m (PlaceAt z a) did = ⊥
-DoesDeed c m (StoreHome z i t) did = Puts c m z (worth c t) (IsStored c m z i) did
-DoesDeed c m (StoreAt z a t) did = Puts c m z (worth c t) (λ l. l ≡ locations.Memory (worth c a)) did
+DoesDeed c m (StoreHome z i t) did = Puts c m (own_at c i) z (worth c t) (IsStored c m z i) did
+DoesDeed c m (StoreAt z a t) did = Puts c m false z (worth c t) (λ l. l ≡ locations.Memory (worth c a)) did
 DoesDeed c m (Branch i a b) did = IsMet c m.conditions a b × (did ≡ performed (branch_to (op_in (filling_at c i)) c.holes) m)
 DoesDeed c m (Push t) did = did ≡ course_of (pushing m (worth c t))
 DoesDeed c m Call did = did ≡ performed (call_of c.program (callee_among c.holes)) m
 DoesDeed c m (Save i) did =
-    Puts c m Long (worth c LastResult) (λ l. StandsAt m (operand_in c.program (filling_at c i)) Long l
+    Puts c m (own_at c i) Long (worth c LastResult) (λ l. StandsAt m (operand_in c.program (filling_at c i)) Long l
     × IsSavedLocal c (filling_at c i)) did
 DoesDeed c m (Return t) did = (did ≡ ends (Returns m)) × (reg m R0 ≡ worth c t)
 DoesDeed c m Jump did = did ≡ performed (branch_to ops.Jbr c.holes) m

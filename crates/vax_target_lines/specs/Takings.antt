@@ -14,22 +14,31 @@ use Rattle.vax_machine.specs.declared.operands.Location.TheVariants as locations
 use Rattle.vax_machine.specs.declared.operands.Destination.{Destination}
 use Rattle.vax_machine.specs.declared.operands.Arguments.{Arguments as Numbers}
 use Rattle.vax_machine.specs.State.{State}
-use Rattle.vax_machine.specs.Operands as machine
+use Rattle.vax_target_operands.specs.vax_confined.specs.Confined as confined
+use Rattle.vax_target_operands.specs.vax_confined.specs.Confined.{may_touch, in_area}
 use Rattle.vax_target_operands.specs.vax_templates.specs.declared.form.Form.{Form}
 use Rattle.vax_target_operands.specs.vax_templates.specs.declared.setting.Own.TheVariants as own
 use Rattle.vax_target_operands.specs.vax_templates.specs.Targets.{Target, ToOwn, ToSlot, ToHome, ToMemory, ToZero, ToSaved}
 use Rattle.vax_target_operands.specs.vax_templates.specs.Taking.{Arguments, all_evaluated}
 use Rattle.vax_target_operands.specs.vax_templates.specs.Filled.{operand_in, filled}
 use Rattle.vax_target_operands.specs.Scenes.{Scene, worth, filling_at, IsSavedLocal, Sees}
-use Rattle.vax_target_operands.specs.Places.{StandsAt, IsHome, BaseIsShort, MayBeRead}
+use Rattle.vax_target_operands.specs.vax_target_confined.specs.Claims.{StandsAt}
+use Rattle.vax_target_operands.specs.Places.{own_at, IsHome, BaseIsShort, MayBeRead}
 use Rattle.vax_target_operands.specs.Conditions.{IsNarrow}
 
--- a location is what is to be written; only a statement writes something else than `%0`
+-- a symbol's own place, where that may be touched
+pub record IsHomeTarget (c : Scene) (m : State) (i : ℕ) (size : Size) (l : Location) : Type 0 where
+  pub place : Location
+  pub home : IsHome c m i size place
+  pub is : may_touch m (own_at c i) place size ≡ true → l ≡ place
+
+-- a location is what is to be written, where that may be touched; only a statement writes something else than `%0`
 abbrev pub IsTarget : Scene → State → Target → Location → Size → Type 0
 IsTarget c m ToOwn l size = StandsAt m (operand_in c.program c.own) size l × (size ≡ Long) × (c.setting.own ≡ own.Register)
 IsTarget c m (ToSlot z) l size = StandsAt m (operand_in c.program c.own) size l × (z ≡ size) × ((y : Size) × (c.setting.own ≡ own.Slot y))
-IsTarget c m (ToHome z i) l size = IsHome c m i size l × (z ≡ size) × (c.setting.is_statement ≡ true)
-IsTarget c m (ToMemory z a) l size = (l ≡ locations.Memory (worth c a)) × (z ≡ size) × (c.setting.is_statement ≡ true)
+IsTarget c m (ToHome z i) l size = IsHomeTarget c m i size l × (z ≡ size) × (c.setting.is_statement ≡ true)
+IsTarget c m (ToMemory z a) l size =
+    (in_area m (worth c a) size ≡ true → l ≡ locations.Memory (worth c a)) × (z ≡ size) × (c.setting.is_statement ≡ true)
 IsTarget c m ToZero l size = (l ≡ locations.Register R0) × (c.setting.is_statement ≡ true)
 IsTarget c m (ToSaved i) l size =
     StandsAt m (operand_in c.program (filling_at c i)) size l × IsSavedLocal c (filling_at c i) × (c.setting.is_statement ≡ true)
@@ -66,7 +75,7 @@ last_size [] = Long
 last_size (k ∷ []) = k.size
 last_size (k ∷ j ∷ ks) = last_size (j ∷ ks)
 
--- what is taken on the machine is what the terms say
+-- what is taken on the confined machine is what the terms say
 pub record AreArguments (c : Scene) (m : State) (kinds : List OperandKind) (x : Arguments) (y : Numbers) : Type 0 where
   pub first : y.first ≡ worth c x.first
   pub second : y.second ≡ worth c x.second
@@ -93,10 +102,10 @@ pub record MayStand (c : Scene) (zero : Option Shape) (f : Form) : Type 0 where
   pub short : BaseIsShort f.base
   pub may : MayBeRead c zero f
 
--- the machine takes what the terms say
+-- the confined machine takes what the terms say
 pub record Takes (c : Scene) (m : State) (kinds : List OperandKind) (forms : List Form) (n : ℕ) (x : Arguments) : Type 0 where
   pub numbers : Numbers
-  pub is : machine.all_evaluated kinds (map (filled c.program c.holes c.own) (take n forms)) m ≡ Ok (numbers, m)
+  pub is : confined.all_evaluated kinds (map (filled c.program c.holes c.own) (take n forms)) m ≡ Ok (numbers, m)
   pub so : AreArguments c m kinds x numbers
 
 -- Where what is read can be read, and no operand has a wrong size, an instruction's operands are evaluated, and nothing changes by that.

@@ -1,5 +1,5 @@
--- What an operand reads and names: registers, the data area, and the word of the innermost frame or the argument that
--- it spells itself. All other memory is no tree's, and there an operand reads nothing.
+-- What an operand reads and names: r0 to r11, the data area, and the word of the innermost frame or the argument that
+-- it spells itself. All other memory is no tree's, nor are ap, fp and sp, and there an operand reads nothing.
 use Rattle.std.specs.Prelude.{ℕ, ◌%◌, ◌^◌, ◌==◌, ◌&&◌, nat_lt, nat_le, Bool, true, false, List, Option, Some, None}
 use Rattle.std.specs.Prelude.{is_none, is_some, Result, Ok, Err, cond}
 use Rattle.std.specs.Option.{option_and_then, option_map}
@@ -14,6 +14,7 @@ use Rattle.vax_templates.specs.vax_core.specs.declared.operand.Addr.{Addr}
 use Rattle.vax_templates.specs.vax_core.specs.declared.operand.Base.{Base}
 use Rattle.vax_templates.specs.vax_core.specs.declared.operand.Base.TheVariants as bases
 use Rattle.vax_templates.specs.vax_core.specs.declared.operand.Operand.{Operand}
+use Rattle.vax_templates.specs.vax_core.specs.Registers.{reg_number}
 use Rattle.vax_states.specs.vax_machine.specs.declared.turn.Stop.{Stop}
 use Rattle.vax_states.specs.vax_machine.specs.State.{State, reg}
 use Rattle.vax_states.specs.vax_machine.specs.Area.{resolved}
@@ -85,7 +86,7 @@ in_memory o size m = option_and_then (at_place o size m) (names o size m)
 -- what an operand with this base reads
 abbrev pub reads_by : Base → Operand → Size → State → Option ℕ
 reads_by (bases.Imm a) o size m = option_map (low size) (longword (resolved m.layout a))
-reads_by (bases.Reg r) o size m = Some (low size (reg m r))
+reads_by (bases.Reg r) o size m = cond (nat_lt (reg_number r) 12) (Some (low size (reg m r))) None
 reads_by b o size m = in_memory o size m
 
 -- the number that an operand reads at a size

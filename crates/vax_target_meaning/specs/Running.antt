@@ -1,11 +1,11 @@
--- What lists of instructions do, as a target says it.
+-- What lists of instructions do, as a target says it: they run confined, so what touches memory that is no tree's breaks.
 use Rattle.std.specs.Prelude.{ℕ, List}
 use Rattle.vax_templates.specs.vax_core.specs.declared.code.Instr.{Instr}
 use Rattle.vax_states.specs.vax_machine.specs.declared.turn.Stop.{Stop}
 use Rattle.vax_states.specs.vax_machine.specs.declared.turn.Stop.TheVariants as stops
 use Rattle.vax_states.specs.vax_machine.specs.State.{State}
-use Rattle.vax_states.specs.vax_machine_lists.specs.Instructions.{exec}
 use Rattle.vax_states.specs.vax_machine_lists.specs.Instructions as lists
+use Rattle.vax_confined.specs.Confined as confined
 use Rattle.vax_templates.specs.sel_target.specs.Courses.{Course, Ending, Comes, Goes, Calls, Returns, Traps, Breaks}
 
 -- instructions end no run by themselves: a return is left to be done
@@ -25,4 +25,4 @@ abbrev pub course_of : lists.Course → Course Instr State
 course_of c = record { written = c.written; ending = ending_of c.ending }
 
 abbrev pub run : List Instr → State → Course Instr State
-run is m = course_of (exec is m)
+run is m = course_of (confined.exec is m)

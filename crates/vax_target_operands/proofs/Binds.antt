@@ -1,5 +1,5 @@
 -- What is left where parts of a judgement are chained.
-use Rattle.std.proofs.Common.{◌≡◌, ℕ, Bool, true, false, cond, Result, Ok, Err, refl, ap}
+use Rattle.std.proofs.Common.{◌≡◌, Bool, true, false, cond, Result, Ok, Err, refl}
 use Rattle.gg_base.proofs.Facts.{err_ok, ok_same}
 use Rattle.vax_target_meaning.specs.vax_templates.specs.Standing.{◌>>=◌}
 

@@ -1,63 +1,58 @@
 -- An operand with its holes filled stands where its template says.
-use Rattle.std.proofs.Common.{◌≡◌, ℕ, ◌-◌, ◌*◌, ◌%◌, ◌^◌, ◌<◌, ◌==◌, true, false, cond, Option, Some, None, Result, Ok, Err, refl, sym, ap, subst, ◌∙◌}
+use Rattle.std.proofs.Common.{◌≡◌, ℕ, Bool, true, false, Option, Some, None, Result, Ok, refl, sym, ap, subst, ◌∙◌}
 use Rattle.std.specs.Prelude.{◌||◌}
 use Rattle.gg_base.specs.declared.size.Size.{Size}
 use Rattle.gg_base.specs.Sizes.{bytes_of}
 use Rattle.gg_base.specs.Arithmetic.{add32, mul32, neg32}
 use Rattle.gg_base.proofs.Facts.{first_false, second_false, err_ok, ok_same}
-use Rattle.vax_target_meaning.specs.term_core.specs.Shape.{Shape, Symbol, Memory}
+use Rattle.vax_target_meaning.specs.term_core.specs.Shape.{Shape, Symbol}
 use Rattle.vax_target_meaning.specs.sel_target.specs.declared.fault.TemplateKind.{TemplateKind}
-use Rattle.vax_target_meaning.specs.sel_target.specs.Values.{IsRead}
 use Rattle.vax_core.specs.declared.register.Reg.{Reg}
 use Rattle.vax_core.specs.declared.register.Reg.TheVariants.{R0}
 use Rattle.vax_core.specs.declared.operand.Addr.{Addr}
 use Rattle.vax_core.specs.declared.operand.Base.TheVariants as bases
 use Rattle.vax_core.specs.declared.operand.Operand.{Operand}
-use Rattle.vax_target_meaning.specs.vax_machine.specs.declared.operands.Location.{Location}
 use Rattle.vax_target_meaning.specs.vax_machine.specs.declared.operands.Location.TheVariants as locations
 use Rattle.vax_target_meaning.specs.vax_machine.specs.State.{State, reg}
 use Rattle.vax_target_meaning.specs.vax_machine.specs.Area.{resolved}
-use Rattle.vax_target_meaning.specs.vax_machine.specs.Operands.{located, indexed, deferred}
-use Rattle.vax_target_meaning.specs.vax_templates.specs.declared.form.Number.{Number}
+use Rattle.vax_target_meaning.specs.vax_machine.specs.Operands.{located}
+use Rattle.vax_target_meaning.specs.vax_confined.specs.Confined.{is_own, found}
 use Rattle.vax_target_meaning.specs.vax_templates.specs.declared.form.Base.{Base}
 use Rattle.vax_target_meaning.specs.vax_templates.specs.declared.form.Base.TheVariants as base
-use Rattle.vax_target_meaning.specs.vax_templates.specs.declared.form.Form.{Form}
 use Rattle.vax_target_meaning.specs.vax_templates.specs.declared.setting.Hole.{Hole}
 use Rattle.vax_target_meaning.specs.vax_templates.specs.declared.setting.Hole.TheVariants as hole_kind
-use Rattle.vax_target_meaning.specs.vax_templates.specs.declared.setting.Own.{Own}
-use Rattle.vax_target_meaning.specs.vax_templates.specs.declared.setting.Own.TheVariants as own
 use Rattle.vax_target_meaning.specs.vax_templates.specs.declared.setting.Opening.{Opening}
 use Rattle.vax_target_meaning.specs.vax_templates.specs.declared.setting.Opening.TheVariants as opening
-use Rattle.vax_target_meaning.specs.vax_templates.specs.Judging.{is_operand, base_spells, index_is_operand, spells_symbol}
+use Rattle.vax_target_meaning.specs.vax_templates.specs.Judging.{is_operand, base_spells, index_is_operand}
 use Rattle.vax_target_meaning.specs.vax_templates.specs.Standing.{Where, Immediate, Register, OwnRegister, RegisterZero, Value, Place, Local}
-use Rattle.vax_target_meaning.specs.vax_templates.specs.Standing.{SavedPlace, Saved, At, where_own, where_hole, where_zero, through}
+use Rattle.vax_target_meaning.specs.vax_templates.specs.Standing.{SavedPlace, Saved, At, where_zero, through}
 use Rattle.vax_target_meaning.specs.vax_templates.specs.Standing.{where_deferred, at, sum, displaced, pointed, negated, itself, where_base}
 use Rattle.vax_target_meaning.specs.vax_templates.specs.Standing.{scaled, moved, where_indexed, form_where, ◌>>=◌}
 use Rattle.vax_target_meaning.specs.vax_templates.specs.HoleTerms.{constant_of, absolute_term, number_term, register_term}
-use Rattle.vax_target_meaning.specs.vax_templates.specs.Filled.{alone, addr_number, register_in, addr_in, number_addr, operand_in, deferred_in, filled_base, with_index, filled}
+use Rattle.vax_target_meaning.specs.vax_templates.specs.Filled.{alone, addr_number, register_in, addr_in, number_addr, deferred_in, filled_base, with_index}
 use Rattle.vax_target_operands.specs.Scenes.{Scene, worth, role_at, filling_at, is_lost, Means, Sees}
-use Rattle.vax_target_operands.specs.Places.{StandsAt, IsWhere, IsReadIfAny, CanStand, Stands, BaseIsShort, MayBeRead, OperandsStand}
-use Rattle.vax_target_operands.proofs.Binds.{Chained, chained}
-use Rattle.vax_target_operands.proofs.Machine.{named_located, reg_found, imm_found}
-use Rattle.vax_target_operands.proofs.Holes.{BaseStands, plain_stands, rel_found, rel_deferred, constant_known, number_means, constant_address, number_is, absolute_is, register_is}
+use Rattle.vax_target_operands.specs.Places.{CanStand, Stands, BaseIsShort, OperandsStand}
+use Rattle.vax_target_confined.proofs.Reading.{named_found, reg_found, imm_found}
+use Rattle.vax_target_operands.proofs.Binds.{chained}
+use Rattle.vax_target_operands.proofs.Holes.{BaseStands, pointed_from, plain_stands, rel_deferred, constant_known, number_means, constant_address, number_is, absolute_is, register_is}
 use Rattle.vax_target_operands.proofs.Holes.{alone_stands, pointer_read}
 use Rattle.vax_target_operands.proofs.Worths.{scaled_is}
 
 -- ---- what a base finds
 
-def_found : (m : State) (r : Reg) (size : Size) → located m (bases.Def r) size ≡ Ok (locations.Memory (reg m r), m)
+def_found : (m : State) (r : Reg) (size : Size) → found m (bases.Def r) size ≡ Ok (locations.Memory (reg m r), m)
 unfolding located
 def_found m r size = refl
 
-disp_found : (m : State) (a : Addr) (r : Reg) (size : Size) → located m (bases.Disp a r) size ≡ Ok (locations.Memory (add32 (resolved m.layout a) (reg m r)), m)
+disp_found : (m : State) (a : Addr) (r : Reg) (size : Size) → found m (bases.Disp a r) size ≡ Ok (locations.Memory (add32 (resolved m.layout a) (reg m r)), m)
 unfolding located
 disp_found m a r size = refl
 
-disp_deferred : (m : State) (a : Addr) (r : Reg) (size : Size) → located m (bases.DispDef a r) size ≡ deferred m (add32 (resolved m.layout a) (reg m r))
+disp_deferred : (m : State) (a : Addr) (r : Reg) (size : Size) → found m (bases.DispDef a r) size ≡ pointed_from m (is_own r a) (add32 (resolved m.layout a) (reg m r))
 unfolding located
 disp_deferred m a r size = refl
 
-abs_found : (m : State) (n : ℕ) (size : Size) → located m (bases.Abs n) size ≡ Ok (locations.Memory n, m)
+abs_found : (m : State) (n : ℕ) (size : Size) → found m (bases.Abs n) size ≡ Ok (locations.Memory n, m)
 unfolding located
 abs_found m n size = refl
 
@@ -76,20 +71,20 @@ module _ (c : Scene) (zero : Option Shape) (m : State) (h : Sees c zero m) where
   F b = filled_base c.program c.holes c.own b
 
   -- memory at a known address
-  at_stands : (o : Operand) (size : Size) (t : Shape) (w : Where) → at t ≡ Ok w → o.index ≡ None → located m o.base size ≡ Ok (locations.Memory (worth c t), m) → BaseStands c m w o size
-  at_stands o size t w e none found = subst (λ x. BaseStands c m x o size) (ok_same (At t None) w e) (none, found)
+  at_stands : (o : Operand) (size : Size) (t : Shape) (w : Where) → at t ≡ Ok w → o.index ≡ None → found m o.base size ≡ Ok (locations.Memory (worth c t), m) → BaseStands c m w o size
+  at_stands o size t w e none there = subst (λ x. BaseStands c m x o size) (ok_same (At t None) w e) (none, there)
 
   -- memory at the address that is read at a known address
-  through_stands : (o : Operand) (size : Size) (t : Shape) (x : ℕ) (w : Where) → pointed t ≡ Ok w → CanStand c w size → x ≡ worth c t → o.index ≡ None →
-      located m o.base size ≡ deferred m x → BaseStands c m w o size
-  through_stands o size t x w e can same none found =
-      subst (λ y. CanStand c y size → BaseStands c m y o size) (ok_same (through t) w e) (λ safe. (none, found ∙ pointer_read c zero m h t x same safe)) can
+  through_stands : (mine : Bool) (o : Operand) (size : Size) (t : Shape) (x : ℕ) (w : Where) → pointed t ≡ Ok w → CanStand c w size → x ≡ worth c t → o.index ≡ None →
+      found m o.base size ≡ pointed_from m mine x → BaseStands c m w o size
+  through_stands mine o size t x w e can same none there =
+      subst (λ y. CanStand c y size → BaseStands c m y o size) (ok_same (through t) w e) (λ safe. (none, there ∙ pointer_read c zero m h mine t x same safe)) can
 
   zero_stands : (o : Opening) (w : Where) (size : Size) → where_zero o ≡ Ok w → BaseStands c m w (alone (bases.Reg R0)) size
   zero_stands opening.Return w size e = subst (λ x. BaseStands c m x (alone (bases.Reg R0)) size) (ok_same RegisterZero w e)
-      (record { place = locations.Register R0; at = plain_stands m (alone (bases.Reg R0)) size (locations.Register R0) refl (reg_found m R0 size); is = refl })
+      (record { place = locations.Register R0; at = plain_stands m (alone (bases.Reg R0)) size (locations.Register R0) refl (reg_found m R0 size refl); is = refl })
   zero_stands opening.Save w size e = subst (λ x. BaseStands c m x (alone (bases.Reg R0)) size) (ok_same RegisterZero w e)
-      (record { place = locations.Register R0; at = plain_stands m (alone (bases.Reg R0)) size (locations.Register R0) refl (reg_found m R0 size); is = refl })
+      (record { place = locations.Register R0; at = plain_stands m (alone (bases.Reg R0)) size (locations.Register R0) refl (reg_found m R0 size refl); is = refl })
   zero_stands opening.Other w size e = absurd (err_ok _ w e)
 
   number_stands : (a : Addr) (size : Size) (t : Shape) (w : Where) → itself t ≡ Ok w → resolved m.layout a ≡ worth c t → BaseStands c m w (alone (bases.Imm a)) size
@@ -116,10 +111,10 @@ module _ (c : Scene) (zero : Option Shape) (m : State) (h : Sees c zero m) where
       BaseStands c m w (deferred_in c.program (filling_at c i)) size
   deferred_stands hole_kind.Local i w size k e can =
       subst (λ x. BaseStands c m x (deferred_in c.program (filling_at c i)) size) (ok_same (At (Symbol i) None) w e)
-      (k.plain, named_located m (deferred_in c.program (filling_at c i)).base size (worth c (Symbol i)) k.deferred)
+      (k.plain, named_found m (deferred_in c.program (filling_at c i)).base size (worth c (Symbol i)) k.deferred)
   deferred_stands hole_kind.Object i w size k e can =
       subst (λ o. BaseStands c m w o size) (sym k.deferred_is)
-      (through_stands (alone (bases.RelDef (addr_in c.program (filling_at c i)))) size (Symbol i) (resolved m.layout (addr_in c.program (filling_at c i))) w e can k.address refl
+      (through_stands false (alone (bases.RelDef (addr_in c.program (filling_at c i)))) size (Symbol i) (resolved m.layout (addr_in c.program (filling_at c i))) w e can k.address refl
       (rel_deferred m (addr_in c.program (filling_at c i)) size))
   deferred_stands _ i w size k e can = absurd (err_ok _ w e)
 
@@ -153,7 +148,8 @@ module _ (c : Scene) (zero : Option Shape) (m : State) (h : Sees c zero m) where
   base_stands (base.DisplacementDeferred n i) w size short may e can =
       let d = chained (displaced (number_term c.roles n) (register_term c.setting c.roles zero i)) pointed w e in
       let s = displaced_is (number_term c.roles n) (register_term c.setting c.roles zero i) d.first d.is in
-      through_stands (F (base.DisplacementDeferred n i)) size d.first (add32 (resolved m.layout (number_addr c.program c.holes c.own n)) (reg m (register_in (filling_at c i)))) w d.then_so can
+      through_stands (is_own (register_in (filling_at c i)) (number_addr c.program c.holes c.own n)) (F (base.DisplacementDeferred n i)) size d.first
+      (add32 (resolved m.layout (number_addr c.program c.holes c.own n)) (reg m (register_in (filling_at c i)))) w d.then_so can
       (ap (λ (x : ℕ). add32 x (reg m (register_in (filling_at c i)))) (number_is c zero m h n s.0 short s.2)
       ∙ ap (λ (x : ℕ). add32 (worth c s.0) x) (register_is c zero m h i s.1 may s.3)
       ∙ ap (λ (x : Shape). worth c x) s.4)
@@ -186,7 +182,7 @@ module _ (c : Scene) (zero : Option Shape) (m : State) (h : Sees c zero m) where
       subst (λ x. CanStand c x size → Stands c m (record o { index = Some r }) x size) (ok_same (At (sum a (scaled size t)) p) w e)
       (λ safe. record {
         place = locations.Memory (add32 (worth c a) (mul32 (reg m r) (bytes_of size)));
-        at = record { base = locations.Memory (worth c a); found = (b safe).1; is = refl };
+        at = record { base = locations.Memory (worth c a); finds = (b safe).1; is = refl };
         is = ap (λ x. locations.Memory (add32 (worth c a) x)) (scaled_is c size t (reg m r) is);
       }) can
   indexed_stands _ w o t r size is e b can = absurd (err_ok _ w e)

@@ -3,6 +3,8 @@ pub mod Scenes
 pub mod Places
 pub mod Conditions
 pub use Rattle.vax_target_meaning
+pub use Rattle.vax_target_confined
+pub use Rattle.vax_target_meaning.specs.vax_confined as vax_confined
 pub use Rattle.vax_target_meaning.specs.vax_states as vax_states
 pub use Rattle.vax_target_meaning.specs.vax_machine_lists as vax_machine_lists
 pub use Rattle.vax_target_meaning.specs.md_reader_pieces as md_reader_pieces

@@ -1,5 +1,5 @@
 -- Where an operand of a template stands when its line is run.
-use Rattle.std.specs.Prelude.{◌≡◌, ℕ, ◌^◌, ◌<◌, true, false, Option, Some, None, IsSome, Ok}
+use Rattle.std.specs.Prelude.{◌≡◌, ℕ, ◌^◌, ◌<◌, Bool, true, false, Option, Some, None, IsSome, Ok}
 use Rattle.gg_base.specs.declared.size.Size.{Size}
 use Rattle.gg_base.specs.declared.size.Size.TheVariants.{Long}
 use Rattle.vax_target_meaning.specs.term_core.specs.Shape.{Shape, Symbol}
@@ -7,10 +7,10 @@ use Rattle.vax_target_meaning.specs.sel_target.specs.Values.{IsRead}
 use Rattle.vax_core.specs.declared.register.Reg.{Reg}
 use Rattle.vax_core.specs.declared.register.Reg.TheVariants.{R0}
 use Rattle.vax_core.specs.declared.operand.Operand.{Operand}
+use Rattle.vax_target_meaning.specs.vax_confined.specs.Confined.{is_own_place, may_touch}
 use Rattle.vax_target_meaning.specs.vax_machine.specs.declared.operands.Location.{Location}
 use Rattle.vax_target_meaning.specs.vax_machine.specs.declared.operands.Location.TheVariants as locations
 use Rattle.vax_target_meaning.specs.vax_machine.specs.State.{State, reg}
-use Rattle.vax_target_meaning.specs.vax_machine.specs.Operands.{located, indexed, fetched}
 use Rattle.vax_target_meaning.specs.vax_templates.specs.declared.form.Number.{Number}
 use Rattle.vax_target_meaning.specs.vax_templates.specs.declared.form.Number.TheVariants as number
 use Rattle.vax_target_meaning.specs.vax_templates.specs.declared.form.Base.{Base}
@@ -22,13 +22,8 @@ use Rattle.vax_target_meaning.specs.vax_templates.specs.Standing.{Value, Place, 
 use Rattle.vax_target_meaning.specs.vax_templates.specs.Standing.{SavedPlace, Saved, At, form_where}
 use Rattle.vax_target_meaning.specs.Reading.{names}
 use Rattle.vax_target_meaning.specs.vax_templates.specs.Judging.{spells_symbol}
+use Rattle.vax_target_confined.specs.Claims.{StandsAt, IsReadAt}
 use Rattle.vax_target_operands.specs.Scenes.{Scene, worth, filling_at, IsSavedLocal, is_lost, Sees}
-
--- the machine finds the operand's place there, and nothing changes by that
-pub record StandsAt (m : State) (o : Operand) (size : Size) (l : Location) : Type 0 where
-  pub base : Location
-  pub found : located m o.base size ≡ Ok (base, m)
-  pub is : indexed m base o.index size ≡ l
 
 -- a register with a number in it
 pub record InRegister (m : State) (l : Location) (n : ℕ) : Type 0 where
@@ -36,25 +31,30 @@ pub record InRegister (m : State) (l : Location) (n : ℕ) : Type 0 where
   pub is : l ≡ locations.Register register
   pub holds : reg m register ≡ n
 
+-- what fills a symbol is a place of the innermost call
+abbrev pub own_at : Scene → ℕ → Bool
+own_at c i = is_own_place (operand_in c.program (filling_at c i))
+
 -- the place of a symbol, which has its value where it has one
 pub record IsHome (c : Scene) (m : State) (i : ℕ) (size : Size) (l : Location) : Type 0 where
   pub address : ℕ
   pub is : l ≡ locations.Memory address
   pub named_so : names (operand_in c.program (filling_at c i)) size m ≡ Some address
-  pub holds : IsSome (c.view.symbol i) → fetched m l size ≡ Ok (worth c (Symbol i))
+  pub holds : IsSome (c.view.symbol i) → IsReadAt m (own_at c i) l size (worth c (Symbol i))
 
--- a location is where an operand stands by its template
-abbrev pub IsWhere : Scene → State → Where → Size → Location → Type 0
-IsWhere c m (Immediate t) size l = l ≡ locations.Number (worth c t)
-IsWhere c m (Register t) size l = InRegister m l (worth c t)
-IsWhere c m OwnRegister size l = StandsAt m (operand_in c.program c.own) size l
-IsWhere c m RegisterZero size l = l ≡ locations.Register R0
-IsWhere c m (Value z i) size l = fetched m l size ≡ Ok (worth c (Symbol i))
-IsWhere c m (Place z i) size l = IsHome c m i size l
-IsWhere c m (Local i) size l = IsHome c m i size l × (fetched m l size ≡ Ok (worth c (Symbol i)))
-IsWhere c m (SavedPlace z i) size l = l ≡ locations.Memory (worth c (Symbol i))
-IsWhere c m (Saved i) size l = StandsAt m (operand_in c.program (filling_at c i)) size l × IsSavedLocal c (filling_at c i)
-IsWhere c m (At a p) size l = l ≡ locations.Memory (worth c a)
+-- a location is where an operand stands by its template; the operand may be a place of the innermost call
+abbrev pub IsWhere : Scene → State → Bool → Where → Size → Location → Type 0
+IsWhere c m own (Immediate t) size l = l ≡ locations.Number (worth c t)
+IsWhere c m own (Register t) size l = InRegister m l (worth c t)
+IsWhere c m own OwnRegister size l = StandsAt m (operand_in c.program c.own) size l × (may_touch m own l size ≡ true)
+IsWhere c m own RegisterZero size l = l ≡ locations.Register R0
+IsWhere c m own (Value z i) size l = IsReadAt m own l size (worth c (Symbol i))
+IsWhere c m own (Place z i) size l = IsHome c m i size l × (own ≡ own_at c i)
+IsWhere c m own (Local i) size l = IsHome c m i size l × (own ≡ own_at c i) × IsReadAt m own l size (worth c (Symbol i))
+IsWhere c m own (SavedPlace z i) size l = l ≡ locations.Memory (worth c (Symbol i))
+IsWhere c m own (Saved i) size l =
+    StandsAt m (operand_in c.program (filling_at c i)) size l × IsSavedLocal c (filling_at c i) × (may_touch m own l size ≡ true)
+IsWhere c m own (At a p) size l = l ≡ locations.Memory (worth c a)
 
 abbrev pub IsReadIfAny : Scene → Option Shape → Type 0
 IsReadIfAny c None = Unit {0}
@@ -73,7 +73,7 @@ CanStand c w size = Unit {0}
 pub record Stands (c : Scene) (m : State) (o : Operand) (w : Where) (size : Size) : Type 0 where
   pub place : Location
   pub at : StandsAt m o size place
-  pub is : IsWhere c m w size place
+  pub is : IsWhere c m (is_own_place o) w size place
 
 -- ---- the law
 

@@ -1,5 +1,5 @@
 -- Where the lines of a template are run: what fills the holes, and what each hole means in a state of the machine.
-use Rattle.std.specs.Prelude.{◌≡◌, ℕ, ◌%◌, ◌^◌, ◌<◌, Bool, true, false, List, Option, Some, None, IsSome}
+use Rattle.std.specs.Prelude.{◌≡◌, ℕ, ◌^◌, ◌<◌, Bool, true, false, List, Option, Some, None, IsSome}
 use Rattle.gg_base.specs.declared.limits.TheConstants.{NEED_LIMIT}
 use Rattle.gg_base.specs.declared.size.Size.{Size}
 use Rattle.gg_base.specs.declared.size.Size.TheVariants.{Long}
@@ -111,6 +111,7 @@ pub record IsOwnRegister (c : Scene) : Type 0 where
 
 pub record IsOwnSlot (c : Scene) : Type 0 where
   pub word : ℕ
+  pub low : word < NEED_LIMIT
   pub is : c.own ≡ attr.Place (home word)
 
 -- what fills `%0` is what it is to be

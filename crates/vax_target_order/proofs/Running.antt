@@ -4,9 +4,9 @@ use Rattle.vax_core.specs.declared.code.Instr.{Instr}
 use Rattle.vax_target_writing.specs.vax_machine.specs.declared.turn.Stop.{Stop}
 use Rattle.vax_target_writing.specs.vax_machine.specs.declared.turn.Stop.TheVariants as stops
 use Rattle.vax_target_writing.specs.vax_machine.specs.State.{State}
-use Rattle.vax_target_writing.specs.vax_machine_lists.specs.Instructions.{exec}
+use Rattle.vax_target_writing.specs.vax_confined.specs.Confined.{exec}
 use Rattle.vax_target_writing.specs.vax_machine_lists.specs.Instructions as lists
-use Rattle.vax_target_writing.specs.vax_machine_lists.proofs.Joining.{one_after_another}
+use Rattle.vax_target_writing.specs.vax_confined.proofs.Joining.{one_after_another}
 use Rattle.vax_target_writing.specs.sel_target.specs.Courses as courses
 use Rattle.vax_target_writing.specs.vax_target_meaning.specs.Running.{course_of}
 use Rattle.vax_target_order.specs.Laws.{InstructionsRun}

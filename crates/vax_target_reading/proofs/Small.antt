@@ -13,6 +13,7 @@ use Rattle.vax_core.specs.declared.register.Reg.{Reg}
 use Rattle.vax_core.specs.declared.operand.Base.{Base}
 use Rattle.vax_core.specs.declared.operand.Base.TheVariants as bases
 use Rattle.vax_core.specs.declared.operand.Operand.{Operand}
+use Rattle.vax_core.specs.Registers.{reg_number}
 use Rattle.vax_machine.specs.declared.turn.Stop.{Stop}
 use Rattle.vax_machine.specs.declared.memory.Region.{Region}
 use Rattle.vax_machine.specs.declared.memory.Region.TheVariants as regions
@@ -108,7 +109,10 @@ module _ (m : State) (sound : IsSound m) where
     imm : (n : Option ℕ) → Below (2 ^ 32) n → Below (range size) (option_map (low size) n)
     imm None h = tt
     imm (Some x) h = low_below size x h
-  by_below (bases.Reg r) o size = low_below size (reg m r) (reg_small m r sound)
+  by_below (bases.Reg r) o size = here (nat_lt (reg_number r) 12) where
+    here : (b : Bool) → Below (range size) (cond b (Some (low size (reg m r))) None)
+    here true = low_below size (reg m r) (reg_small m r sound)
+    here false = tt
   by_below (bases.Def r) o size = memory_below o size
   by_below (bases.Inc r) o size = memory_below o size
   by_below (bases.IncDef r) o size = memory_below o size

@@ -31,8 +31,8 @@ use Rattle.vax_target_runs.specs.vax_templates.specs.Judging.{instruction_did, r
 use Rattle.vax_target_runs.specs.vax_templates.specs.Deeds as deeds
 use Rattle.vax_target_runs.specs.vax_templates.specs.Judging as judging
 use Rattle.vax_target_runs.specs.vax_templates.specs.Progress.{Progress, judged, lines_judged}
-use Rattle.vax_target_runs.specs.vax_target_operands.proofs.Binds.{Chained, chained, cond_ok}
-use Rattle.vax_target_runs.proofs.Law.{IsJudged, judged_is}
+use Rattle.vax_target_runs.specs.vax_target_operands.proofs.Binds.{chained, cond_ok}
+use Rattle.vax_target_runs.proofs.Law.{judged_is}
 
 abbrev IsFew : List Shape → Type 0
 IsFew ds = length ds ≤ 1

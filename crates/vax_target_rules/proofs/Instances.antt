@@ -37,9 +37,7 @@ use Rattle.vax_target_runs.specs.sel_target.specs.Values.{View, address_of, own_
 use Rattle.vax_target_runs.specs.sel_target.specs.Values as target
 use Rattle.vax_target_runs.specs.sel_target.specs.EffectTerms.{begins_with_save}
 use Rattle.vax_target_runs.specs.sel_target.specs.Instances.{hole, InFrame, TokenIsWhole, IsWhole, KindFits, SymFits, Fit, IsResult, Instance}
-use Rattle.vax_core.specs.declared.register.Reg.{Reg}
 use Rattle.vax_core.specs.declared.register.Reg.TheVariants.{R0}
-use Rattle.vax_core.specs.declared.operand.Base.TheVariants as bases
 use Rattle.vax_core.specs.declared.operand.Operand.{Operand}
 use Rattle.vax_core.specs.Homes.{home, at_home, argument_home}
 use Rattle.vax_target_runs.specs.vax_machine.specs.State.{State, reg}
@@ -54,7 +52,7 @@ use Rattle.vax_target_runs.specs.vax_templates.specs.Filled.{spare, numbered, la
 use Rattle.vax_target_runs.specs.vax_target_meaning.specs.Reading.{named, moved, names, reads}
 use Rattle.vax_target_runs.specs.vax_target_meaning.specs.Vax.{vax}
 use Rattle.vax_target_runs.specs.vax_target_operands.specs.Scenes.{Scene, worth, role_at, filling_at, IsLocal, Names, IsNumber, IsObject, IsSavedLocal, Means, OwnIs, Sees}
-use Rattle.vax_target_runs.specs.vax_target_operands.proofs.Machine.{mapped}
+use Rattle.vax_target_runs.specs.vax_target_confined.proofs.Reading.{mapped, register_reads}
 use Rattle.vax_target_runs.specs.vax_target_operands.proofs.Worths.{worth_small}
 use Rattle.vax_target_rules.specs.Scene.{scene_of, InstancesAreSeen}
 
@@ -173,7 +171,9 @@ module _ (c : Scene) (m : State) (i : ℕ) (labelled : AreLabelled c.program.obj
 
   class_means : (k : Option Kind) (h : Attr Operand) → KindFits vax k h → Knows (size_of_kind k) h → IsWhole h (c.view.symbol i) → HasHome (size_of_kind k) h → Means c m (hole_of_kind k) i h
   class_means None h fits known whole homes = tt
-  class_means (Some kind.Reg) (attr.Reg r) fits known whole homes = record { number = r; is = refl; low = fits; holds = same_Some (reg m (numbered r)) (worth c (Symbol i)) (known whole) }
+  class_means (Some kind.Reg) (attr.Reg r) fits known whole homes =
+      let holds = same_Some (reg m (numbered r)) (worth c (Symbol i)) (sym (register_reads r fits Long m) ∙ known whole) in
+      record { number = r; is = refl; low = fits; holds = holds }
   class_means (Some (kind.Value z)) (attr.Value o) fits known whole homes = known whole
   class_means (Some (kind.Place z)) (attr.Place o) fits known whole homes = (let x = the_number (names o z m) (homes o refl) in record { address = x.0; named_so = x.1; holds = known })
   class_means (Some kind.Con) (attr.Con n) fits known whole homes = record { nameless = refl; is = same_Some n (worth c (Symbol i)) (known whole); low = worth_small c (Symbol i) }

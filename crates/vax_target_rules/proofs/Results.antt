@@ -1,5 +1,5 @@
 -- A rule's lines leave its result in its register.
-use Rattle.std.proofs.Common.{◌≡◌, ℕ, zero, suc, ◌-◌, ◌<◌, ◌⊎◌, inl, inr, true, false, List, [], ◌∷◌, map, Option, Some, None, Ok}
+use Rattle.std.proofs.Common.{◌≡◌, ℕ, zero, suc, ◌<◌, ◌⊎◌, inl, inr, true, false, List, [], ◌∷◌, map, Option, Some, None, Ok}
 use Rattle.std.proofs.Common.{refl, sym, ap, subst, ◌∙◌, arith}
 use Rattle.std.specs.Prelude.{slice_get, unwrap_or}
 use Rattle.std.specs.Option.{option_map}
@@ -31,7 +31,8 @@ use Rattle.vax_target_runs.specs.sel_target.specs.Outcomes.{Sets}
 use Rattle.vax_core.specs.declared.operand.Operand.{Operand}
 use Rattle.vax_core.specs.Registers.{reg_number}
 use Rattle.vax_target_runs.specs.vax_machine.specs.State.{State}
-use Rattle.vax_target_runs.specs.vax_machine_lists.specs.Instructions.{Course, comes, exec}
+use Rattle.vax_target_runs.specs.vax_machine_lists.specs.Instructions.{Course, comes}
+use Rattle.vax_target_runs.specs.vax_confined.specs.Confined.{exec}
 use Rattle.vax_target_runs.specs.vax_templates.specs.declared.setting.Own.TheVariants as own
 use Rattle.vax_target_runs.specs.vax_templates.specs.declared.setting.Hole.TheVariants as hole_kind
 use Rattle.vax_target_runs.specs.vax_templates.specs.Settings.{holes_of, setting_of, own_of, is_reuse, hole_of, hole_or_other}
@@ -44,6 +45,7 @@ use Rattle.vax_target_runs.specs.vax_target_meaning.specs.Vax.{vax}
 use Rattle.vax_target_runs.specs.vax_target_operands.specs.Scenes.{Scene, role_at, filling_at, Sees}
 use Rattle.vax_target_runs.specs.vax_target_lines.specs.Lines.{NoneIsZero, EndIsRead, MayEnd}
 use Rattle.vax_target_runs.specs.vax_target_lines.proofs.Performing.{number_is}
+use Rattle.vax_target_runs.specs.vax_target_confined.proofs.Reading.{register_reads}
 use Rattle.vax_target_runs.specs.Kept.{Differs}
 use Rattle.vax_target_runs.specs.Runs.{OwnChanged, Changed, EndsIn, RunsTo, IsApart, line_of, IsCalm}
 use Rattle.vax_target_runs.proofs.Kept.{registers_are_kept}
@@ -248,7 +250,7 @@ module _ (q : TreeProgram) (f : Extent) (fs : List Extent) (classes : List Class
   sets_so x = record {
     state = x.state;
     ran = ap course_of x.is;
-    gets = ap (λ (n : ℕ). Some n) x.sees.holds;
+    gets = register_reads r r_low Long x.state ∙ ap (λ (n : ℕ). Some n) x.sees.holds;
     keeps = registers_are_kept r m x.state r_low
         (record {
           registers = x.differs.registers;

@@ -1,5 +1,5 @@
 -- The scene of a rule's lines, and that an instance of a rule is one in which they are run.
-use Rattle.std.specs.Prelude.{◌≡◌, ℕ, Bool, List, None}
+use Rattle.std.specs.Prelude.{Bool, List, None}
 use Rattle.vax_target_runs.specs.tree_core.specs.declared.program.TreeProgram.{TreeProgram}
 use Rattle.vax_target_runs.specs.tree_meaning.specs.State.{Extent}
 use Rattle.vax_target_runs.specs.md_reader.specs.declared.types.Class.{Class}

@@ -1,5 +1,5 @@
 -- What a change of registers and condition codes leaves as it was.
-use Rattle.std.proofs.Common.{◌≡◌, ℕ, ◌+◌, ◌<◌, ◌≤◌, ◌==◌, Bool, true, false, List, [], ◌∷◌, Option, Some, None, refl, sym, ap, subst, ◌∙◌, arith, eq-eqb}
+use Rattle.std.proofs.Common.{◌≡◌, ℕ, ◌+◌, ◌<◌, ◌≤◌, ◌==◌, Bool, true, false, cond, List, [], ◌∷◌, Option, Some, None, refl, sym, ap, subst, ◌∙◌, arith, eq-eqb}
 use Rattle.std.specs.Prelude.{nat_lt, ◌||◌, ◌&&◌, length}
 use Rattle.std.specs.Int.{bit_at}
 use Rattle.std.specs.Option.{option_map, option_and_then}
@@ -87,7 +87,7 @@ module _ (m : State) (rs : List ℕ) (k : Conditions) where
   reads_kept o size b i = by o.base refl where
     by : (x : Base) → o.base ≡ x → reads_by x o size other ≡ reads_by x o size m
     by (bases.Imm a) is = refl
-    by (bases.Reg r) is = ap (λ (x : ℕ). Some (low size x)) (b r (ap base_register is))
+    by (bases.Reg r) is = ap (λ (x : ℕ). cond (nat_lt (reg_number r) 12) (Some (low size x)) None) (b r (ap base_register is))
     by (bases.Def r) is = memory_kept o size b i
     by (bases.Inc r) is = memory_kept o size b i
     by (bases.IncDef r) is = memory_kept o size b i

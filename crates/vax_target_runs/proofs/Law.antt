@@ -1,5 +1,5 @@
 -- Lines do what they are judged to do, one after another.
-use Rattle.std.proofs.Common.{◌≡◌, ℕ, ◌+◌, ◌-◌, ◌^◌, ◌<◌, ◌⊎◌, inl, inr, ◌++◌, Bool, true, false, List, [], ◌∷◌, length, map, Option, Some, None}
+use Rattle.std.proofs.Common.{◌≡◌, ℕ, ◌^◌, ◌<◌, ◌⊎◌, inl, inr, ◌++◌, Bool, true, false, List, [], ◌∷◌, length, map, Option, Some, None}
 use Rattle.std.proofs.Common.{Result, Ok, Err, refl, sym, ap, subst, ◌∙◌, arith, append-nil, get_or-set_same, get_or-set_other}
 use Rattle.std.specs.Prelude.{slice_index, slice_set}
 use Rattle.std.specs.List.{AllByRecursion}
@@ -9,7 +9,6 @@ use Rattle.vax_target_lines.specs.md_reader_pieces.specs.declared.piece.Piece.{P
 use Rattle.vax_target_lines.specs.term_core.specs.Shape.{Shape}
 use Rattle.vax_target_lines.specs.sel_terms.specs.Effects.{ActShape, Return}
 use Rattle.vax_target_lines.specs.sel_target.specs.declared.fault.TemplateKind.{TemplateKind}
-use Rattle.vax_target_lines.specs.sel_target.specs.declared.attr.Attr.TheVariants as attr
 use Rattle.vax_target_lines.specs.sel_target.specs.Meaning.{RegAt}
 use Rattle.vax_target_lines.specs.sel_target.specs.Instances.{attr_touches}
 use Rattle.vax_core.specs.declared.register.Reg.{Reg}
@@ -19,13 +18,14 @@ use Rattle.vax_core.specs.declared.code.Instr.{Instr}
 use Rattle.vax_target_lines.specs.vax_machine.specs.declared.function.Conditions.{Conditions}
 use Rattle.vax_target_lines.specs.vax_machine.specs.State.{State, with_reg, with_conditions}
 use Rattle.vax_target_lines.specs.vax_machine_lists.specs.Sound.{IsSound}
-use Rattle.vax_target_lines.specs.vax_machine_lists.specs.Instructions.{Course, Ending, Comes, Goes, Calls, Returns, Stops, ends, comes, followed, performed, exec}
+use Rattle.vax_target_lines.specs.vax_machine_lists.specs.Instructions.{Course, Ending, Comes, Goes, Calls, Returns, Stops, ends, comes, followed}
+use Rattle.vax_target_lines.specs.vax_confined.specs.Confined.{performed, exec}
 use Rattle.vax_target_lines.specs.vax_machine_lists.proofs.Soundness.{conditions_sound}
 use Rattle.vax_target_lines.specs.vax_states.proofs.Keeping.{sound_register}
 use Rattle.vax_target_lines.specs.vax_templates.specs.declared.setting.Hole.{Hole}
 use Rattle.vax_target_lines.specs.vax_templates.specs.declared.setting.Own.TheVariants as own
 use Rattle.vax_target_lines.specs.vax_templates.specs.declared.setting.Setting.{Setting}
-use Rattle.vax_target_lines.specs.vax_templates.specs.Instructions.{Instruction, Relation, Jump, Calls as CallsLine, Ret, Operates, instruction_of}
+use Rattle.vax_target_lines.specs.vax_templates.specs.Instructions.{Instruction, Ret, instruction_of}
 use Rattle.vax_target_lines.specs.vax_templates.specs.Deeds.{Last, Plain, Compared, Tested, Returning, Ended, Deed, leaves}
 use Rattle.vax_target_lines.specs.vax_templates.specs.Judging.{returned, did_behind, line_did, is_operand}
 use Rattle.vax_target_lines.specs.vax_templates.specs.Judging as judging

@@ -1,20 +1,17 @@
 -- What holes mean is kept by what touches none of them.
-use Rattle.std.proofs.Common.{◌≡◌, ℕ, ◌^◌, ◌<◌, ◌==◌, Bool, true, false, cond, List, [], Option, Some, None, refl, sym, ap, subst, ◌∙◌, arith}
-use Rattle.std.specs.Prelude.{nat_lt, nat_le, slice_get}
+use Rattle.std.proofs.Common.{◌≡◌, ℕ, ◌<◌, ◌==◌, Bool, true, false, cond, refl, ap, ◌∙◌}
+use Rattle.std.specs.Prelude.{nat_lt, nat_le}
 use Rattle.std.specs.Int.{bit_at}
-use Rattle.gg_base.specs.declared.size.Size.{Size}
 use Rattle.gg_base.specs.declared.size.Size.TheVariants.{Long}
 use Rattle.vax_target_lines.specs.tree_core.specs.declared.token.Tok.{Tok}
 use Rattle.vax_target_lines.specs.tree_core.specs.declared.token.Tok.TheVariants as tok
 use Rattle.vax_target_lines.specs.tree_core.specs.declared.tree.Att.{Att}
 use Rattle.vax_target_lines.specs.tree_core.specs.declared.tree.Att.TheVariants as att
 use Rattle.vax_target_lines.specs.tree_core.specs.declared.program.TreeProgram.{TreeProgram}
-use Rattle.vax_target_lines.specs.term_core.specs.Shape.{Shape, Symbol}
 use Rattle.vax_target_lines.specs.sel_target.specs.declared.attr.Attr.{Attr}
 use Rattle.vax_target_lines.specs.sel_target.specs.declared.attr.Attr.TheVariants as attr
 use Rattle.vax_target_lines.specs.sel_target.specs.Meaning.{RegAt}
 use Rattle.vax_target_lines.specs.sel_target.specs.Instances.{attr_touches}
-use Rattle.vax_core.specs.declared.register.Reg.{Reg}
 use Rattle.vax_core.specs.declared.operand.Operand.{Operand}
 use Rattle.vax_core.specs.Homes.{at_home}
 use Rattle.vax_core.specs.Registers.{reg_number, base_register, operand_bits}
@@ -28,7 +25,7 @@ use Rattle.vax_target_lines.specs.vax_templates.specs.Filled.{spare, numbered, a
 use Rattle.vax_target_lines.specs.vax_templates.specs.Filled.{slot_deferred, leaf_operand, operand_in, leaf_deferred, deferred_in}
 use Rattle.vax_target_lines.specs.vax_templates.proofs.Homes.{local_bits, argument_bits}
 use Rattle.vax_target_lines.specs.vax_target_meaning.specs.Vax.{vax}
-use Rattle.vax_target_lines.specs.vax_target_operands.specs.Scenes.{Scene, worth, Means, IsRegister, IsPlace, IsLocal, Names, IsNumber, IsObject, IsSavedLocal}
+use Rattle.vax_target_lines.specs.vax_target_operands.specs.Scenes.{Scene, Means}
 use Rattle.vax_target_runs.specs.Kept.{Differs}
 use Rattle.vax_target_runs.proofs.Kept.{base_untouched, index_untouched, Away, reads_same, names_same, named_same, register_same}
 

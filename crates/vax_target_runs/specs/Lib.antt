@@ -1,6 +1,8 @@
 pub mod Kept
 pub mod Runs
 pub use Rattle.vax_target_lines
+pub use Rattle.vax_target_lines.specs.vax_confined as vax_confined
+pub use Rattle.vax_target_lines.specs.vax_target_confined as vax_target_confined
 pub use Rattle.vax_target_lines.specs.vax_target_operands as vax_target_operands
 pub use Rattle.vax_target_lines.specs.vax_target_meaning as vax_target_meaning
 pub use Rattle.vax_target_lines.specs.sel_terms_meaning as sel_terms_meaning

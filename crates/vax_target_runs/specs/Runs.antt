@@ -1,5 +1,5 @@
 -- What the lines of a template do one after another.
-use Rattle.std.specs.Prelude.{◌≡◌, ◌<◌, ◌⊎◌, ℕ, Bool, true, false, List, [], ◌∷◌, map, Option, Some, None, Ok}
+use Rattle.std.specs.Prelude.{◌≡◌, ◌<◌, ◌⊎◌, ℕ, true, false, List, map, Option, Some, None, Ok}
 use Rattle.std.specs.List.{AllByRecursion}
 use Rattle.vax_target_lines.specs.md_reader_pieces.specs.declared.piece.Line.{Line}
 use Rattle.vax_target_lines.specs.term_core.specs.Shape.{Shape}
@@ -8,17 +8,17 @@ use Rattle.vax_target_lines.specs.sel_target.specs.Meaning.{RegAt}
 use Rattle.vax_target_lines.specs.sel_target.specs.Instances.{attr_touches}
 use Rattle.vax_core.specs.Registers.{reg_number}
 use Rattle.vax_core.specs.declared.code.Instr.{Instr}
-use Rattle.vax_target_lines.specs.vax_machine.specs.declared.turn.Stop.TheVariants.{Trapped}
 use Rattle.vax_target_lines.specs.vax_machine.specs.State.{State}
-use Rattle.vax_target_lines.specs.vax_machine_lists.specs.Instructions.{Course, Stops, ends, comes, exec}
+use Rattle.vax_target_lines.specs.vax_machine_lists.specs.Instructions.{Course, comes}
+use Rattle.vax_target_lines.specs.vax_confined.specs.Confined.{exec}
 use Rattle.vax_target_lines.specs.vax_templates.specs.declared.setting.Own.TheVariants as own
-use Rattle.vax_target_lines.specs.vax_templates.specs.Deeds.{Last, Plain, Returning, Ended}
+use Rattle.vax_target_lines.specs.vax_templates.specs.Deeds.{Last, Returning, Ended}
 use Rattle.vax_target_lines.specs.vax_templates.specs.Judging.{is_operand}
 use Rattle.vax_target_lines.specs.vax_templates.specs.Progress.{Progress, start, lines_judged}
 use Rattle.vax_target_lines.specs.vax_templates.specs.Filled.{register_in}
 use Rattle.vax_target_lines.specs.vax_templates.specs.FilledLines.{filled_line}
 use Rattle.vax_target_lines.specs.vax_target_meaning.specs.Vax.{vax}
-use Rattle.vax_target_lines.specs.vax_target_operands.specs.Scenes.{Scene, worth, role_at, filling_at, Sees}
+use Rattle.vax_target_lines.specs.vax_target_operands.specs.Scenes.{Scene, role_at, filling_at, Sees}
 use Rattle.vax_target_lines.specs.Takings.{AreRead}
 use Rattle.vax_target_lines.specs.Lines.{CodesMean, ZeroHolds, DoesDeed, MayHold, MayEnd, EndIsRead, NoneIsZero}
 use Rattle.vax_target_runs.specs.Kept.{Differs}

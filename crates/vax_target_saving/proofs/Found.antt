@@ -10,7 +10,7 @@ use Rattle.vax_target_spelling.specs.sel_target.specs.declared.fault.TemplateKin
 use Rattle.vax_target_spelling.specs.vax_templates.specs.declared.setting.Hole.{Hole}
 use Rattle.vax_target_spelling.specs.vax_templates.specs.declared.setting.Setting.{Setting}
 use Rattle.vax_target_spelling.specs.vax_templates.specs.Standing.{◌>>=◌}
-use Rattle.vax_target_spelling.specs.vax_templates.specs.Deeds.{Last, Plain, Compared, Tested, Returning, Ended, Deed}
+use Rattle.vax_target_spelling.specs.vax_templates.specs.Deeds.{Last, Plain, Ended, Deed}
 use Rattle.vax_target_spelling.specs.vax_templates.specs.Judging.{line_did}
 use Rattle.vax_target_spelling.specs.vax_templates.specs.Progress.{Progress, start, kept_or_put, at_line, kept, progressed}
 use Rattle.vax_target_spelling.specs.vax_templates.specs.GiveLines.{left_value, last_deed, given_line}

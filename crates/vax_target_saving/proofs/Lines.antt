@@ -1,5 +1,5 @@
 -- A line that was checked to save stores what it saves in its slot.
-use Rattle.std.proofs.Common.{◌≡◌, inl, inr, ℕ, true, false, cond, Some, None, Result, Ok, List, [], ◌∷◌, sym, ap, subst, ◌∙◌}
+use Rattle.std.proofs.Common.{◌≡◌, ◌<◌, inl, inr, ℕ, true, false, cond, Some, None, Result, Ok, List, [], ◌∷◌, sym, ap, subst, ◌∙◌}
 use Rattle.std.specs.List.{AllByRecursion}
 use Rattle.std.proofs.lemmas.Option.{same_Some}
 use Rattle.gg_base.specs.declared.size.Size.{Size}
@@ -24,7 +24,8 @@ use Rattle.vax_machine.specs.declared.operands.Location.{Location}
 use Rattle.vax_machine.specs.declared.operands.Location.TheVariants as locations
 use Rattle.vax_machine.specs.State.{State, reg, with_conditions, ◌>>=◌}
 use Rattle.vax_machine.specs.Operands.{located}
-use Rattle.vax_target_spelling.specs.vax_machine_lists.specs.Instructions.{Course, course_of, followed, performed, exec}
+use Rattle.vax_target_spelling.specs.vax_machine_lists.specs.Instructions.{Course, course_of, followed}
+use Rattle.vax_target_runs.specs.vax_confined.specs.Confined.{is_own_place, performed, exec}
 use Rattle.vax_target_spelling.specs.vax_states.specs.Stack.{word_of}
 use Rattle.vax_target_spelling.specs.vax_templates.specs.Settings.{saved_hole, saved_setting, is_reload}
 use Rattle.vax_target_spelling.specs.vax_templates.specs.Deeds.{Last, Plain, Ended}
@@ -33,7 +34,8 @@ use Rattle.vax_target_spelling.specs.vax_target_meaning.specs.Reading.{displaced
 use Rattle.vax_target_spelling.specs.vax_target_meaning.specs.Running as running
 use Rattle.vax_target_spelling.specs.vax_target_meaning.specs.Vax.{vax}
 use Rattle.vax_target_runs.specs.vax_target_operands.specs.Scenes.{Scene, worth, Sees}
-use Rattle.vax_target_runs.specs.vax_target_operands.specs.Places.{StandsAt}
+use Rattle.vax_target_runs.specs.vax_target_confined.specs.Claims.{StandsAt}
+use Rattle.vax_target_runs.specs.vax_target_confined.proofs.Reading.{home_is_own, own_touched}
 use Rattle.vax_target_runs.specs.vax_target_lines.specs.Lines.{IsStored, putting, DoesDeed, DoesLine, terms_of_last}
 use Rattle.vax_target_runs.specs.vax_target_lines.proofs.Performing.{lines_do}
 use Rattle.vax_target_saving.specs.Laws.{with_word}
@@ -50,7 +52,7 @@ slot_stands : (m : State) (w : ℕ) (size : Size) (l : Location) → IsFrameWord
 unfolding located
 slot_stands m w size l f s =
     let found : (locations.Memory (displaced m Fp (word_addr w)), m) ≡ (s.base, m) =
-    ok_same {E = Stop} (locations.Memory (displaced m Fp (word_addr w)), m) (s.base, m) s.found in
+    ok_same {E = Stop} (locations.Memory (displaced m Fp (word_addr w)), m) (s.base, m) s.finds in
     sym s.is ∙ (sym (ap (λ (x : Location × State). x.0) found) ∙ ap locations.Memory (slot_address m w f))
 
 -- and the address that it names
@@ -71,7 +73,7 @@ pub record Stored (q : TreeProgram) (l : Line) (a : Attr Operand) (w : ℕ) (siz
 pub one_line : (i : Instr) (m n : State) → performed i m ≡ course_of (Ok (None, n)) → vax.run (i ∷ []) m ≡ courses.comes n
 one_line i m n e = ap (λ (c : Course). running.course_of (followed c [] (exec []))) e
 
-module _ (q : TreeProgram) (k : Kind) (a : Attr Operand) (w : ℕ) (v : View) (m : State) (f : IsFrameWord m w) where
+module _ (q : TreeProgram) (k : Kind) (a : Attr Operand) (w : ℕ) (v : View) (m : State) (f : IsFrameWord m w) (low : w < 1024) where
   abbrev the : Scene
   the = scene q k a (attr.Place (home w)) v
 
@@ -84,7 +86,8 @@ module _ (q : TreeProgram) (k : Kind) (a : Attr Operand) (w : ℕ) (v : View) (m
   stores size t l p = record {
     conditions = p.conditions;
     ran = one_line (vax.instr q l (a ∷ []) (attr.Place (home w))) m (with_word m w size (value v t) p.conditions)
-        (p.is ∙ (ap (λ (x : Location). putting m x size (value v t) p.conditions) (place_is size p.place p.there) ∙ puts m w size (value v t) p.conditions f));
+        (p.is (own_touched m (is_own_place (home w)) p.place size (home_is_own w low))
+        ∙ (ap (λ (x : Location). putting m x size (value v t) p.conditions) (place_is size p.place p.there) ∙ puts m w size (value v t) p.conditions f));
   }
 
   found_so : is_reload k ≡ false → (l : Line) (e : EffectShape) → saved_found k l ≡ Ok e → StatementFound (saved_setting k) (saved_hole k ∷ []) l e

@@ -6,7 +6,7 @@ use Rattle.md_reader_pieces.specs.declared.piece.Line.{Line}
 use Rattle.vax_target_spelling.specs.md_reader.specs.declared.types.Kind.TheVariants as kind
 use Rattle.term_core.specs.Shape.{Shape, Symbol}
 use Rattle.term_core.proofs.Values.{small}
-use Rattle.vax_target_spelling.specs.sel_terms.specs.Effects.{EffectShape, Value}
+use Rattle.vax_target_spelling.specs.sel_terms.specs.Effects.{EffectShape}
 use Rattle.vax_target_spelling.specs.sel_terms.proofs.Facts.{same_Value}
 use Rattle.vax_target_spelling.specs.sel_target.specs.declared.attr.Attr.TheVariants as attr
 use Rattle.vax_target_spelling.specs.sel_target.specs.Values.{value, term_state, IsRead}
@@ -14,7 +14,7 @@ use Rattle.vax_core.specs.Homes.{home}
 use Rattle.vax_core.specs.Registers.{reg_number}
 use Rattle.vax_machine.specs.declared.function.Conditions.{Conditions}
 use Rattle.vax_machine.specs.State.{State, with_reg, with_conditions}
-use Rattle.vax_target_spelling.specs.vax_machine_lists.specs.Instructions.{performed}
+use Rattle.vax_target_runs.specs.vax_confined.specs.Confined.{performed}
 use Rattle.vax_target_spelling.specs.vax_machine_lists.specs.Sound.{IsSound}
 use Rattle.vax_target_spelling.specs.vax_machine_lists.proofs.Soundness.{conditions_sound}
 use Rattle.vax_target_spelling.specs.vax_states.proofs.Keeping.{sound_register}
@@ -27,6 +27,7 @@ use Rattle.vax_target_spelling.specs.vax_target_meaning.specs.Vax.{vax}
 use Rattle.vax_target_runs.specs.vax_target_operands.specs.Scenes.{worth}
 use Rattle.vax_target_runs.specs.vax_target_lines.specs.Lines.{DoesLine, terms_of_last}
 use Rattle.vax_target_runs.specs.vax_target_lines.proofs.Performing.{lines_do, number_is}
+use Rattle.vax_target_runs.specs.vax_target_confined.proofs.Reading.{register_reads}
 use Rattle.vax_target_runs.specs.Kept.{Differs}
 use Rattle.vax_target_runs.proofs.Kept.{registers_are_kept}
 use Rattle.vax_target_saving.specs.Laws.{LinesReload}
@@ -51,7 +52,9 @@ module _ (m : State) (r x : ℕ) (k : Conditions) (low : r < 12) (fits : x < 2 ^
   }
 
   there : vax.reads (vax.register r) Long (reloaded m r x k) ≡ Some x
-  there = ap Some (get_or-set_same m.registers (reg_number (numbered r)) x 0 (omega (arith, number_is r low, low, sound.registers)))
+  there =
+      register_reads r low Long (reloaded m r x k)
+      ∙ ap Some (get_or-set_same m.registers (reg_number (numbered r)) x 0 (omega (arith, number_is r low, low, sound.registers)))
 
 found_so : (l : Line) (e : EffectShape) → saved_found kind.Reg l ≡ Ok e → ResultFound (saved_setting kind.Reg) (hole_kind.Value Long ∷ []) l e
 unfolding saved_found

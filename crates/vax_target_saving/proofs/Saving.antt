@@ -70,17 +70,20 @@ pub lines_save : LinesSave
 lines_save = record {
   values = λ q f fs size l s a w n v m is set slot e lt.
       sets q f fs v n s.term m set w slot size l a
-      (line_stores q (kind.Value size) a w v m (frame q f fs v n s.term m set w slot) refl l s.effect size s.term
-      (sees q (kind.Value size) a (attr.Place (vax.slot w)) v m (value_means q size a (attr.Place (vax.slot w)) n v m is set.symbol e lt) f fs set.agrees (record { word = w; is = refl }))
+      (line_stores q (kind.Value size) a w v m (frame q f fs v n s.term m set w slot) slot.low refl l s.effect size s.term
+      (sees q (kind.Value size) a (attr.Place (vax.slot w)) v m (value_means q size a (attr.Place (vax.slot w)) n v m is set.symbol e lt) f fs set.agrees
+      (record { word = w; low = slot.low; is = refl }))
       s.taken s.act s.undivided set.read);
   places = λ q f fs size l s o w n v m fit set slot e lt.
       sets_name q f fs v n s.term m set w slot l (attr.Place o)
-      (line_stores q (kind.Place size) (attr.Place o) w v m (frame q f fs v n s.term m set w slot) refl l s.effect Long s.term
-      (sees q (kind.Place size) (attr.Place o) (attr.Place (vax.slot w)) v m (place_means q size o (attr.Place (vax.slot w)) n v m set.symbol e lt) f fs set.agrees (record { word = w; is = refl }))
+      (line_stores q (kind.Place size) (attr.Place o) w v m (frame q f fs v n s.term m set w slot) slot.low refl l s.effect Long s.term
+      (sees q (kind.Place size) (attr.Place o) (attr.Place (vax.slot w)) v m (place_means q size o (attr.Place (vax.slot w)) n v m set.symbol e lt) f fs set.agrees
+      (record { word = w; low = slot.low; is = refl }))
       s.taken s.act s.undivided set.read);
   addresses = λ q f fs l s o w n v m fit set slot e lt.
       sets_name q f fs v n s.term m set w slot l (attr.Ea o)
-      (line_stores q kind.Ea (attr.Ea o) w v m (frame q f fs v n s.term m set w slot) refl l s.effect Long s.term
-      (sees q kind.Ea (attr.Ea o) (attr.Place (vax.slot w)) v m (address_means q o (attr.Place (vax.slot w)) n v m fit set.symbol e lt) f fs set.agrees (record { word = w; is = refl }))
+      (line_stores q kind.Ea (attr.Ea o) w v m (frame q f fs v n s.term m set w slot) slot.low refl l s.effect Long s.term
+      (sees q kind.Ea (attr.Ea o) (attr.Place (vax.slot w)) v m (address_means q o (attr.Place (vax.slot w)) n v m fit set.symbol e lt) f fs set.agrees
+      (record { word = w; low = slot.low; is = refl }))
       s.taken s.act s.undivided set.read);
 }

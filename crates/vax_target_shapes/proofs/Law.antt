@@ -15,8 +15,8 @@ use Rattle.vax_core.specs.declared.operand.Operand.{Operand}
 use Rattle.vax_target_reading.specs.vax_machine.specs.State.{State}
 use Rattle.vax_templates.specs.declared.form.Base.{Base}
 use Rattle.vax_templates.specs.declared.form.Form.{Form}
-use Rattle.vax_templates.specs.Standing.{Where, Immediate, Register, OwnRegister, RegisterZero, Value, Place, Local}
-use Rattle.vax_templates.specs.Standing.{SavedPlace, Saved, At, form_where, ◌>>=◌}
+use Rattle.vax_templates.specs.Standing.{Where, Place, Local}
+use Rattle.vax_templates.specs.Standing.{At, form_where, ◌>>=◌}
 use Rattle.vax_templates.specs.Taking.{fetched}
 use Rattle.vax_templates.specs.GiveLines.{value_given, home_given, place_given, address_given, without_index}
 use Rattle.vax_templates.specs.GiveLines.{shape_given}

@@ -43,6 +43,7 @@ use Rattle.vax_templates.specs.Filled.{alone, numbered, addr_in, addr_number, nu
 use Rattle.vax_templates.specs.Giving.{truncated}
 use Rattle.vax_target_operands.specs.vax_target_meaning.specs.Reading as reading
 use Rattle.vax_target_operands.specs.vax_target_meaning.specs.Reading.{longword, is_own_place, number_at, names, reads}
+use Rattle.vax_target_operands.specs.vax_target_confined.proofs.Reading.{register_reads}
 use Rattle.vax_target_operands.specs.Scenes.{Scene, worth, role_at, filling_at, Means, Sees}
 use Rattle.vax_target_operands.specs.Places.{BaseIsShort}
 use Rattle.vax_target_operands.proofs.Binds.{chained}
@@ -84,7 +85,8 @@ module _ (c : Scene) (m : State) (h : Sees c None m) where
   hole_reads : (r : Hole) (i : ℕ) (size : Size) (w : Where) → Means c m r i (filling_at c i) → where_hole r i ≡ Ok w → Reads w (operand_in c.program (filling_at c i)) size
   hole_reads hole_kind.Register i size w k e =
       subst (λ y. Reads y (operand_in c.program (filling_at c i)) size) (ok_same (Register (Symbol i)) w e)
-      (subst (λ a. reads (operand_in c.program a) size m ≡ Some (worth c (truncated size (Symbol i)))) (sym k.is) (ap Some (cut_is c size (Symbol i) (reg m (numbered k.number)) k.holds)))
+      (subst (λ a. reads (operand_in c.program a) size m ≡ Some (worth c (truncated size (Symbol i)))) (sym k.is)
+      (register_reads k.number k.low size m ∙ ap Some (cut_is c size (Symbol i) (reg m (numbered k.number)) k.holds)))
   hole_reads (hole_kind.Value z) i size w k e =
       subst (λ y. Reads y (operand_in c.program (filling_at c i)) size) (ok_same (Value z i) w e)
       (λ same. subst (λ y. reads (operand_in c.program (filling_at c i)) y m ≡ Some (worth c (Symbol i))) same k)

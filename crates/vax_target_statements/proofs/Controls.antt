@@ -35,7 +35,8 @@ use Rattle.vax_core.specs.declared.op.Op.TheVariants as ops
 use Rattle.vax_core.specs.declared.operand.Operand.{Operand}
 use Rattle.vax_machine.specs.Functions.{passes}
 use Rattle.vax_machine.specs.State.{State}
-use Rattle.vax_target_rules.specs.vax_machine_lists.specs.Instructions.{Course, Goes, ends, branching, performed}
+use Rattle.vax_target_rules.specs.vax_machine_lists.specs.Instructions.{Course, Goes, ends, branching}
+use Rattle.vax_target_rules.specs.vax_confined.specs.Confined.{performed}
 use Rattle.vax_target_rules.specs.vax_templates.specs.Settings.{is_signed}
 use Rattle.vax_target_rules.specs.vax_templates.specs.FilledLines.{op_of_relation, op_of_att, op_in, label_of_att, label_in, label_among, branch_to}
 use Rattle.vax_target_rules.specs.vax_target_meaning.specs.Running.{course_of}

@@ -1,10 +1,13 @@
 -- The last line of a statement does the deed of its act.
-use Rattle.std.proofs.Common.{◌≡◌, ℕ, zero, suc, List, Option, Some, None, Result, Ok, refl, sym, ap, subst, ◌∙◌}
+use Rattle.std.proofs.Common.{◌≡◌, ℕ, zero, suc, ◌-◌, true, false, List, Option, Some, None, Result, Ok, refl, sym, ap, subst, ◌∙◌}
 use Rattle.std.specs.Prelude.{unwrap_or}
+use Rattle.std.proofs.lemmas.Option.{cond_some}
+use Rattle.gg_base.specs.declared.limits.TheConstants.{AREA_START}
 use Rattle.gg_base.specs.declared.size.Size.{Size}
 use Rattle.gg_base.specs.declared.size.Size.TheVariants.{Long}
+use Rattle.gg_base.specs.LittleEndian.{with_number}
 use Rattle.tree_core.specs.declared.program.TreeProgram.{TreeProgram}
-use Rattle.tree_core.specs.Area.{stored}
+use Rattle.tree_core.specs.Area.{is_inside, stored}
 use Rattle.tree_meaning.specs.State.{State as Trees, Extent}
 use Rattle.tree_meaning.specs.Steps as steps
 use Rattle.tree_meaning.specs.Steps.{Step, deed_step, put_in, with_argument_set}
@@ -31,7 +34,8 @@ use Rattle.vax_machine.specs.Operands.{put}
 use Rattle.vax_machine.specs.Functions.{valued}
 use Rattle.vax_machine.specs.Step.{pushing}
 use Rattle.vax_target_rules.specs.vax_machine_lists.specs.Instructions as lists
-use Rattle.vax_target_rules.specs.vax_machine_lists.specs.Instructions.{Course, exec}
+use Rattle.vax_target_rules.specs.vax_machine_lists.specs.Instructions.{Course}
+use Rattle.vax_target_rules.specs.vax_confined.specs.Confined.{in_area, may_touch}
 use Rattle.vax_target_rules.specs.vax_states.proofs.Standing.{area_written_so, push_written}
 use Rattle.vax_target_rules.specs.vax_target_meaning.specs.Running.{course_of}
 use Rattle.vax_target_rules.specs.vax_target_meaning.specs.Vax.{vax, stands}
@@ -68,13 +72,15 @@ module _ (q : TreeProgram) (f : Extent) (fs : List Extent) (classes : List Class
     record { agrees = codes_agree q f fs t s k stand; live = frames },
   )
 
-  -- a number in the data area
-  pub area_goes : (n : State) (a : ℕ) (size : Size) (x : ℕ) (k : Conditions) (d : Course) → stands q f fs v.state n → n.frames ≡ m.frames → d ≡ putting n (locations.Memory a) size x k →
+  -- a number in the data area, and elsewhere the trees don't go on
+  pub area_goes : (n : State) (a : ℕ) (size : Size) (x : ℕ) (k : Conditions) (d : Course) → stands q f fs v.state n → n.frames ≡ m.frames
+      → (in_area n a size ≡ true → d ≡ putting n (locations.Memory a) size x k) →
       (o : Option (List ℕ)) → stored size v.state.area a x ≡ o → Steps d (put_in v.state o)
   area_goes n a size x k d stand frames is None e' = tt
   area_goes n a size x k d stand frames is (Some area) e' =
       let w = area_written_so q.objects _ _ v.state n stand size a x area e' in
-      goes n (record n { area = area }) (locations.Memory a) size x k d (record v.state { area = area }) is w.0 w.1 frames
+      let inside = (cond_some (is_inside size v.state.area a) (with_number size v.state.area (a - AREA_START) x) area e').0 in
+      goes n (record n { area = area }) (locations.Memory a) size x k d (record v.state { area = area }) (is (ap (λ l. is_inside size l a) stand.area ∙ inside)) w.0 w.1 frames
 
   module _ (a : ActShape) (x : EndsIn S m a D) where
     abbrev n : State
@@ -86,12 +92,13 @@ module _ (q : TreeProgram) (f : Extent) (fs : List Extent) (classes : List Class
     frames : n.frames ≡ m.frames
     frames = live_there q f fs classes rule e hs res v m ready a x
 
-    pub at_goes : (size : Size) (address t : Shape) (g : Place) (y : ℕ) → Puts S n size (worth S t) (λ l. l ≡ locations.Memory (worth S address)) D →
+    pub at_goes : (size : Size) (address t : Shape) (g : Place) (y : ℕ) → Puts S n false size (worth S t) (λ l. l ≡ locations.Memory (worth S address)) D →
         g ≡ meaning.Memory size (value v address) → value v t ≡ y → Steps D (deed_step q v.state (PutsDeed g y))
     at_goes size address t g y p is worth_so =
         subst (λ z. Steps D (deed_step q v.state (PutsDeed z y))) (sym is)
         (subst (λ z. Steps D (deed_step q v.state (PutsDeed (meaning.Memory size (value v address)) z))) worth_so
-        (area_goes n (worth S address) size (worth S t) p.conditions D agrees frames (p.is ∙ ap (λ l. putting n l size (worth S t) p.conditions) p.there)
+        (area_goes n (worth S address) size (worth S t) p.conditions D agrees frames
+        (λ inside. p.is (ap (λ l. may_touch n false l size) p.there ∙ inside) ∙ ap (λ l. putting n l size (worth S t) p.conditions) p.there)
         (stored size v.state.area (worth S address) (worth S t)) refl))
 
     pub pushes : (t : Shape) (y : ℕ) → D ≡ lists.course_of (pushing n (worth S t)) → value v t ≡ y → Steps D (deed_step q v.state (Pushes y))

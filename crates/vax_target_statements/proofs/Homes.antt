@@ -1,5 +1,5 @@
 -- A statement that stores in a symbol's own place.
-use Rattle.std.proofs.Common.{◌≡◌, ℕ, zero, suc, ◌+◌, ◌-◌, ◌*◌, ◌<◌, ◌==◌, ◌⊎◌, inl, inr, false, cond, List, length, Option, Some, None, Ok, refl, sym, ap, subst, ◌∙◌, arith}
+use Rattle.std.proofs.Common.{◌≡◌, ℕ, zero, suc, ◌+◌, ◌-◌, ◌*◌, ◌<◌, ◌==◌, ◌⊎◌, inl, inr, Bool, true, false, cond, List, length, Option, Some, None, Ok, refl, sym, ap, subst, ◌∙◌, arith}
 use Rattle.std.specs.Prelude.{slice_get, slice_set}
 use Rattle.std.specs.Int.{bit_at}
 use Rattle.std.proofs.lemmas.Bool.{lt-ltb, le-leb}
@@ -37,6 +37,7 @@ use Rattle.vax_core.specs.Registers.{reg_number, operand_bits}
 use Rattle.vax_machine.specs.declared.operands.Location.TheVariants as locations
 use Rattle.vax_machine.specs.State.{State, reg}
 use Rattle.vax_target_rules.specs.vax_machine_lists.specs.Instructions.{Course}
+use Rattle.vax_target_rules.specs.vax_confined.specs.Confined.{is_own_place, may_touch, in_area}
 use Rattle.vax_target_rules.specs.vax_states.specs.Stack.{word_of, argument_of}
 use Rattle.vax_target_rules.specs.vax_states.proofs.Standing.{local_written, argument_written, high_top}
 use Rattle.vax_target_rules.specs.vax_states.proofs.Keeping.{reg_small}
@@ -48,7 +49,10 @@ use Rattle.vax_target_rules.specs.vax_templates.specs.Filled.{spare, word_operan
 use Rattle.vax_target_rules.specs.vax_target_meaning.specs.Reading.{names, displaced}
 use Rattle.vax_target_rules.specs.vax_target_meaning.specs.Vax.{vax, stands}
 use Rattle.vax_target_rules.specs.vax_target_meaning.proofs.Own.{attr_alone}
+use Rattle.vax_target_rules.specs.vax_target_confined.proofs.Reading.{home_is_own, argument_is_own, own_touched}
 use Rattle.vax_target_rules.specs.vax_target_operands.specs.Scenes.{Scene, worth, filling_at}
+use Rattle.vax_target_rules.specs.vax_target_operands.proofs.Holes.{may_or}
+use Rattle.vax_target_rules.specs.vax_target_operands.specs.Places.{own_at}
 use Rattle.vax_target_rules.specs.vax_target_lines.specs.Lines.{MayHold, IsStored, putting, Puts}
 use Rattle.vax_target_rules.specs.vax_target_lines.proofs.Performing.{number_is}
 use Rattle.vax_target_rules.specs.vax_target_runs.specs.Runs.{OwnChanged, ZeroChanged, Changed, IsReturn, EndsIn}
@@ -163,38 +167,51 @@ module _ (q : TreeProgram) (f : Extent) (fs : List Extent) (classes : List Class
       let b = agrees.running.end in
       sym (same_Some (add32 (4 * (k + 1)) (reg n Ap)) address is) ∙ (let same : add32 (4 * (k + 1)) (reg n Ap) ≡ argument_of (reg n Ap) (k + 1) = omega (arith, a, b, end, lt) in same)
 
-  local_goes : (k address : ℕ) (t : Shape) (p : Puts S n Long (worth S t) (λ l. l ≡ locations.Memory address) D) → k < f.locals → address ≡ word_of (reg n Fp) k →
+  local_goes : (mine : Bool) (k address : ℕ) (t : Shape) (p : Puts S n mine Long (worth S t) (λ l. l ≡ locations.Memory address) D) → mine ≡ true → k < f.locals → address ≡ word_of (reg n Fp) k →
       G (steps.Goes (steps.with_local_set v.state k (worth S t)))
-  local_goes k address t p lt is =
+  local_goes mine k address t p owned lt is =
       let w = local_written q.objects _ _ v.state n agrees k (worth S t) lt (small (term_state v) t) in
       goes q f fs classes rule e hs res v m ready n _ (locations.Memory (word_of (reg n Fp) k)) Long (worth S t) p.conditions D (steps.with_local_set v.state k (worth S t))
-      (p.is ∙ ap (λ l. putting n l Long (worth S t) p.conditions) (p.there ∙ ap locations.Memory is)) w.0 w.1 frames
+      (p.is (own_touched n mine p.place Long owned) ∙ ap (λ l. putting n l Long (worth S t) p.conditions) (p.there ∙ ap locations.Memory is)) w.0 w.1 frames
 
-  argument_goes : (k address : ℕ) (t : Shape) (p : Puts S n Long (worth S t) (λ l. l ≡ locations.Memory address) D) → k < length v.state.running.arguments → address ≡ argument_of (reg n Ap) (k + 1) →
-      G (steps.Goes (steps.with_argument_set v.state (k + 1) (worth S t)))
-  argument_goes k address t p lt is =
+  argument_goes : (mine : Bool) (k address : ℕ) (t : Shape) (p : Puts S n mine Long (worth S t) (λ l. l ≡ locations.Memory address) D) → mine ≡ true → k < length v.state.running.arguments →
+      address ≡ argument_of (reg n Ap) (k + 1) → G (steps.Goes (steps.with_argument_set v.state (k + 1) (worth S t)))
+  argument_goes mine k address t p owned lt is =
       let w = argument_written q.objects _ _ v.state n agrees k (worth S t) lt (small (term_state v) t) in
       let back : k ≡ k + 1 - 1 = omega arith in
       let stacked : State = record n { stack = with_number Long n.stack (argument_of agrees.innermost.ap (k + 1) - 2139095040) (worth S t) } in
       goes q f fs classes rule e hs res v m ready n stacked (locations.Memory (argument_of (reg n Ap) (k + 1))) Long (worth S t) p.conditions D (steps.with_argument_set v.state (k + 1) (worth S t))
-      (p.is ∙ ap (λ l. putting n l Long (worth S t) p.conditions) (p.there ∙ ap locations.Memory is)) w.0
+      (p.is (own_touched n mine p.place Long owned) ∙ ap (λ l. putting n l Long (worth S t) p.conditions) (p.there ∙ ap locations.Memory is)) w.0
       (subst (λ j. stands q f fs (record v.state { running = record v.state.running { arguments = slice_set v.state.running.arguments j (worth S t) } }) stacked) back w.1) frames
 
-  place_goes : (i : ℕ) (size : Size) (t : Shape) (h : Attr Operand) (o : Operand) (g : Place) (address : ℕ) (p : Puts S n size (worth S t) (λ l. l ≡ locations.Memory address) D) →
+  local_owned : (k : ℕ) → k < 1024 → is_own_place (word_operand k) ≡ true
+  local_owned k lt = ap (λ b. is_own_place (cond b (home k) spare)) (lt-ltb k 1024 lt) ∙ home_is_own k lt
+
+  argument_owned : (k : ℕ) → k < length v.state.running.arguments → is_own_place (slot_operand tok.Arg (k + 1)) ≡ true
+  argument_owned k lt =
+      let few = agrees.running.few in
+      ap (λ b. is_own_place (cond b (argument_home (k + 1)) spare)) (le-leb (k + 1) 255 (omega (arith, few, lt))) ∙ argument_is_own k (omega (arith, few, lt))
+
+  place_goes : (i : ℕ) (size : Size) (t : Shape) (h : Attr Operand) (o : Operand) (g : Place) (address : ℕ)
+      (p : Puts S n (is_own_place o) size (worth S t) (λ l. l ≡ locations.Memory address) D) →
       hole hs i ≡ Some h → own_operand vax h ≡ Some o → names o size n ≡ Some address → PlaceIs vax f v.state m size o g → G (deed_step q v.state (PutsDeed g (worth S t)))
   place_goes i size t h o g address p at is named (is_local k long same lt below_) =
-      local_goes k address t (subst (λ z. Puts S n z (worth S t) (λ l. l ≡ locations.Memory address) D) long p) lt
+      local_goes (is_own_place o) k address t (subst (λ z. Puts S n (is_own_place o) z (worth S t) (λ l. l ≡ locations.Memory address) D) long p)
+      (ap is_own_place same ∙ local_owned k below_) lt
       (home_address k address below_ (subst (λ z. names (word_operand k) z n ≡ Some address) long (subst (λ y. names y size n ≡ Some address) same named)))
-  place_goes i size t h o g address p at is named (is_argument k long same lt) =
-      argument_goes k address t (subst (λ z. Puts S n z (worth S t) (λ l. l ≡ locations.Memory address) D) long p) lt
+  place_goes i size t h o g address p at is named (is_argument k long same lt numbered) =
+      argument_goes (is_own_place o) k address t (subst (λ z. Puts S n (is_own_place o) z (worth S t) (λ l. l ≡ locations.Memory address) D) long p)
+      (ap is_own_place same ∙ argument_owned k lt) lt
       (argument_address k address lt (subst (λ z. names (slot_operand tok.Arg (k + 1)) z n ≡ Some address) long (subst (λ y. names y size n ≡ Some address) same named)))
   place_goes i size t h o g address p at is named (is_memory a there) =
       let same = same_Some address a (sym named ∙ same_names i h o size at is ∙ there) in
+      let place = p.there ∙ ap locations.Memory same in
       area_goes q f fs classes rule e hs res v m ready n a size (worth S t) p.conditions D agrees frames
-      (p.is ∙ ap (λ l. putting n l size (worth S t) p.conditions) (p.there ∙ ap locations.Memory same))
+      (λ inside. p.is (ap (λ l. may_touch n (is_own_place o) l size) place ∙ may_or (is_own_place o) (in_area n a size) inside)
+      ∙ ap (λ l. putting n l size (worth S t) p.conditions) place)
       (stored size v.state.area a (worth S t)) refl
 
-  pub home_goes : (size : Size) (i : ℕ) (t : Shape) (g : Place) (y : ℕ) → Puts S n size (worth S t) (IsStored S n size i) D → HomeIs vax f v.state m hs i size g → value v t ≡ y →
+  pub home_goes : (size : Size) (i : ℕ) (t : Shape) (g : Place) (y : ℕ) → Puts S n (own_at S i) size (worth S t) (IsStored S n size i) D → HomeIs vax f v.state m hs i size g → value v t ≡ y →
       G (deed_step q v.state (PutsDeed g y))
   home_goes size i t g y p home_is worth_so = subst (λ z. G (deed_step q v.state (PutsDeed g z))) worth_so (by p.there) where
     by : IsStored S n size i p.place → G (deed_step q v.state (PutsDeed g (worth S t)))
@@ -202,5 +219,6 @@ module _ (q : TreeProgram) (f : Extent) (fs : List Extent) (classes : List Class
     by (inr h) =
         let o : operand_in q (filling_at S i) ≡ home_is.operand_is = ap (operand_in q) (filled_hole S i home_is.attribute home_is.at) ∙ attr_alone q home_is.attribute home_is.operand_is home_is.own in
         place_goes i size t home_is.attribute home_is.operand_is g h.address
-        (record { place = p.place; conditions = p.conditions; there = h.is; is = p.is })
+        (subst (λ b. Puts S n b size (worth S t) (λ l. l ≡ locations.Memory h.address) D) (ap is_own_place o)
+        (record { place = p.place; conditions = p.conditions; there = h.is; is = p.is }))
         home_is.at home_is.own (subst (λ z. names z size n ≡ Some h.address) o h.named_so) home_is.place

@@ -23,7 +23,8 @@ use Rattle.vax_target_rules.specs.sel_target.specs.Instances.{Ready}
 use Rattle.vax_core.specs.declared.operand.Operand.{Operand}
 use Rattle.vax_machine.specs.declared.function.Conditions.{Conditions}
 use Rattle.vax_machine.specs.State.{State, with_conditions}
-use Rattle.vax_target_rules.specs.vax_machine_lists.specs.Instructions.{Course, exec}
+use Rattle.vax_target_rules.specs.vax_machine_lists.specs.Instructions.{Course}
+use Rattle.vax_target_rules.specs.vax_confined.specs.Confined.{exec}
 use Rattle.vax_target_rules.specs.vax_machine_lists.proofs.Soundness.{conditions_sound}
 use Rattle.vax_target_rules.specs.vax_states.specs.Agreeing.{HasRoom}
 use Rattle.vax_target_rules.specs.vax_templates.specs.declared.form.Base.{Base}
@@ -33,8 +34,8 @@ use Rattle.vax_target_rules.specs.vax_templates.specs.declared.setting.Hole.{Hol
 use Rattle.vax_target_rules.specs.vax_templates.specs.declared.setting.Setting.{Setting}
 use Rattle.vax_target_rules.specs.vax_templates.specs.Settings.{holes_of, setting_of, hole_at}
 use Rattle.vax_target_rules.specs.vax_templates.specs.Instructions.{shape_of_pieces}
-use Rattle.vax_target_rules.specs.vax_templates.specs.Standing.{Where, Immediate, Register, OwnRegister, RegisterZero, Value as ValueAt}
-use Rattle.vax_target_rules.specs.vax_templates.specs.Standing.{Place, Local, SavedPlace, Saved, At, form_where, ◌>>=◌}
+use Rattle.vax_target_rules.specs.vax_templates.specs.Standing.{Where, Register}
+use Rattle.vax_target_rules.specs.vax_templates.specs.Standing.{Place, Local, At, form_where, ◌>>=◌}
 use Rattle.vax_target_rules.specs.vax_templates.specs.HoleTerms.{constant_of}
 use Rattle.vax_target_rules.specs.vax_templates.specs.Taking.{fetched}
 use Rattle.vax_target_rules.specs.vax_templates.specs.Deeds.{Last, Plain, Compared, Tested, Returning, Ended}

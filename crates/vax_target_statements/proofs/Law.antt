@@ -3,12 +3,12 @@ use Rattle.std.proofs.Common.{◌≡◌, ℕ, List, refl, sym, subst}
 use Rattle.gg_base.specs.declared.size.Size.{Size}
 use Rattle.tree_core.specs.declared.program.TreeProgram.{TreeProgram}
 use Rattle.tree_meaning.specs.State.{Extent}
-use Rattle.tree_meaning.specs.Deeds.{Deed, Puts, Branches, Pushes, Returns as Leaves, Calls as Enters, Saves, Jumps, Traps, Strays}
+use Rattle.tree_meaning.specs.Deeds.{Deed, Puts, Branches, Pushes, Returns as Leaves, Saves, Jumps}
 use Rattle.tree_meaning.specs.Steps.{deed_step}
 use Rattle.md_reader.specs.declared.types.Class.{Class}
 use Rattle.md_reader.specs.declared.types.Rule.{Rule}
 use Rattle.term_core.specs.Shape.{Shape}
-use Rattle.vax_target_rules.specs.sel_terms.specs.Effects.{ActShape, EffectShape, Value, Number, Address, PlaceHome, PlaceAt, StoreHome, StoreAt, Branch, Push, Call, Save, Return, Jump}
+use Rattle.vax_target_rules.specs.sel_terms.specs.Effects.{ActShape, EffectShape, StoreHome, StoreAt, Branch, Push, Save, Return, Jump}
 use Rattle.vax_target_rules.specs.sel_target.specs.declared.attr.Attr.{Attr}
 use Rattle.vax_target_rules.specs.sel_target.specs.Values.{View}
 use Rattle.vax_target_rules.specs.sel_target.specs.Instances.{Ready}

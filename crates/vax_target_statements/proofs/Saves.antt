@@ -48,7 +48,7 @@ use Rattle.vax_target_rules.specs.vax_templates.specs.declared.setting.Hole.{Hol
 use Rattle.vax_target_rules.specs.vax_templates.specs.declared.setting.Hole.TheVariants as hole_kind
 use Rattle.vax_target_rules.specs.vax_templates.specs.declared.setting.Setting.{Setting}
 use Rattle.vax_target_rules.specs.vax_templates.specs.Settings.{hole_of_token, hole_of, holes_of, hole_or_other, hole_at, setting_of}
-use Rattle.vax_target_rules.specs.vax_templates.specs.Deeds.{Last, Plain, Compared, Tested, Returning, Ended}
+use Rattle.vax_target_rules.specs.vax_templates.specs.Deeds.{Last, Ended}
 use Rattle.vax_target_rules.specs.vax_templates.specs.GiveLines.{last_deed, given_by}
 use Rattle.vax_target_rules.specs.vax_templates.specs.Progress.{start}
 use Rattle.vax_target_rules.proofs.Founds.{IsFound}
@@ -58,8 +58,10 @@ use Rattle.vax_target_rules.specs.vax_templates.specs.Filled.{spare, word_operan
 use Rattle.vax_target_rules.specs.vax_target_meaning.specs.Reading.{displaced}
 use Rattle.vax_target_rules.specs.vax_target_meaning.specs.Vax.{vax, stands}
 use Rattle.vax_target_rules.specs.vax_target_operands.specs.Scenes.{Scene, worth, filling_at, IsSavedLocal}
-use Rattle.vax_target_rules.specs.vax_target_operands.specs.Places.{StandsAt}
-use Rattle.vax_target_rules.specs.vax_target_operands.proofs.Machine.{names_stand}
+use Rattle.vax_target_rules.specs.vax_confined.specs.Confined.{is_own_place}
+use Rattle.vax_target_rules.specs.vax_target_confined.specs.Claims.{StandsAt}
+use Rattle.vax_target_rules.specs.vax_target_confined.proofs.Reading.{names_stand, home_is_own, own_touched}
+use Rattle.vax_target_rules.specs.vax_target_operands.specs.Places.{own_at}
 use Rattle.vax_target_rules.specs.vax_target_operands.proofs.Holes.{stands_same}
 use Rattle.vax_target_rules.specs.vax_target_lines.specs.Lines.{putting, Puts}
 use Rattle.vax_target_rules.specs.vax_target_runs.specs.Runs.{EndsIn}
@@ -216,7 +218,7 @@ module _ (q : TreeProgram) (f : Extent) (fs : List Extent) (classes : List Class
       (subst (λ (y : ActShape). given_by (setting_of classes rule) (holes_of classes rule.right) (kind_at classes rule.left) F.progress.own F.progress.last rule.give ≡ Ok y) deed F.given) tt)
       (lines_save (setting_of classes rule) (holes_of classes rule.right) rule.lines true start F.progress tt F.judged)
 
-  saves_by : (i k : ℕ) → Puts S n Long (worth S LastResult) (λ l. StandsAt n (operand_in q (filling_at S i)) Long l × IsSavedLocal S (filling_at S i)) D → k < f.locals →
+  saves_by : (i k : ℕ) → Puts S n (own_at S i) Long (worth S LastResult) (λ l. StandsAt n (operand_in q (filling_at S i)) Long l × IsSavedLocal S (filling_at S i)) D → k < f.locals →
       (l : Leaf) → hole hs i ≡ Some (attr.Token l) → l.att ≡ att.Slot k → k < 1024 → G (steps.Goes (steps.with_local_set v.state k (worth S LastResult)))
   saves_by i k p lt l there slot below =
       let filling : filling_at S i ≡ attr.Token l = filled_hole S i (attr.Token l) there in
@@ -230,7 +232,8 @@ module _ (q : TreeProgram) (f : Extent) (fs : List Extent) (classes : List Class
       (subst (λ a. StandsAt n (home k) Long (locations.Memory a)) address (names_stand (home k) Long n (displaced n Fp (word_addr k)) refl))) in
       let w = local_written q.objects _ _ v.state n agrees k (worth S LastResult) lt (small (term_state v) LastResult) in
       goes q f fs classes rule e hs res v m ready n _ (locations.Memory (word_of (reg n Fp) k)) Long (worth S LastResult) p.conditions D (steps.with_local_set v.state k (worth S LastResult))
-      (p.is ∙ ap (λ y. putting n y Long (worth S LastResult) p.conditions) location) w.0 w.1 frames
+      (p.is (own_touched n (own_at S i) p.place Long (ap is_own_place p.there.1.is ∙ home_is_own p.there.1.local p.there.1.low))
+      ∙ ap (λ y. putting n y Long (worth S LastResult) p.conditions) location) w.0 w.1 frames
 
   -- the last call's result is what is saved
   result_is : begins_with_save rule.right ≡ true → worth S LastResult ≡ v.state.running.result
@@ -241,7 +244,7 @@ module _ (q : TreeProgram) (f : Extent) (fs : List Extent) (classes : List Class
       ap (λ y. y % 2 ^ 32) (sym is) ∙ low ∙ is
 
   abbrev SavesIn : ℕ → ℕ → Type 0
-  SavesIn i k = Puts S n Long (worth S LastResult) (λ l. StandsAt n (operand_in q (filling_at S i)) Long l × IsSavedLocal S (filling_at S i)) D → G (deed_step q v.state (Saves k))
+  SavesIn i k = Puts S n (own_at S i) Long (worth S LastResult) (λ l. StandsAt n (operand_in q (filling_at S i)) Long l × IsSavedLocal S (filling_at S i)) D → G (deed_step q v.state (Saves k))
 
   pub saves : (i k : ℕ) → e.act ≡ Save i → att_of (hole hs i) ≡ Some (att.Slot k) → k < f.locals → SavesIn i k
   saves zero k is at lt = cc

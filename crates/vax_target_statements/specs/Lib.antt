@@ -1,4 +1,5 @@
 pub mod Laws
+pub use Rattle.vax_target_rules.specs.vax_confined as vax_confined
 pub use Rattle.vax_target_rules.specs.vax_target_runs as vax_target_runs
 pub use Rattle.vax_target_rules.specs.vax_target_lines as vax_target_lines
 pub use Rattle.vax_target_rules.specs.vax_templates as vax_templates

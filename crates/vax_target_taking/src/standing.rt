@@ -80,7 +80,8 @@ fn register_of(hole: Hole, i: u8) -> Result<Term, Refusal>
     }
 }
 
-fn where_own(own: Own) -> Result<Location, Refusal>
+/// Where `%0` stands.
+pub fn where_own(own: Own) -> Result<Location, Refusal>
     ensures { Judges where_of result (where_own own) }
 {
     match own {
@@ -96,7 +97,8 @@ fn at_symbol(alloc: Global, i: u8) -> Result<Location, NoMemory>
     Ok(Location::At(boxed(alloc, Term::V(i))?, None))
 }
 
-fn where_hole(alloc: Global, hole: Hole, i: u8) -> Result<Location, Refusal>
+/// Where the hole of a symbol alone stands.
+pub fn where_hole(alloc: Global, hole: Hole, i: u8) -> Result<Location, Refusal>
     ensures { Judges where_of result (where_hole hole i) }
 {
     match hole {
@@ -112,7 +114,8 @@ fn where_hole(alloc: Global, hole: Hole, i: u8) -> Result<Location, Refusal>
     }
 }
 
-fn where_zero(opening: Opening) -> Result<Location, Refusal>
+/// Where register 0 stands: only a rule that returns or saves spells it.
+pub fn where_zero(opening: Opening) -> Result<Location, Refusal>
     ensures { Judges where_of result (where_zero opening) }
 {
     match opening {
@@ -121,8 +124,8 @@ fn where_zero(opening: Opening) -> Result<Location, Refusal>
     }
 }
 
-// Memory at the address that is read at an address.
-fn through(alloc: Global, a: Box<Term>) -> Result<Location, NoMemory>
+/// Memory at the address that is read at an address.
+pub fn through(alloc: Global, a: Box<Term>) -> Result<Location, NoMemory>
     ensures { IfOk result (λ w. where_of w ≡ through (shape_of a.value)) }
 {
     let a = boxed(alloc, Term::Mem(Size::Long, a))?;
@@ -155,7 +158,8 @@ fn address_behind(
 }
 
 impl<'a> Template<'a> {
-    fn absolute_term(self, number: Number) -> Result<Term, Refusal>
+    /// The number, or the constant that a symbol stands for.
+    pub fn absolute_term(self, number: Number) -> Result<Term, Refusal>
         ensures { Judges shape_of result (absolute_term self.entry.holes.now number) }
     {
         match number {
@@ -187,7 +191,8 @@ impl<'a> Template<'a> {
         own_value(self.alloc, self.setting.own, zero)
     }
 
-    fn register_term(self, zero: &Option<Box<Term>>, i: u8) -> Result<Box<Term>, Refusal>
+    /// The value of the register with this number among the holes, `%0` if it is 0.
+    pub fn register_term(self, zero: &Option<Box<Term>>, i: u8) -> Result<Box<Term>, Refusal>
         ensures { Judges held result (register_term self.entry.setting self.entry.holes.now (term_of zero.now) i) }
     {
         if i == 0 {

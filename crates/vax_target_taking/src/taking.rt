@@ -55,7 +55,8 @@ pub struct Operands {
     pub is_missized: bool,
 }
 
-fn is_long(size: Size) -> bool
+/// Whether this is the size of a longword.
+pub fn is_long(size: Size) -> bool
     ensures { result ≡ is_long size }
 {
     match size {
@@ -64,8 +65,8 @@ fn is_long(size: Size) -> bool
     }
 }
 
-// A term that takes no memory to be read.
-fn taken_term(alloc: Global, term: Box<Term>) -> Operand
+/// A term that takes no memory to be read.
+pub fn taken_term(alloc: Global, term: Box<Term>) -> Operand
     ensures { taken_of result ≡ taken_term (shape_of term.value) }
 {
     Operand {
@@ -136,8 +137,8 @@ fn sized(alloc: Global, has: Size, wanted: Size, t: Operand) -> Result<Operand, 
     }
 }
 
-// The pointer that was read for an address, if there is one.
-fn pointer_read(alloc: Global, pointer: Option<Box<Term>>) -> Result<Vec<Term>, NoMemory>
+/// The pointer that was read for an address, if there is one.
+pub fn pointer_read(alloc: Global, pointer: Option<Box<Term>>) -> Result<Vec<Term>, NoMemory>
     ensures { IfOk result (λ v. map shape_of v.items ≡ pointer_read (term_of pointer)) }
 {
     let mut reads = Vec::new(alloc);
@@ -157,7 +158,8 @@ fn own_target(own: Own, size: Size) -> Result<(Destination, bool), Refusal>
     }
 }
 
-fn memory_target(own: Own, a: Box<Term>, size: Size) -> Result<(Destination, bool), Refusal>
+/// Memory that is written at an address: a line that saves writes nothing but the slot.
+pub fn memory_target(own: Own, a: Box<Term>, size: Size) -> Result<(Destination, bool), Refusal>
     ensures { Judges aimed result (memory_target own (shape_of a.value) size) }
 {
     match own {
@@ -166,7 +168,8 @@ fn memory_target(own: Own, a: Box<Term>, size: Size) -> Result<(Destination, boo
     }
 }
 
-fn zero_target(opening: Opening) -> Result<(Destination, bool), Refusal>
+/// Register 0 is written in a rule that returns.
+pub fn zero_target(opening: Opening) -> Result<(Destination, bool), Refusal>
     ensures { Judges aimed result (zero_target opening) }
 {
     match opening {
@@ -175,7 +178,8 @@ fn zero_target(opening: Opening) -> Result<(Destination, bool), Refusal>
     }
 }
 
-fn no_arguments(alloc: Global) -> Result<Operands, NoMemory>
+/// The arguments of an instruction without operands.
+pub fn no_arguments(alloc: Global) -> Result<Operands, NoMemory>
     ensures { IfOk result (λ x. arguments_of x ≡ no_arguments) }
 {
     let first = boxed(alloc, Term::K(0))?;
@@ -198,8 +202,8 @@ fn last_of(front: Option<Destination>, last: Option<Destination>) -> Option<Dest
     front
 }
 
-// What is taken of an operand that is written alone.
-fn written(alloc: Global, target: (Destination, bool)) -> Result<Operand, NoMemory>
+/// What is taken of an operand that is written alone.
+pub fn written(alloc: Global, target: (Destination, bool)) -> Result<Operand, NoMemory>
     ensures { IfOk result (λ t. written (aimed target) ≡ Ok (taken_of t)) }
 {
     let term = boxed(alloc, Term::K(0))?;

@@ -1,5 +1,5 @@
 -- Where a divisor is zero, the first line of a rule traps.
-use Rattle.std.proofs.Common.{◌≡◌, ℕ, ◌++◌, Bool, true, false, cond, List, [], ◌∷◌, map, Option, Some, None, Result, Ok, Err, refl, sym, ap, subst, ◌∙◌}
+use Rattle.std.proofs.Common.{◌≡◌, ℕ, ◌++◌, Bool, true, false, List, [], ◌∷◌, map, Option, Some, None, Ok, refl, sym, ap, subst, ◌∙◌}
 use Rattle.std.specs.List.{AllByRecursion}
 use Rattle.gg_base.proofs.Facts.{ok_same}
 use Rattle.vax_target_rules.specs.tree_core.specs.declared.program.TreeProgram.{TreeProgram}
@@ -24,30 +24,29 @@ use Rattle.vax_target_rules.specs.sel_target.specs.Courses.{traps}
 use Rattle.vax_target_rules.specs.sel_target.specs.Values.{View, IsReadWhere, value}
 use Rattle.vax_target_rules.specs.sel_target.specs.Instances.{IsResult, Instance}
 use Rattle.vax_core.specs.declared.operand.Operand.{Operand}
-use Rattle.vax_core.specs.declared.code.Instr.{Instr}
 use Rattle.vax_machine.specs.State.{State}
-use Rattle.vax_target_rules.specs.vax_machine_lists.specs.Instructions.{Course, followed, exec}
+use Rattle.vax_target_rules.specs.vax_machine_lists.specs.Instructions.{Course, followed}
+use Rattle.vax_target_rules.specs.vax_confined.specs.Confined.{exec}
 use Rattle.vax_target_rules.specs.vax_templates.specs.declared.setting.Hole.{Hole}
 use Rattle.vax_target_rules.specs.vax_templates.specs.declared.setting.Setting.{Setting}
 use Rattle.vax_target_rules.specs.vax_templates.specs.Settings.{holes_of, setting_of}
-use Rattle.vax_target_rules.specs.vax_templates.specs.Standing.{◌>>=◌}
 use Rattle.vax_target_rules.specs.vax_templates.specs.Deeds.{Last, Plain, Compared, Tested, Returning, Ended}
 use Rattle.vax_target_rules.specs.vax_templates.specs.Progress.{Progress, start, judged, lines_judged}
 use Rattle.vax_target_rules.specs.vax_templates.specs.GiveLines.{last_deed, given_by}
 use Rattle.vax_target_rules.specs.vax_target_meaning.specs.Running.{course_of, run}
 use Rattle.vax_target_rules.specs.vax_target_meaning.specs.Vax.{vax}
-use Rattle.vax_target_rules.specs.vax_target_operands.specs.Scenes.{Scene, Sees}
-use Rattle.vax_target_rules.specs.vax_target_operands.proofs.Binds.{Chained, chained}
+use Rattle.vax_target_rules.specs.vax_target_operands.specs.Scenes.{Scene}
+use Rattle.vax_target_rules.specs.vax_target_operands.proofs.Binds.{chained}
 use Rattle.vax_target_rules.specs.vax_target_lines.specs.Lines.{terms_of_last}
 use Rattle.vax_target_rules.specs.vax_target_lines.proofs.Performing.{lines_trap}
 use Rattle.vax_target_rules.specs.vax_target_runs.specs.Runs.{line_of}
-use Rattle.vax_target_rules.specs.vax_target_runs.proofs.Law.{IsJudged, judged_is, closed}
+use Rattle.vax_target_rules.specs.vax_target_runs.proofs.Law.{judged_is, closed}
 use Rattle.vax_target_rules.specs.Scene.{scene_of}
 use Rattle.vax_target_rules.proofs.Founds.{IsFound, rule_is, reads_safe, front_safe}
 use Rattle.vax_target_rules.proofs.Instances.{instance_seen}
 use Rattle.vax_target_rules.proofs.Counts.{later}
 use Rattle.vax_target_traps.specs.Laws.{ZeroDivisorsTrap}
-use Rattle.vax_target_traps.proofs.Plain.{ArePlain, list_made, LinePlain, first_line_plain}
+use Rattle.vax_target_traps.proofs.Plain.{list_made, first_line_plain}
 
 -- a property of what each line reads
 abbrev Each : (List Shape → Type 0) → List (ℕ × List Shape) → Type 0

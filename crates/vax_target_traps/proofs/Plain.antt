@@ -9,9 +9,8 @@ use Rattle.md_reader_pieces.specs.declared.piece.Piece.{Piece}
 use Rattle.term_core.specs.declared.operator.BinaryOp.{BinaryOp}
 use Rattle.term_core.specs.Shape.{Shape, Constant, Symbol, LastResult, Memory, Unary, Binary}
 use Rattle.term_core.specs.Value.{State}
-use Rattle.term_core.specs.Value as term
 use Rattle.vax_target_rules.specs.term_core_accesses.specs.Accesses.{is_division, divides_well}
-use Rattle.vax_target_rules.specs.sel_terms.specs.Effects.{ActShape, StoreAt, StoreHome, Save, Push, Jump, Call, Branch}
+use Rattle.vax_target_rules.specs.sel_terms.specs.Effects.{ActShape, StoreAt, StoreHome, Save, Push, Jump, Call}
 use Rattle.vax_target_rules.specs.sel_terms.specs.Same.{same_size}
 use Rattle.vax_target_rules.specs.sel_target.specs.declared.fault.TemplateKind.{TemplateKind}
 use Rattle.vax_target_rules.specs.sel_target.specs.declared.fault.TemplateKind.TheVariants.{NotInstr}

@@ -1,5 +1,5 @@
 -- The law of this crate: where a divisor is zero, the lines of a rule trap.
-use Rattle.std.specs.Prelude.{◌≡◌, ℕ, List, [], ◌∷◌, false}
+use Rattle.std.specs.Prelude.{◌≡◌, List, [], ◌∷◌, false}
 use Rattle.vax_target_rules.specs.tree_core.specs.declared.program.TreeProgram.{TreeProgram}
 use Rattle.vax_target_rules.specs.tree_meaning.specs.State.{Extent}
 use Rattle.vax_target_rules.specs.md_reader.specs.declared.types.Class.{Class}

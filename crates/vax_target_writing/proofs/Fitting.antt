@@ -1,5 +1,5 @@
 -- What stands for the holes of a rule, or of a line that saves or reloads, can be spelled; so its lines are valid instructions.
-use Rattle.std.proofs.Common.{◌≡◌, ℕ, zero, suc, ◌+◌, ◌*◌, ◌^◌, ◌<◌, ◌≤◌, ◌==◌, true, cond, not, ◌&&◌, Option, Some, None, List, [], ◌∷◌, length, refl, sym, subst, arith, slice_get}
+use Rattle.std.proofs.Common.{◌≡◌, ℕ, zero, suc, ◌+◌, ◌*◌, ◌^◌, ◌<◌, ◌≤◌, ◌==◌, true, cond, not, ◌&&◌, Option, Some, List, [], ◌∷◌, length, refl, sym, subst, arith, slice_get}
 use Rattle.std.specs.Prelude.{nat_lt, nat_le, is_none}
 use Rattle.std.specs.List.{AllByRecursion}
 use Rattle.std.proofs.lemmas.Bool.{lt-ltb, leb-true, and_from}

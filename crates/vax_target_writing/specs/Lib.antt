@@ -1,5 +1,6 @@
 pub mod Laws
 pub use Rattle.vax_target_meaning
+pub use Rattle.vax_target_meaning.specs.vax_confined as vax_confined
 pub use Rattle.tree_core
 pub use Rattle.vax_target_meaning.specs.sel_target as sel_target
 pub use Rattle.vax_target_meaning.specs.vax_templates as vax_templates

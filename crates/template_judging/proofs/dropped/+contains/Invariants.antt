@@ -1,7 +1,7 @@
 use Rattle.std.proofs.Common.{◌+◌, ◌*◌}
 use Rattle.term_core.specs.Shape.{shape_of, size_of}
 use Rattle.term_core.specs.Form.{shape_of_form}
-use Rattle.vax_target_judging.proofs.found.+contains.Given as goal
+use Rattle.template_judging.proofs.dropped.+contains.Given as goal
 
 abbrev pub decreases-contains : goal.decreases-contains
 decreases-contains l = 2 * size_of (shape_of l.whole.now) + 1

@@ -8,13 +8,13 @@ use Rattle.vax_templates.specs.Deeds.{Last, Deed}
 use Rattle.vax_templates.specs.Deeds as last
 use Rattle.vax_templates.specs.Progress.{Progress}
 use Rattle.vax_target_taking.specs.Views.{held, term_of}
-use Rattle.vax_target_judging.specs.declared.giving.Outcome.{Outcome}
-use Rattle.vax_target_judging.specs.declared.giving.Outcome.TheVariants as outcomes
-use Rattle.vax_target_judging.specs.declared.judging.Before.{Before}
-use Rattle.vax_target_judging.specs.declared.judging.Before.TheVariants as befores
-use Rattle.vax_target_judging.specs.declared.judging.Step.{Step}
-use Rattle.vax_target_judging.specs.declared.found.LineReads.{LineReads}
-use Rattle.vax_target_judging.specs.declared.found.Run.{Run}
+use Rattle.template_judging.specs.declared.outcome.Outcome.{Outcome}
+use Rattle.template_judging.specs.declared.outcome.Outcome.TheVariants as outcomes
+use Rattle.template_judging.specs.declared.step.Before.{Before}
+use Rattle.template_judging.specs.declared.step.Before.TheVariants as befores
+use Rattle.template_judging.specs.declared.step.Step.{Step}
+use Rattle.template_judging.specs.declared.dropped.LineReads.{LineReads}
+use Rattle.template_judging.specs.declared.found.Run.{Run}
 
 abbrev pub given_of : Outcome → Given
 given_of (outcomes.Computes t) = given.Computes (held t)
