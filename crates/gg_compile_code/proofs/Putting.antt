@@ -16,9 +16,10 @@ use Rattle.vax_core.specs.declared.code.Instr.{Instr}
 use Rattle.vax_core.specs.declared.code.AreaItem.{AreaItem}
 use Rattle.vax_core.specs.declared.code.CodeItem.{CodeItem}
 use Rattle.vax_core.specs.declared.code.CodeItem.TheVariants as item_kind
-use Rattle.vax_frames.specs.Frames.{code_items}
+use Rattle.vax_frames.specs.Frames.{code_items, IsFrameCode}
+use Rattle.vax_homes.specs.Homing.{homed}
 use Rattle.gg_compile_area.specs.gg_compile_law.specs.Spelling.{area_of}
-use Rattle.gg_compile_code.specs.Selecting.{AreSelected, nothing, label, tree, PutsItem, IsSelectedFunction, AreSelectedFunctions, none, more, SelectedAll}
+use Rattle.gg_compile_code.specs.Selecting.{AreSelected, nothing, label, tree, PutsItem, IsBody, IsSelectedFunction, AreSelectedFunctions, none, more, SelectedAll}
 use Rattle.gg_compile_code.proofs.Appending.{selected_append, functions_append}
 
 front : {A : Type 0} (xs : List A) (i : ℕ) (x : A) → i < length xs → get_or xs i x ≡ x → take (i + 1) xs ≡ take i xs ++ x ∷ []
@@ -87,3 +88,13 @@ module _ {S F : Type 0} (of : Meaning Operand Instr S F) (d : Content) (q : Tree
       let both = functions_append of d q (take i fs) (f ∷ []) old part h last in
       subst (λ (l : List TreeFn). AreSelectedFunctions of d q l new) (sym (front fs i f lt at))
       (subst (λ (c : List CodeItem). AreSelectedFunctions of d q (take i fs ++ f ∷ []) c) (sym e) both)
+
+  -- the frame round a body with homes
+  pub framed_so : (f : TreeFn) (words : ℕ) (body with_homes code : List CodeItem) → IsBody of d q f body words → with_homes ≡ homed f.wanted body
+      → IsFrameCode f.name words with_homes code → IsSelectedFunction of d q f code
+  framed_so f words body with_homes code selected same framed = record {
+    words = words;
+    body = body;
+    selected = selected;
+    framed = subst (λ (x : List CodeItem). IsFrameCode f.name words x code) same framed;
+  }

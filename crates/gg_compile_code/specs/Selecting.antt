@@ -1,5 +1,5 @@
--- The code of a whole program: each function is a frame round the code that is selected of its trees, in order, and the data area is that
--- of the objects.
+-- The code of a whole program: each function is a frame round the code that is selected of its trees, in order, with its homes in
+-- registers, and the data area is that of the objects.
 use Rattle.std.specs.Prelude.{◌≡◌, ℕ, max, List, [], ◌∷◌, ◌++◌}
 use Rattle.tree_core.specs.declared.tree.Leaf.{Leaf}
 use Rattle.tree_core.specs.declared.program.TreeItem.{TreeItem}
@@ -17,6 +17,7 @@ use Rattle.vax_core.specs.declared.code.Code.{Code}
 use Rattle.vax_core.specs.declared.code.CodeItem.{CodeItem}
 use Rattle.vax_core.specs.declared.code.CodeItem.TheVariants as item_kind
 use Rattle.vax_frames.specs.Frames.{code_items, IsFrameCode}
+use Rattle.vax_homes.specs.Homing.{homed}
 use Rattle.gg_compile_area.specs.gg_compile_law.specs.Spelling.{area_of}
 
 module _ {S F : Type 0} (of : Meaning Operand Instr S F) (d : Content) (program : TreeProgram) where
@@ -41,12 +42,13 @@ module _ {S F : Type 0} (of : Meaning Operand Instr S F) (d : Content) (program 
   abbrev pub IsBody : TreeFn → List CodeItem → ℕ → Type 0
   IsBody f body words = AreSelected f.locals f.locals f.items body words
 
-  -- The code of a function: its frame has as many words as the tree that uses most, or as it has locals.
+  -- The code of a function: its frame has as many words as the tree that uses most, or as it has locals, and the wanted locals that may
+  -- live in registers do.
   pub record IsSelectedFunction (f : TreeFn) (code : List CodeItem) : Type 0 where
     pub words : ℕ
     pub body : List CodeItem
     pub selected : IsBody f body words
-    pub framed : IsFrameCode f.name words body code
+    pub framed : IsFrameCode f.name words (homed f.wanted body) code
 
   -- the code of functions, one behind another
   pub data AreSelectedFunctions : List TreeFn → List CodeItem → Type 0 where

@@ -13,9 +13,11 @@ use std::alloc::Global;
 use tree_core::{TreeFn, TreeProgram};
 use vax_core::CodeItem;
 use vax_frames::frame_code;
+use vax_homes::homed;
 use vax_target::Vax;
 
-// The code of a function: its frame round the code of its items.
+// The code of a function: its frame round the code of its items, with its homes in registers.
+#[tactic(auto, using(crate::proofs::Putting::framed_so))]
 fn function(
     alloc: Global,
     generator: &Generator<Vax>,
@@ -27,6 +29,7 @@ fn function(
     ensures { IfOk result (λ c. IsSelectedFunction vax generator.now.tables.content program.now f.now c.items) }
 {
     let Body { items, words } = body_of(alloc, generator, program, f)?;
+    let items = homed(alloc, f, items)?;
     Ok(frame_code(alloc, f, items, words)?)
 }
 

@@ -1,4 +1,4 @@
-//! The code of a tree program: each function is a frame round the code that is selected of its trees.
+//! The code of a tree program: each function is a frame round the code that is selected of its trees, with its homes in registers.
 #![tactic(auto)]
 
 mod assembling;

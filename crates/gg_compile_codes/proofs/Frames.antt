@@ -1,5 +1,5 @@
 -- The code that is selected of a program's trees is made of frames, and so it is guarded.
-use Rattle.std.proofs.Common.{◌≡◌, ℕ, zero, suc, max, List, [], ◌∷◌, ◌++◌, Option, Some, None, Bool, true, false, refl, sym, ap, subst}
+use Rattle.std.proofs.Common.{◌≡◌, ℕ, zero, suc, max, List, [], ◌∷◌, ◌++◌, ◌∙◌, map, Option, Some, None, Bool, true, false, refl, sym, ap, subst}
 use Rattle.std.specs.Prelude.{◌==◌, ◌||◌, slice_get}
 use Rattle.std.specs.List.{AllByRecursion as All}
 use Rattle.std.specs.Option.{option_or}
@@ -25,6 +25,10 @@ use Rattle.vax_frames_law.specs.Within.{StaysInside, KeepWithin, AreFrames, no_f
 use Rattle.vax_frames_law.proofs.Masks.{frame_codes_keep_within}
 use Rattle.vax_frames_law.proofs.Framing.{frames_are_guarded}
 use Rattle.vax_target_meaning.specs.Vax.{vax}
+use Rattle.gg_compile_law.specs.vax_homes_items.specs.vax_homes_law.specs.vax_homes.specs.declared.choose.Home.{Home}
+use Rattle.gg_compile_law.specs.vax_homes_items.specs.vax_homes_law.specs.vax_homes.specs.Choosing.{homes_of}
+use Rattle.gg_compile_law.specs.vax_homes_items.specs.vax_homes_law.specs.vax_homes.specs.Homing.{homed_item, homed}
+use Rattle.gg_compile_law.specs.vax_homes_items.proofs.Items.{homed_bodies_are_like}
 use Rattle.gg_compile_law.specs.Programs.{stands_in}
 use Rattle.gg_compile_law.proofs.Validity.{IsIn, root_facts}
 use Rattle.gg_compile_laws.specs.gg_compile_code.specs.Selecting.{AreSelected, nothing, label, tree, IsSelectedFunction, AreSelectedFunctions, none, more}
@@ -46,6 +50,15 @@ put_inside : (code : List CodeItem) (q : TreeProgram) (is : List Instr) (rest : 
     → StaysInside code (code_items is ++ rest)
 put_inside code q [] rest h k = k
 put_inside code q (i ∷ is) rest h k = (h.0, put_inside code q is rest h.1 k)
+
+-- with homes the labels of a body are the same, and so is where its instructions go
+homed_inside : (hs : List Home) (body rest : List CodeItem) → StaysInside body rest → StaysInside (map (homed_item hs) body) (map (homed_item hs) rest)
+homed_inside hs body [] h = tt
+homed_inside hs body (item_kind.Label l ∷ rest) h = homed_inside hs body rest h
+homed_inside hs body (item_kind.Globl l ∷ rest) h = homed_inside hs body rest h
+homed_inside hs body (item_kind.Mask k ∷ rest) h = h
+homed_inside hs body (item_kind.Instr i ∷ rest) h =
+    ((λ label e never. (homed_bodies_are_like hs body).labels label ∙ h.0 label e never), homed_inside hs body rest h.1)
 
 module _ (q : TreeProgram) (ok : IsSelectable q) (d : Content) (fit : IsFit vax d) where
   label_here : (locals used most l : ℕ) (is : List TreeItem) (body : List CodeItem) → AreSelected vax d q locals used is body most → stands_in is l ≡ true
@@ -77,16 +90,17 @@ module _ (q : TreeProgram) (ok : IsSelectable q) (d : Content) (fit : IsFit vax 
         (body_inside (max u k) m js rest (behind q ok d fit n g there (tree_item.Root w) js sub) h)
 
   function_within : (n : ℕ) (g : TreeFn) → slice_get q.functions n ≡ Some g → (part : List CodeItem) (s : IsSelectedFunction vax d q g part)
-      → KeepWithin s.body s.framed.mask s.body
+      → KeepWithin (homed g.wanted s.body) s.framed.mask (homed g.wanted s.body)
   function_within n g there part s =
-      (frame_codes_keep_within g.name s.words s.body part s.framed
-      (body_inside n g there s.body (λ l e. label_here g.locals g.locals s.words l g.items s.body s.selected e) g.locals s.words g.items s.body (λ w at. at) s.selected)).1
+      (frame_codes_keep_within g.name s.words (homed g.wanted s.body) part s.framed
+      (homed_inside (homes_of g.wanted s.body) s.body s.body
+      (body_inside n g there s.body (λ l e. label_here g.locals g.locals s.words l g.items s.body s.selected e) g.locals s.words g.items s.body (λ w at. at) s.selected))).1
 
   frames : (gs : List TreeFn) (code : List CodeItem) → AreOf q ok d fit gs → AreSelectedFunctions vax d q gs code → AreFrames code
   frames gs code of none = no_frame
   frames gs code of (more g hs part rest one others) =
       let at = of 0 g refl in
-      one_more (function_label g.name) one.framed.mask one.words one.body rest (part ++ rest) (function_within at.0 g at.1 part one)
+      one_more (function_label g.name) one.framed.mask one.words (homed g.wanted one.body) rest (part ++ rest) (function_within at.0 g at.1 part one)
       (frames hs rest (λ k h e. of (suc k) h e) others) (ap (λ (x : List CodeItem). x ++ rest) one.framed.code_is)
 
 pub selected_codes_are_frames : SelectedCodesAreFrames

@@ -20,6 +20,7 @@ use Rattle.vax_core.specs.declared.code.CodeItem.{CodeItem}
 use Rattle.vax_core.specs.declared.code.CodeItem.TheVariants as item_kind
 use Rattle.vax_core.specs.declared.code.Code.{Code}
 use Rattle.vax_frames.specs.Frames.{code_items, frame_items, is_kept, body_names}
+use Rattle.gg_compile_law.specs.vax_homes_items.specs.vax_homes_law.specs.vax_homes.specs.Homing.{homed}
 use Rattle.gg_compile_code.specs.vax_target_meaning.specs.Vax.{vax}
 use Rattle.gg_compile_code.specs.Selecting.{AreSelected, nothing, label, tree, IsSelectedFunction, AreSelectedFunctions, none, more, SelectedAll}
 use Rattle.gg_compile_codes.specs.OneCode.{SelectedCodesAreOne}
@@ -59,8 +60,8 @@ module _ (q : TreeProgram) (d : Content) where
       let b = items_one f.locals f.locals s.words t.words f.items s.body t.body s.selected t.selected in
       let mask : s.framed.mask ≡ t.framed.mask =
       same_from_bits s.framed.mask t.framed.mask
-      (λ r. s.framed.is_mask r ∙ ap (λ (body : List CodeItem). truth (is_kept r && body_names body r)) b.0 ∙ sym (t.framed.is_mask r)) in
-      s.framed.code_is ∙ (λ i. frame_items (function_label f.name) (mask i) (b.1 i) (b.0 i)) ∙ sym t.framed.code_is
+      (λ r. s.framed.is_mask r ∙ ap (λ (body : List CodeItem). truth (is_kept r && body_names (homed f.wanted body) r)) b.0 ∙ sym (t.framed.is_mask r)) in
+      s.framed.code_is ∙ (λ i. frame_items (function_label f.name) (mask i) (b.1 i) (homed f.wanted (b.0 i))) ∙ sym t.framed.code_is
 
   functions_one : (fs : List TreeFn) (code other : List CodeItem) → AreSelectedFunctions vax d q fs code → AreSelectedFunctions vax d q fs other → code ≡ other
   functions_one fs code other none none = refl

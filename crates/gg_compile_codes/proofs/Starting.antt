@@ -3,7 +3,6 @@ use Rattle.std.proofs.Common.{◌≡◌, ℕ, ◌≤◌, List, [], length, Optio
 use Rattle.std.specs.Prelude.{slice_get}
 use Rattle.std.proofs.lemmas.Option.{none-some}
 use Rattle.vax_core.specs.declared.code.Code.{Code}
-use Rattle.vax_machine_live.specs.declared.frame.Frame.{Frame}
 use Rattle.vax_machine.specs.Loading.{blank}
 use Rattle.vax_machine.proofs.LayoutLaws.{length-zeros}
 use Rattle.tree_core.specs.declared.program.TreeFn.{TreeFn}
@@ -17,7 +16,8 @@ use Rattle.vax_frames_law.specs.Laws as frames
 use Rattle.vax_frames_law.proofs.Entering.{CanCall}
 use Rattle.vax_frames_law.proofs.Functions.{begins_with}
 use Rattle.vax_target_meaning.specs.Vax.{vax}
-use Rattle.gg_compile_law.specs.Programs.{IsEmitted, Waits, ends_run, IsCompiled}
+use Rattle.gg_compile_law.specs.vax_homes_frames.specs.Live.{HomedCall}
+use Rattle.gg_compile_law.specs.Programs.{IsEmitted, ends_run, IsCompiled}
 use Rattle.gg_compile_law.specs.Written.{IsWritten}
 use Rattle.gg_compile_law.proofs.Assembling.{assembled_is_compiled}
 use Rattle.gg_compile_law.proofs.Law.{written_codes_load}
@@ -78,8 +78,8 @@ module _ (q : TreeProgram) (c : Code) (can_write : vax.can_write q) (written : I
 
     has_room : frames.IsRoomy called.state
     has_room =
-        roomy q c.items frame [] (beginning q h.main input) called.state called.agrees em.frame.few (omega arith)
-        (subst (λ (x : List Frame). Waits q c.items x [] []) (sym called.frames) (ends_run called.frame called.is_made.back_is)) (omega arith)
+        let first : HomedCall = record { frame = called.frame; homes = [] } in
+        roomy q c.items frame [] first [] (beginning q h.main input) called.state called.agrees em.frame.few (omega arith) (ends_run first called.is_made.back_is) (omega arith)
 
     begun_with : HasBegin vax q input
     begun_with = record {

@@ -40,12 +40,11 @@ use Rattle.vax_target_laws.specs.vax_target_meaning.specs.Running.{run}
 use Rattle.vax_target_laws.specs.vax_target_meaning.specs.Vax.{vax}
 use Rattle.vax_target_places.proofs.Law.{stores_go_to_places}
 use Rattle.vax_target_laws.proofs.Law.{vax_is_lawful}
-use Rattle.gg_compile_law.specs.Effects.{Does, IsReady}
-use Rattle.gg_compile_effect.specs.Claims.{IsTreeOf, HasConfinedEffect, SelectedTreesRunConfined, SelectedTreesHaveEffect}
+use Rattle.gg_compile_law.specs.Effects.{Does, IsReady, HasEffect}
+use Rattle.gg_compile_effect.specs.Claims.{IsTreeOf, SelectedTreesHaveEffect}
 use Rattle.gg_compile_effect.proofs.Trees.{root_is}
 use Rattle.gg_compile_effect.proofs.Naming.{tree_names}
 use Rattle.gg_compile_effect.proofs.Courses.{traps_is, IsNoTrap, step_does}
-use Rattle.gg_compile_effect.proofs.Unconfined.{confined_effect_is_effect}
 
 -- a description whose rules are shown has effects
 pub all_taken : (classes : List Class) (registers : ℕ) (rules : List Rule) → All (IsShown vax.effect registers classes) rules
@@ -140,15 +139,11 @@ module _ (q : TreeProgram) (d : Content) (g : TreeFn) (w : List Leaf) (code : Li
     does : Does q.objects e es t m (deed_step q t (tree_deed q.objects (sight t) (grown w))) (exec code m)
     does = does_by (tree_deed q.objects (sight t) (grown w)) (λ p. subst Effect deed_same (effect (subst (IsPossible t.area) (sym deed_same) p)))
 
-  pub has_confined_effect : HasConfinedEffect q g.locals g.args most w code
-  has_confined_effect = record {
+  pub has_effect : HasEffect q g.locals g.args most w code
+  has_effect = record {
     some = statements_have_code vax vax_is_lawful q d g.locals (tree_of w) code most fit.valid (all_taken d.classes _ d.rules fit.rules) selected;
     does = λ e es t m agrees ready. does e es t m agrees ready;
   }
 
-pub selected_trees_run_confined : SelectedTreesRunConfined
-selected_trees_run_confined q d g w code most valid can fit tree selected = has_confined_effect q d g w code most valid can fit tree selected
-
 pub selected_trees_have_effect : SelectedTreesHaveEffect
-selected_trees_have_effect q d g w code most valid can fit tree selected =
-    confined_effect_is_effect q g.locals g.args most w code (selected_trees_run_confined q d g w code most valid can fit tree selected)
+selected_trees_have_effect q d g w code most valid can fit tree selected = has_effect q d g w code most valid can fit tree selected

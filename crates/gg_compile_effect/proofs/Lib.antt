@@ -2,5 +2,4 @@
 pub mod Trees
 pub mod Naming
 pub mod Courses
-pub mod Unconfined
 pub mod Law

@@ -4,13 +4,15 @@ use Rattle.std.specs.Prelude.{slice_get}
 use Rattle.std.proofs.Math.Nat.{le_refl}
 use Rattle.tree_core.specs.declared.program.TreeFn.{TreeFn}
 use Rattle.tree_core.specs.declared.program.TreeProgram.{TreeProgram}
+use Rattle.tree_core.specs.Valid.{WantedStand}
 use Rattle.md_reader.specs.State.{Content}
 use Rattle.sel_parse_joined.specs.sel_parse_effect.specs.Claims.{IsFit}
 use Rattle.vax_core.specs.declared.code.CodeItem.{CodeItem}
 use Rattle.gg_compile_names.specs.vax_target_meaning.specs.Vax.{vax}
 use Rattle.gg_compile_effect.specs.gg_compile_law.specs.Assembled.{IsFunctionCode, AreFunctions}
 use Rattle.gg_compile_effect.specs.gg_compile_law.specs.Assembled as assembled
-use Rattle.gg_compile_effect.specs.gg_compile_law.proofs.Assembling.{frames_are_function_codes}
+use Rattle.gg_compile_effect.specs.gg_compile_law.proofs.Framing.{frames_are_function_codes}
+use Rattle.gg_compile_effect.specs.gg_compile_law.proofs.Validity.{all_at}
 use Rattle.gg_compile_code.specs.Selecting.{IsSelectedFunction, AreSelectedFunctions, none, more}
 use Rattle.gg_compile_keeps.specs.Programs.{IsSelectable}
 use Rattle.gg_compile_keeps.proofs.Trees.{used_up, words_few, tree_code}
@@ -24,6 +26,7 @@ module _ (q : TreeProgram) (ok : IsSelectable q) (d : Content) (fit : IsFit vax 
   function_code n g there part s =
       frames_are_function_codes q g s.words s.body part (used_up q ok d fit n g there g.locals s.words g.items s.body s.selected)
       (words_few q ok d fit n g there g.locals s.words g.items s.body (λ w at. at) (ok.locals n g there) s.selected)
+      (all_at WantedStand q.functions n g ok.valid.wanted there)
       (tree_code q ok d fit n g there s.words g.locals s.words g.items s.body (λ w at. at) (le_refl s.words) s.selected) s.framed
 
   pub functions : (gs : List TreeFn) (code : List CodeItem) → AreOf gs → AreSelectedFunctions vax d q gs code → AreFunctions q gs code

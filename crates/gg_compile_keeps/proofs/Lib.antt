@@ -1,4 +1,5 @@
 pub mod Leaves
+pub mod Lines
 pub mod Trees
 pub mod Functions
 pub mod Names

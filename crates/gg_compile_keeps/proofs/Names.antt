@@ -1,5 +1,5 @@
 -- The instructions of a program's code name what is there.
-use Rattle.std.proofs.Common.{◌≡◌, ℕ, zero, suc, List, [], ◌∷◌, ◌++◌, Option, Some, None, refl, sym, ap, ◌∙◌, subst}
+use Rattle.std.proofs.Common.{◌≡◌, ℕ, zero, suc, List, [], ◌∷◌, ◌++◌, map, Option, Some, None, refl, sym, ap, ◌∙◌, subst}
 use Rattle.std.specs.Prelude.{slice_get}
 use Rattle.std.specs.List.{AllByRecursion as All}
 use Rattle.std.specs.Option.{option_or}
@@ -18,6 +18,10 @@ use Rattle.vax_core.specs.declared.code.Instr.{Instr}
 use Rattle.vax_machine.specs.Labels.{undefined_in, undefined_at, undefined_label}
 use Rattle.vax_frames.specs.Frames.{code_items, room_code, end_code}
 use Rattle.gg_compile_names.specs.vax_target_meaning.specs.Vax.{vax}
+use Rattle.gg_compile_effect.specs.gg_compile_law.specs.vax_homes_items.specs.vax_homes_law.specs.vax_homes.specs.declared.choose.Home.{Home}
+use Rattle.gg_compile_effect.specs.gg_compile_law.specs.vax_homes_items.specs.vax_homes_law.specs.vax_homes.specs.Choosing.{homes_of}
+use Rattle.gg_compile_effect.specs.gg_compile_law.specs.vax_homes_items.specs.vax_homes_law.specs.vax_homes.specs.Homing.{homed_item, homed}
+use Rattle.gg_compile_effect.specs.gg_compile_law.specs.vax_homes_items.proofs.Items.{homed_items_are_like}
 use Rattle.gg_compile_effect.specs.gg_compile_law.specs.Spelling.{area_of}
 use Rattle.gg_compile_effect.specs.gg_compile_law.proofs.Validity.{IsIn, root_facts}
 use Rattle.gg_compile_names.specs.Claims.{HasLabels}
@@ -44,6 +48,10 @@ module _ (q : TreeProgram) (ok : IsSelectable q) (d : Content) (fit : IsFit vax 
   room_fine zero = tt
   room_fine (suc n) = (refl, tt)
 
+  homed_fine : (hs : List Home) (xs : List CodeItem) → All Fine xs → All Fine (map (homed_item hs) xs)
+  homed_fine hs [] h = tt
+  homed_fine hs (x ∷ xs) h = ((homed_items_are_like hs x).names area code ∙ h.0, homed_fine hs xs h.1)
+
   module _ (n : ℕ) (g : TreeFn) (here : slice_get q.functions n ≡ Some g) where
     tree_fine : (w : List Leaf) → IsIn (tree_item.Root w) g.items → (instrs : List Instr) (most : ℕ)
         → Rattle.sel_parse_joined.specs.sel_parse_desk.specs.Selected.Selected vax q d g.locals (tree_of w) instrs most → All Fine (code_items instrs)
@@ -68,8 +76,9 @@ module _ (q : TreeProgram) (ok : IsSelectable q) (d : Content) (fit : IsFit vax 
             refl,
             (
               refl,
-              all_append Fine (code_items (room_code s.words)) (s.body ++ code_items end_code) (room_fine s.words)
-                  (all_append Fine s.body (code_items end_code) (body_fine g.locals s.words g.items s.body (λ w at. at) s.selected) (refl, (refl, tt))),
+              all_append Fine (code_items (room_code s.words)) (homed g.wanted s.body ++ code_items end_code) (room_fine s.words)
+                  (all_append Fine (homed g.wanted s.body) (code_items end_code)
+                  (homed_fine (homes_of g.wanted s.body) s.body (body_fine g.locals s.words g.items s.body (λ w at. at) s.selected)) (refl, (refl, tt))),
             ),
           ),
         )

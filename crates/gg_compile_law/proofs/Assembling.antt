@@ -20,9 +20,10 @@ use Rattle.tree_core.specs.declared.program.TreeFn.{TreeFn}
 use Rattle.tree_core.specs.declared.program.TreeProgram.{TreeProgram}
 use Rattle.tree_meaning.specs.State.{behind}
 use Rattle.vax_frames_law.specs.vax_frames.specs.Frames.{code_items, room_code, end_code, frame_items}
+use Rattle.gg_compile_law.specs.Framing.{FrameLayout, homed_code}
 use Rattle.gg_compile_law.specs.Programs.{HasItems, stands_in, IsBody, nothing, label, root, StandsAt, IsEmitted, IsCompiled}
 use Rattle.gg_compile_law.specs.Assembled.{IsTreeCode, nothing as nothing_of, label as label_of, root as root_of, IsFunctionCode, AreFunctions, none, more, IsAssembled}
-use Rattle.gg_compile_law.specs.Assembled.{AssembledFollow, SourceIsFollowed, FramesAreFunctionCodes}
+use Rattle.gg_compile_law.specs.Assembled.{AssembledFollow, SourceIsFollowed}
 use Rattle.gg_compile_law.proofs.Validity.{all_at, IsIn, RootFacts, root_facts, items_in_order}
 use Rattle.tree_core.specs.declared.tree.Leaf.{Leaf}
 use Rattle.tree_core.specs.Valid.{named, main_takes_nothing, IsValid}
@@ -34,7 +35,6 @@ use Rattle.gg_base.proofs.Composing.{composes}
 use Rattle.vax_machine.specs.Running.{run}
 use Rattle.tree_meaning.specs.Meaning.{main_of, tree_run}
 use Rattle.vax_frames_law.proofs.Labelling.{first_place}
-use Rattle.vax_frames_law.proofs.Masks.{mask_is}
 use Rattle.vax_frames_law.proofs.Framing.{four}
 use Rattle.tree_meaning.proofs.Law.{tree_run_unbroken}
 use Rattle.gg_compile_law.proofs.Starting.{found, compiled_follow}
@@ -63,35 +63,35 @@ labels_differ c h = by (double_area_label c.area c.items) (double_label c.items)
 
 -- ---- labels in a body
 
-pub record LabelIn (program : TreeProgram) (g : TreeFn) (words l : ℕ) (is : List TreeItem) (body : List CodeItem) : Type 0 where
+pub record LabelIn (program : TreeProgram) (g : TreeFn) (y : FrameLayout) (l : ℕ) (is : List TreeItem) (body : List CodeItem) : Type 0 where
   pub pre : List CodeItem
   pub post : List CodeItem
   pub body_is : body ≡ pre ++ item_kind.Label (label_name l) ∷ post
-  pub rest : IsBody program g words (behind is l) post
+  pub rest : IsBody program g y (behind is l) post
 
-module _ (program : TreeProgram) (g : TreeFn) (words l : ℕ) where
-  label_in : (is : List TreeItem) (body : List CodeItem) → IsBody program g words is body → stands_in is l ≡ true → LabelIn program g words l is body
+module _ (program : TreeProgram) (g : TreeFn) (y : FrameLayout) (l : ℕ) where
+  label_in : (is : List TreeItem) (body : List CodeItem) → IsBody program g y is body → stands_in is l ≡ true → LabelIn program g y l is body
   label_in is body nothing e = absurd (true≢false (sym e))
   label_in is body (root w is' instrs code s h) e =
       let r = label_in is' code h e in
       record {
-        pre = code_items instrs ++ r.pre;
+        pre = code_items (homed_code y instrs) ++ r.pre;
         post = r.post;
-        body_is = ap (λ (x : List CodeItem). code_items instrs ++ x) r.body_is ∙ sym
-            (append_assoc (code_items instrs) r.pre (item_kind.Label (label_name l) ∷ r.post));
+        body_is = ap (λ (x : List CodeItem). code_items (homed_code y instrs) ++ x) r.body_is ∙ sym
+            (append_assoc (code_items (homed_code y instrs)) r.pre (item_kind.Label (label_name l) ∷ r.post));
         rest = r.rest;
       }
   label_in is body (label k is' code h) e = by (k == l) refl e (λ f. label_in is' code h f)
     where
-      by : (b : Bool) → (k == l) ≡ b → (b || stands_in is' l) ≡ true → (stands_in is' l ≡ true → LabelIn program g words l is' code)
-          → LabelIn program g words l (tree_item.Label k ∷ is') (item_kind.Label (label_name k) ∷ code)
+      by : (b : Bool) → (k == l) ≡ b → (b || stands_in is' l) ≡ true → (stands_in is' l ≡ true → LabelIn program g y l is' code)
+          → LabelIn program g y l (tree_item.Label k ∷ is') (item_kind.Label (label_name k) ∷ code)
       by true eq f rest =
           record {
             pre = [];
             post = code;
             body_is = ap (λ (n : ℕ). item_kind.Label (label_name n) ∷ code) (eqb-true k l eq);
             rest = subst
-                (λ (b : Bool). IsBody program g words (cond b is' (behind is' l)) code) (sym eq) h;
+                (λ (b : Bool). IsBody program g y (cond b is' (behind is' l)) code) (sym eq) h;
           }
       by false eq f rest =
           let r = rest f in
@@ -100,31 +100,31 @@ module _ (program : TreeProgram) (g : TreeFn) (words l : ℕ) where
             post = r.post;
             body_is = ap (λ (x : List CodeItem). item_kind.Label (label_name k) ∷ x) r.body_is;
             rest = subst
-                (λ (b : Bool). IsBody program g words (cond b is' (behind is' l)) r.post) (sym eq) r.rest;
+                (λ (b : Bool). IsBody program g y (cond b is' (behind is' l)) r.post) (sym eq) r.rest;
           }
 
 -- ---- a function's code
 
 -- the code of trees is a body, where the program is valid
-module _ (program : TreeProgram) (v : IsValid program) (n : ℕ) (g : TreeFn) (there : slice_get program.functions n ≡ Some g) (words : ℕ) where
-  tree_body : (is : List TreeItem) (body : List CodeItem) → IsTreeCode program g words is body → ((w : List Leaf) → IsIn (tree_item.Root w) is → IsIn (tree_item.Root w) g.items)
-      → IsBody program g words is body
+module _ (program : TreeProgram) (v : IsValid program) (n : ℕ) (g : TreeFn) (there : slice_get program.functions n ≡ Some g) (y : FrameLayout) where
+  tree_body : (is : List TreeItem) (body : List CodeItem) → IsTreeCode program g y is body → ((w : List Leaf) → IsIn (tree_item.Root w) is → IsIn (tree_item.Root w) g.items)
+      → IsBody program g y is body
   tree_body is body nothing_of sub = nothing
   tree_body is body (label_of l rest code h) sub = label l rest code (tree_body rest code h (λ w at. sub w (suc at.0, at.1)))
   tree_body is body (root_of w rest instrs code h t) sub =
       let r : RootFacts program g w = root_facts program v n g there w (sub w (0, refl)) in
-      root w rest instrs code (record { effect = h; target = r.target; call = r.call }) (tree_body rest code t (λ x at. sub x (suc at.0, at.1)))
+      root w rest instrs code (record { root = h; target = r.target; call = r.call }) (tree_body rest code t (λ x at. sub x (suc at.0, at.1)))
 
 module _ (program : TreeProgram) (valid : IsValid program) (number : ℕ) (g : TreeFn) (is_there : slice_get program.functions number ≡ Some g) (part pre post code : List CodeItem)
     (f : IsFunctionCode program g part) (code_is : code ≡ pre ++ (part ++ post)) (once : double_label code ≡ None) where
   abbrev name : List ℕ
   name = function_label g.name
 
-  is_body : IsBody program g f.words g.items f.body
-  is_body = tree_body program valid number g is_there f.words g.items f.body f.is_body (λ w at. at)
+  is_body : IsBody program g f.layout g.items f.body
+  is_body = tree_body program valid number g is_there f.layout g.items f.body f.is_body (λ w at. at)
 
   abbrev frame : List CodeItem
-  frame = frame_items name f.mask f.words f.body
+  frame = frame_items name f.layout.mask f.layout.words f.body
 
   framed_code : code ≡ pre ++ (frame ++ post)
   framed_code = code_is ∙ ap (λ (x : List CodeItem). pre ++ (x ++ post)) f.part_is
@@ -133,7 +133,7 @@ module _ (program : TreeProgram) (valid : IsValid program) (number : ℕ) (g : T
   there = subst (λ (x : List CodeItem). HasItems x (length pre) frame) (sym framed_code) (has_all frame pre post)
 
   abbrev tail : List CodeItem
-  tail = item_kind.Mask f.mask ∷ ((code_items (room_code f.words) ++ (f.body ++ code_items end_code)) ++ post)
+  tail = item_kind.Mask f.layout.mask ∷ ((code_items (room_code f.layout.words) ++ (f.body ++ code_items end_code)) ++ post)
 
   code_at_label : code ≡ (pre ++ item_kind.Globl name ∷ []) ++ item_kind.Label name ∷ tail
   code_at_label = framed_code ∙ sym (append_assoc pre (item_kind.Globl name ∷ []) (item_kind.Label name ∷ tail))
@@ -154,19 +154,20 @@ module _ (program : TreeProgram) (valid : IsValid program) (number : ℕ) (g : T
   entry_is : next_item code (label_place code name) ≡ length pre + 1 + 1
   entry_is = ap (λ (p : ℕ). next_item code p) label_is ∙ ap (λ (k : ℕ). length pre + 1 + k) skips
 
-  abbrev rest_there : HasItems code (length pre + 1 + 1 + 1) (code_items (room_code f.words) ++ (f.body ++ code_items end_code))
+  abbrev rest_there : HasItems code (length pre + 1 + 1 + 1) (code_items (room_code f.layout.words) ++ (f.body ++ code_items end_code))
   rest_there = there.1.1.1
 
-  label_stands : (l : ℕ) → stands_in g.items l ≡ true → StandsAt program code g f.words (label_place code (label_name l)) (tree_item.Label l ∷ behind g.items l)
+  label_stands : (l : ℕ) → stands_in g.items l ≡ true → StandsAt program code g f.layout (label_place code (label_name l)) (tree_item.Label l ∷ behind g.items l)
   label_stands l e =
-      let r : LabelIn program g f.words l g.items f.body = label_in program g f.words l g.items f.body is_body e in
+      let r : LabelIn program g f.layout l g.items f.body = label_in program g f.layout l g.items f.body is_body e in
       let at = item_kind.Label (label_name l) ∷ r.post in
-      let front = item_kind.Globl name ∷ (item_kind.Label name ∷ (item_kind.Mask f.mask ∷ (code_items (room_code f.words) ++ r.pre))) in
+      let front = item_kind.Globl name ∷ (item_kind.Label name ∷ (item_kind.Mask f.layout.mask ∷ (code_items (room_code f.layout.words) ++ r.pre))) in
       let behind_it = (at ++ code_items end_code) ++ post in
       let split : code ≡ (pre ++ front) ++ behind_it =
       framed_code
-      ∙ ap (λ (b : List CodeItem). pre ++ (frame_items name f.mask f.words b ++ post)) r.body_is
-      ∙ ap (λ (x : List CodeItem). pre ++ (item_kind.Globl name ∷ (item_kind.Label name ∷ (item_kind.Mask f.mask ∷ x)))) (four (code_items (room_code f.words)) r.pre at (code_items end_code) post)
+      ∙ ap (λ (b : List CodeItem). pre ++ (frame_items name f.layout.mask f.layout.words b ++ post)) r.body_is
+      ∙ ap (λ (x : List CodeItem). pre ++ (item_kind.Globl name ∷ (item_kind.Label name ∷ (item_kind.Mask f.layout.mask ∷ x))))
+      (four (code_items (room_code f.layout.words)) r.pre at (code_items end_code) post)
       ∙ sym (append_assoc pre front behind_it) in
       let place : label_place code (label_name l) ≡ length (pre ++ front) =
       ap (λ (x : List CodeItem). label_place x (label_name l)) split
@@ -182,17 +183,19 @@ module _ (program : TreeProgram) (valid : IsValid program) (number : ℕ) (g : T
   pub function_emitted : IsEmitted program code g
   function_emitted = record {
     frame = record {
-      words = f.words;
-      mask = f.mask;
+      words = f.layout.words;
+      mask = f.layout.mask;
       entry = length pre + 1 + 1;
       enough = f.locals;
       few = f.few;
       is_mask = f.is_mask;
       entry_is = entry_is;
       mask_there = there.1.1.0;
-      room = has_instrs code (length pre + 1 + 1 + 1) (room_code f.words) (f.body ++ code_items end_code) rest_there;
+      room = has_instrs code (length pre + 1 + 1 + 1) (room_code f.layout.words) (f.body ++ code_items end_code) rest_there;
     };
-    begins = record { body = f.body; is_body = is_body; there = has_rest code (length pre + 1 + 1 + 1) (room_code f.words) (f.body ++ code_items end_code) rest_there };
+    homes = f.layout.homes;
+    are_homes = f.are_homes;
+    begins = record { body = f.body; is_body = is_body; there = has_rest code (length pre + 1 + 1 + 1) (room_code f.layout.words) (f.body ++ code_items end_code) rest_there };
     labels = label_stands;
     order = items_in_order program valid number g is_there;
   }
@@ -252,15 +255,3 @@ assembled_follow program c h = compiled_follow program c (assembled_is_compiled 
 
 pub source_is_followed : SourceIsFollowed
 source_is_followed program c h source input bytes follows = composes source (tree_run program input) (run c input) follows (tree_run_unbroken program input) (assembled_follow program c h input bytes)
-
-pub frames_are_function_codes : FramesAreFunctionCodes
-frames_are_function_codes program g words body code locals few is_body h = record {
-  words = words;
-  mask = h.mask;
-  body = body;
-  locals = locals;
-  few = few;
-  is_mask = mask_is g.name words body code h;
-  is_body = is_body;
-  part_is = h.code_is;
-}

@@ -1,6 +1,7 @@
 -- All premises can be met: one program and its code.
-use Rattle.std.proofs.Common.{◌≡◌, ℕ, ◌+◌, ◌≤◌, Bool, true, false, cond, List, [], ◌∷◌, refl, arith}
-use Rattle.std.specs.Prelude.{codes, nat_lt}
+use Rattle.std.proofs.Common.{◌≡◌, ℕ, ◌+◌, ◌≤◌, Bool, true, false, cond, List, [], ◌∷◌, refl, ap, arith}
+use Rattle.std.specs.Prelude.{codes, nat_lt, ◌&&◌, ◌||◌}
+use Rattle.std.proofs.lemmas.Bool.{ne_eqb}
 use Rattle.std.specs.Str.{bytes_eq}
 use Rattle.std.proofs.lemmas.List.Elements.{All-nil, All-from_recursion}
 use Rattle.vax_machine.specs.Loading.{Loads}
@@ -14,7 +15,13 @@ use Rattle.tree_core.specs.Trees.{none, tree}
 use Rattle.tree_core.specs.Items.{nothing, other, call}
 use Rattle.tree_core.specs.Labels.{TargetsStand}
 use Rattle.tree_core.specs.Valid.{PushesStand, main_takes_nothing, leaf_names, ItemStands, ItemsStand, WantedStand, LinksLie, IsValid}
-use Rattle.vax_core.specs.First.{putchar_name}
+use Rattle.vax_core.specs.First.{putchar_name, imm, in_reg}
+use Rattle.vax_core.specs.declared.register.Reg.TheVariants.{R0}
+use Rattle.vax_core.specs.declared.operand.Operand.{Operand}
+use Rattle.vax_core.specs.declared.op.OperandKind.{OperandKind}
+use Rattle.vax_core.specs.Registers.{operands_name}
+use Rattle.vax_core.specs.Valid.{is_base}
+use Rattle.vax_homes_items.specs.vax_homes_law.specs.Alike.{FitsArguments, MayHome}
 use Rattle.vax_frames_law.specs.vax_frames.specs.Frames.{end_code}
 use Rattle.gg_compile_law.specs.Demo.{demo_main, demo, push_code, call_code, demo_body, demo_code, DemoFollows}
 use Rattle.gg_compile_law.specs.Areas.{none as no_blocks}
@@ -73,20 +80,39 @@ demo_valid = record {
     once name true = omega arith
     once name false = omega arith
 
+-- without homes an operand need be valid alone
+plain_operand : {k : OperandKind} (o : Operand) → is_base o.base ≡ true → FitsArguments 0 o.base → MayHome [] 0 k o
+plain_operand o valid fits = record { valid = valid; unnamed = λ g has. absurd has; spared = λ g has. absurd has; fits = fits }
+
+-- r0 isn't among r2 to r11
+not_zero : (r : ℕ) → 2 ≤ r → operands_name (in_reg R0 ∷ []) r ≡ false
+not_zero r low = ap (λ (b : Bool). ((b && nat_lt r 12) || false) || false) (ne_eqb 0 r (λ e. omega (arith, e, low)))
+
 demo_is : IsAssembled demo demo_code
 demo_is = record {
   valid = demo_valid;
   loads = demo_loads;
   functions = more demo_main [] _ []
       (record {
-        words = 0;
-        mask = 0;
+        layout = record { words = 0; mask = 0; homes = [] };
         body = demo_body;
         locals = omega arith;
         few = omega arith;
         is_mask = record { low = refl; high = omega arith };
-        is_body = root_of _ _ (push_code 72) _ (push_effect demo 0 0 0 72 (omega arith)) (root_of _ _ (call_code 1 putchar_name) _ (putchar_effect demo 0 0 0)
-            (root_of _ _ end_code [] (return_effect demo 0 0 0) nothing_of));
+        are_homes = record {
+          paired = record { low = λ h has. absurd has; high = λ h has. absurd has; registers = λ g h has. absurd has; locals = λ g h has. absurd has };
+          fits = λ h has. absurd has;
+        };
+        is_body = root_of _ _ (push_code 72) _
+            (record { effect = push_effect demo 0 0 0 72 (omega arith); ready = ((plain_operand (imm 72) refl tt, tt), tt); named = (λ r low high out. refl, tt) })
+            (root_of _ _ (call_code 1 putchar_name) _
+            (record { effect = putchar_effect demo 0 0 0; ready = ((plain_operand (imm 1) refl tt, tt), tt); named = (λ r low high out. refl, tt) })
+            (root_of _ _ end_code []
+            (record {
+              effect = return_effect demo 0 0 0;
+              ready = ((plain_operand (in_reg R0) refl tt, tt), (tt, tt));
+              named = (λ r low high out. not_zero r low, (λ r low high out. refl, tt));
+            }) nothing_of));
         part_is = refl;
       })
       no_more;

@@ -11,6 +11,7 @@ pub mod Starting
 pub mod Validity
 pub mod Areas
 pub mod Assembling
+pub mod Framing
 pub mod Simple
 pub mod Demo
 pub mod Spelling

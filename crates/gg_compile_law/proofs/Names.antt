@@ -24,6 +24,7 @@ use Rattle.tree_core.specs.Valid.{named, IsValid}
 use Rattle.tree_core.proofs.Apart.{times-append}
 use Rattle.tree_core.specs.Names.{label_name, function_label}
 use Rattle.vax_frames_law.specs.vax_frames.specs.Frames.{room_code, end_code, code_items, frame_items}
+use Rattle.gg_compile_law.specs.Framing.{FrameLayout, homed_code}
 use Rattle.gg_compile_law.specs.Assembled.{IsTreeCode, nothing, label, root, IsFunctionCode, AreFunctions, none, more}
 use Rattle.gg_compile_law.specs.Names.{AreSmall, HaveSmall, CodeLabelsDiffer, MainStands}
 
@@ -102,26 +103,26 @@ trees_count name [] = 0
 trees_count name (f ∷ fs) = tree_count name f.items + trees_count name fs
 
 module _ (program : TreeProgram) (name : List ℕ) where
-  body_count : (g : TreeFn) (words : ℕ) (is : List TreeItem) (code : List CodeItem) → IsTreeCode program g words is code → count name code ≡ tree_count name is
+  body_count : (g : TreeFn) (y : FrameLayout) (is : List TreeItem) (code : List CodeItem) → IsTreeCode program g y is code → count name code ≡ tree_count name is
   unfolding count tree_count
-  body_count g words is code nothing = refl
-  body_count g words is code (label l js rest h) = ap (λ (n : ℕ). cond (bytes_eq (label_name l) name) 1 0 + n) (body_count g words js rest h)
-  body_count g words is code (root w js instrs rest e h) =
-      let a = count_append name (code_items instrs) rest in
-      let z = no_labels name instrs in
-      let r = body_count g words js rest h in
+  body_count g y is code nothing = refl
+  body_count g y is code (label l js rest h) = ap (λ (n : ℕ). cond (bytes_eq (label_name l) name) 1 0 + n) (body_count g y js rest h)
+  body_count g y is code (root w js instrs rest e h) =
+      let a = count_append name (code_items (homed_code y instrs)) rest in
+      let z = no_labels name (homed_code y instrs) in
+      let r = body_count g y js rest h in
       omega (arith, a, z, r)
 
   frame_count : (g : TreeFn) (part : List CodeItem) → IsFunctionCode program g part → count name part ≡ cond (bytes_eq (function_label g.name) name) 1 0 + tree_count name g.items
   unfolding count
   frame_count g part h =
-      let inside = code_items (room_code h.words) ++ (h.body ++ code_items end_code) in
-      let a = count_append name (code_items (room_code h.words)) (h.body ++ code_items end_code) in
+      let inside = code_items (room_code h.layout.words) ++ (h.body ++ code_items end_code) in
+      let a = count_append name (code_items (room_code h.layout.words)) (h.body ++ code_items end_code) in
       let b = count_append name h.body (code_items end_code) in
-      let z = no_labels name (room_code h.words) in
+      let z = no_labels name (room_code h.layout.words) in
       let y = no_labels name end_code in
-      let t = body_count g h.words g.items h.body h.is_body in
-      let whole : count name (frame_items (function_label g.name) h.mask h.words h.body) ≡ cond (bytes_eq (function_label g.name) name) 1 0 + count name inside = omega arith in
+      let t = body_count g h.layout g.items h.body h.is_body in
+      let whole : count name (frame_items (function_label g.name) h.layout.mask h.layout.words h.body) ≡ cond (bytes_eq (function_label g.name) name) 1 0 + count name inside = omega arith in
       ap (λ (x : List CodeItem). count name x) h.part_is ∙ whole ∙ omega (arith, a, b, z, y, t)
 
   pub all_count : (fs : List TreeFn) (code : List CodeItem) → AreFunctions program fs code → count name code ≡ fun_count name fs + trees_count name fs

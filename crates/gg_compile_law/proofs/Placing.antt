@@ -19,6 +19,7 @@ use Rattle.tree_core.specs.declared.program.TreeProgram.{TreeProgram}
 use Rattle.tree_core.specs.Names.{label_name}
 use Rattle.vax_machine_lists.specs.Runs.{HasInstrs}
 use Rattle.vax_frames_law.specs.vax_frames.specs.Frames.{code_items, end_code}
+use Rattle.gg_compile_law.specs.Framing.{FrameLayout, homed_code}
 use Rattle.gg_compile_law.specs.Programs.{HasItems, IsSelected, IsBody, nothing, label, root, StandsAt}
 
 pub has_instrs : (code : List CodeItem) (place : ℕ) (is : List Instr) (rest : List CodeItem) → HasItems code place (code_items is ++ rest) → HasInstrs code place is
@@ -78,40 +79,41 @@ label_skipped m name e = λ i n. by n i
 
 -- ---- the code of a function's items
 
-pub record RootAt (program : TreeProgram) (code : List CodeItem) (g : TreeFn) (words place : ℕ) (w : List Leaf) (is : List TreeItem) : Type 0 where
+pub record RootAt (program : TreeProgram) (code : List CodeItem) (g : TreeFn) (y : FrameLayout) (place : ℕ) (w : List Leaf) (is : List TreeItem) : Type 0 where
   pub instrs : List Instr
-  pub selected : IsSelected program g words w instrs
-  pub stand : HasInstrs code place instrs
-  pub rest : StandsAt program code g words (place + length instrs) is
+  pub selected : IsSelected program g y w instrs
+  pub stand : HasInstrs code place (homed_code y instrs)
+  pub rest : StandsAt program code g y (place + length (homed_code y instrs)) is
 
-pub record LabelAt (program : TreeProgram) (code : List CodeItem) (g : TreeFn) (words place l : ℕ) (is : List TreeItem) : Type 0 where
+pub record LabelAt (program : TreeProgram) (code : List CodeItem) (g : TreeFn) (y : FrameLayout) (place l : ℕ) (is : List TreeItem) : Type 0 where
   pub stands : slice_get code place ≡ Some (item_kind.Label (label_name l))
-  pub rest : StandsAt program code g words (place + 1) is
+  pub rest : StandsAt program code g y (place + 1) is
 
-module _ (program : TreeProgram) (code : List CodeItem) (g : TreeFn) (words place : ℕ) where
-  end_by : (body : List CodeItem) → IsBody program g words [] body → HasItems code place (body ++ code_items end_code) → HasItems code place (code_items end_code)
+module _ (program : TreeProgram) (code : List CodeItem) (g : TreeFn) (y : FrameLayout) (place : ℕ) where
+  end_by : (body : List CodeItem) → IsBody program g y [] body → HasItems code place (body ++ code_items end_code) → HasItems code place (code_items end_code)
   end_by body nothing h = h
 
-  label_by : (l : ℕ) (is : List TreeItem) (body : List CodeItem) → IsBody program g words (tree_item.Label l ∷ is) body → HasItems code place (body ++ code_items end_code)
-      → LabelAt program code g words place l is
+  label_by : (l : ℕ) (is : List TreeItem) (body : List CodeItem) → IsBody program g y (tree_item.Label l ∷ is) body → HasItems code place (body ++ code_items end_code)
+      → LabelAt program code g y place l is
   label_by l is body (label l' is' rest b) h = record { stands = h.0; rest = record { body = rest; is_body = b; there = h.1 } }
 
-  root_by : (w : List Leaf) (is : List TreeItem) (body : List CodeItem) → IsBody program g words (tree_item.Root w ∷ is) body → HasItems code place (body ++ code_items end_code)
-      → RootAt program code g words place w is
+  root_by : (w : List Leaf) (is : List TreeItem) (body : List CodeItem) → IsBody program g y (tree_item.Root w ∷ is) body → HasItems code place (body ++ code_items end_code)
+      → RootAt program code g y place w is
   root_by w is body (root w' is' instrs rest s b) h =
-      let there = subst (λ (x : List CodeItem). HasItems code place x) (append_assoc (code_items instrs) rest (code_items end_code)) h in
+      let homed = homed_code y instrs in
+      let there = subst (λ (x : List CodeItem). HasItems code place x) (append_assoc (code_items homed) rest (code_items end_code)) h in
       record {
         instrs = instrs;
         selected = s;
-        stand = has_instrs code place instrs (rest ++ code_items end_code) there;
-        rest = record { body = rest; is_body = b; there = has_rest code place instrs (rest ++ code_items end_code) there };
+        stand = has_instrs code place homed (rest ++ code_items end_code) there;
+        rest = record { body = rest; is_body = b; there = has_rest code place homed (rest ++ code_items end_code) there };
       }
 
-  pub end_at : StandsAt program code g words place [] → HasInstrs code place end_code
+  pub end_at : StandsAt program code g y place [] → HasInstrs code place end_code
   end_at h = let e = end_by h.body h.is_body h.there in (e.0, (e.1.0, tt))
 
-  pub label_at : (l : ℕ) (is : List TreeItem) → StandsAt program code g words place (tree_item.Label l ∷ is) → LabelAt program code g words place l is
+  pub label_at : (l : ℕ) (is : List TreeItem) → StandsAt program code g y place (tree_item.Label l ∷ is) → LabelAt program code g y place l is
   label_at l is h = label_by l is h.body h.is_body h.there
 
-  pub root_at : (w : List Leaf) (is : List TreeItem) → StandsAt program code g words place (tree_item.Root w ∷ is) → RootAt program code g words place w is
+  pub root_at : (w : List Leaf) (is : List TreeItem) → StandsAt program code g y place (tree_item.Root w ∷ is) → RootAt program code g y place w is
   root_at w is h = root_by w is h.body h.is_body h.there

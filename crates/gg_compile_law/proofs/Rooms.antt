@@ -1,14 +1,17 @@
 -- As long as at most 1,024 calls are active, the stack has room.
-use Rattle.std.proofs.Common.{◌≡◌, ℕ, ◌+◌, ◌*◌, ◌≤◌, List, [], ◌∷◌, length, Bool, false, refl, ap, arith, length-append}
+use Rattle.std.proofs.Common.{◌≡◌, ℕ, ◌+◌, ◌*◌, ◌≤◌, List, [], ◌∷◌, length, Bool, true, false, refl, ap, arith, length-append}
 use Rattle.vax_machine_live.specs.declared.frame.Frame.{Frame}
 use Rattle.vax_core.specs.declared.code.CodeItem.{CodeItem}
 use Rattle.tree_core.specs.declared.program.TreeItem.{TreeItem}
 use Rattle.tree_core.specs.declared.program.TreeItem.TheVariants as tree_item
+use Rattle.tree_core.specs.declared.program.TreeFn.{TreeFn}
 use Rattle.tree_core.specs.declared.program.TreeProgram.{TreeProgram}
 use Rattle.tree_meaning.specs.State.{Activation, Extent}
 use Rattle.vax_frames_law.specs.vax_states.specs.Stack.{Holds, Hold, nobody, caller}
 use Rattle.gg_compile_law.specs.Roles.{Role, Pushes, Calls, Saves, Plain, role_of}
-use Rattle.gg_compile_law.specs.Programs.{InOrderBy, InOrder, Waits, ends_run, goes_on}
+use Rattle.vax_homes_frames.specs.Live.{HomedCall}
+use Rattle.gg_compile_law.specs.Framing.{FrameLayout}
+use Rattle.gg_compile_law.specs.Programs.{InOrderBy, InOrder, IsActive, Waits, ends_run, goes_on}
 
 -- no call has more than 1,024 words, nor pushes more than 255 arguments
 abbrev pub AreSmall : List Extent → List Activation → Type 0
@@ -43,7 +46,12 @@ few_pushed [] pushed b h = omega (arith, h)
 few_pushed (tree_item.Label l ∷ is) pushed b h = omega (arith, h.0)
 few_pushed (tree_item.Root w ∷ is) pushed b h = few_by (role_of w) pushed b _ h (λ p c g. few_pushed is p c g)
 
-pub waits_small : (program : TreeProgram) (code : List CodeItem) (frames : List Frame) (es : List Extent) (xs : List Activation) → Waits program code frames es xs → AreSmall es xs
-waits_small program code frames es xs (ends_run f none) = tt
-waits_small program code frames es xs (goes_on outer inner all h f g e rest_e a rest place p q back saved fp ap_is active more) =
-    (omega (arith, active.words, active.emitted.frame.few), few_pushed a.items (length a.pushed) _ active.order, waits_small program code inner rest_e rest more)
+-- a call's frame has few words
+pub few_words : (program : TreeProgram) (code : List CodeItem) (g : TreeFn) (e : Extent) (c : HomedCall) (a : Activation) (place : ℕ) (b : Bool) → IsActive program code g e c a place b
+    → e.words ≤ 1024
+few_words program code g e c a place b h = let words = ap (λ (y : FrameLayout). y.words) h.layout in omega (arith, words, h.emitted.frame.few)
+
+pub waits_small : (program : TreeProgram) (code : List CodeItem) (c : HomedCall) (cs : List HomedCall) (es : List Extent) (xs : List Activation) → Waits program code c cs es xs → AreSmall es xs
+waits_small program code c cs es xs (ends_run c' none) = tt
+waits_small program code c cs es xs (goes_on c' d ds g e rest_e a rest place back saved fp ap_is active more) =
+    (few_words program code g e d a place true active, few_pushed a.items (length a.pushed) _ active.order, waits_small program code d ds rest_e rest more)

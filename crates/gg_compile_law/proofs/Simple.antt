@@ -10,8 +10,8 @@ use Rattle.vax_core.specs.declared.op.Op.TheVariants.{Pushl}
 use Rattle.vax_machine.specs.declared.turn.Stop.{Stop}
 use Rattle.vax_machine.specs.declared.function.Conditions.{Conditions}
 use Rattle.vax_machine.specs.State.{State, reg, with_reg, with_conditions, cleared, ◌>>=◌}
-use Rattle.vax_machine.specs.Memory.{written}
-use Rattle.vax_machine.specs.Operands.{evaluated, located, taken}
+use Rattle.vax_machine.specs.Memory.{register_set}
+use Rattle.vax_machine.specs.Operands.{located, taken, stored}
 use Rattle.vax_machine.specs.Functions.{valued}
 use Rattle.vax_machine.specs.Calls.{Acts, pushed, putchar}
 use Rattle.tree_core.specs.declared.tree.Leaf.{Leaf}
@@ -26,14 +26,15 @@ use Rattle.tree_meaning.specs.State.{State as Trees, Extent}
 use Rattle.tree_meaning.specs.Steps.{Step, without_pushed, called_as, served, wrote, with_pushed, tree_step}
 use Rattle.vax_frames_law.specs.vax_states.specs.Agreeing.{Agrees}
 use Rattle.vax_core.specs.First.{putchar_name, imm}
-use Rattle.vax_machine_lists.specs.Instructions.{Comes, comes, course_of, followed, performed, exec}
+use Rattle.vax_machine_lists.specs.Instructions.{Comes, Returns, ends, comes, course_of, followed}
+use Rattle.vax_homes_items.specs.vax_homes_law.specs.vax_confined.specs.Confined.{evaluated, performed, exec}
 use Rattle.vax_machine_lists.proofs.Soundness.{conditions_sound}
 use Rattle.gg_compile_law.specs.Effects.{Does, IsReady, HasEffect}
 use Rattle.gg_compile_law.specs.Demo.{call_code}
 use Rattle.vax_frames_law.specs.vax_frames.specs.Frames.{instr, end_code}
 use Rattle.vax_frames_law.specs.vax_states.proofs.Standing.{kept, register_kept, push_written}
 use Rattle.vax_frames_law.specs.vax_states.proofs.Popping.{put_acts, set_up, agrees_result, sp_high, agrees_popped, top_read}
-use Rattle.vax_frames_law.proofs.FrameCode.{end_is, end_agrees, end_result}
+use Rattle.vax_frames_law.proofs.FrameCode.{ended, end_agrees, end_result}
 
 module _ (objects : List Object) (e : Extent) (es : List Extent) (t : Trees) (m : State) (h : Agrees objects e es t m) where
   -- the condition codes don't matter
@@ -48,6 +49,11 @@ putchar_is : (m : State) (o : Option ℕ) (n : State) → putchar m 1 ≡ Ok (o,
 unfolding performed evaluated located taken
 putchar_is m None n e = ap (λ (r : Acts). followed (course_of r) [] (λ (x : State). comes x)) e
 putchar_is m (Some b) n e = ap (λ (r : Acts). followed (course_of r) [] (λ (x : State). comes x)) e
+
+-- the end of a function's code, run confined
+end_is : (objects : List Object) (e : Extent) (es : List Extent) (t : Trees) (m : State) (h : Agrees objects e es t m) → exec end_code m ≡ ends (Returns (ended objects e es t m h))
+unfolding performed evaluated located taken stored register_set
+end_is objects e es t m h = refl
 
 module _ (program : TreeProgram) (locals args most : ℕ) where
   -- a number is pushed by `pushl $n`

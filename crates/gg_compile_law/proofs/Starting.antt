@@ -4,13 +4,12 @@ use Rattle.std.specs.Prelude.{slice_get, codes}
 use Rattle.std.specs.List.{find}
 use Rattle.std.specs.Str.{bytes_eq}
 use Rattle.std.proofs.lemmas.Slice.Eq.{bytes_eq-Decides}
-use Rattle.std.proofs.lemmas.Option.{same_Some, none-some}
+use Rattle.std.proofs.lemmas.Option.{same_Some}
 use Rattle.std.proofs.lemmas.Bool.{false≢true}
 use Rattle.gg_base.specs.Follows.{Forward, Follows}
 use Rattle.gg_base.proofs.Following.{follows}
 use Rattle.vax_core.specs.declared.code.Code.{Code}
 use Rattle.vax_core.specs.First.{main_name}
-use Rattle.vax_machine_live.specs.declared.frame.Frame.{Frame}
 use Rattle.vax_machine.specs.State.{State}
 use Rattle.vax_machine.specs.Labels.{label_place}
 use Rattle.vax_machine.specs.Calls.{called}
@@ -26,14 +25,14 @@ use Rattle.tree_meaning.specs.State.{begun, arrived}
 use Rattle.tree_meaning.specs.State.{State as Trees}
 use Rattle.tree_meaning.specs.Meaning.{run, runs, main_at, tree_run}
 use Rattle.tree_meaning.proofs.Law.{tree_run_unbroken}
-use Rattle.vax_frames_law.specs.vax_states.specs.Stack.{nobody}
 use Rattle.vax_machine_lists.specs.Sound.{AllBelow, IsSound}
 use Rattle.vax_machine_lists.proofs.Beginning.{zeros_below}
-use Rattle.gg_compile_law.specs.Programs.{IsEmitted, StandsAt, Waits, ends_run, Stands, IsCompiled, CompiledFollow}
-use Rattle.vax_frames_law.specs.Laws.{Begins}
+use Rattle.vax_homes_items.specs.vax_homes_law.specs.Calling.{with_stack}
+use Rattle.vax_homes_frames.specs.Passing.{BeginsAtHome}
+use Rattle.gg_compile_law.specs.Programs.{IsEmitted, ends_run, Stands, IsCompiled, CompiledFollow}
 use Rattle.gg_compile_law.proofs.Forwards.{asks_led}
-use Rattle.vax_frames_law.proofs.Entering.{CanCall}
-use Rattle.vax_frames_law.proofs.Functions.{begins_with}
+use Rattle.vax_homes_frames.proofs.Beginning.{runs_begin_at_home}
+use Rattle.gg_compile_law.proofs.Roots.{begins_there}
 use Rattle.gg_compile_law.proofs.Following.{follows_forward}
 
 -- ---- the function called main
@@ -72,9 +71,6 @@ module _ (program : TreeProgram) (c : Code) (h : IsCompiled program c) (input : 
     input_bytes = bytes;
   }
 
-  can : CanCall (blank c input)
-  can = record { sound = blank_sound; space = omega arith; top = omega arith; aligned = refl; live = omega arith; free = λ a k le. refl }
-
   abbrev the_main : (number : ℕ) × (slice_get program.functions number ≡ Some h.main) × (h.main.name ≡ codes "main")
   the_main = found program.functions h.main h.main_is
 
@@ -84,34 +80,35 @@ module _ (program : TreeProgram) (c : Code) (h : IsCompiled program c) (input : 
   abbrev first : Trees
   first = record { running = begun h.main []; callers = []; area = opening program.objects; input = input }
 
-  begins_main : Begins program.objects c.items h.main em.frame [] first (blank c input) 0 None
+  begins_main : BeginsAtHome program.objects c.items h.main em.frame [] em.homes [] first (blank c input) (blank c input).stack 0 None
   begins_main =
-      begins_with program.objects c.items h.main em.frame (blank c input) can (omega arith) refl 0 None (omega arith) [] [] [] (opening program.objects) input refl
-      (λ i v is. absurd (none-some v is)) h.labelled h.area refl nobody
+      runs_begin_at_home program.objects c.items h.main em.frame em.homes (blank c input) (opening program.objects) input None blank_sound refl refl refl h.labelled h.area refl em.are_homes
 
-  stands : Stands program c.items first begins_main.state
+  stands : Stands program c.items first begins_main.state begins_main.stack
   stands =
       let b = begins_main in
       record {
         e = record { locals = h.main.locals; words = em.frame.words };
         es = [];
+        c = record { frame = b.frame; homes = em.homes };
+        cs = [];
         g = h.main;
         is_behind = false;
-        agrees = b.agrees;
+        at_home = b.at_home;
         items = b.items;
         active = record {
           number = the_main.0;
           function = the_main.1;
           emitted = em;
-          words = refl;
+          layout = ap (λ (k : ℕ). record { words = em.frame.words; mask = k; homes = em.homes }) b.is_made.mask_is;
           locals = refl;
           items = refl;
           arguments = sym h.main_args;
-          here = subst (λ (p : ℕ). StandsAt program c.items h.main em.frame.words p h.main.items) (sym b.at) em.begins;
+          here = begins_there program c.items h.emitted h.main em b.frame b.state.place b.is_made.mask_is b.at;
           order = em.order;
         };
         result = λ e. absurd (false≢true e);
-        waits = subst (λ (x : List Frame). Waits program c.items x [] []) (sym b.frames) (ends_run b.frame b.is_made.back_is);
+        waits = ends_run (record { frame = b.frame; homes = em.homes }) b.is_made.back_is;
         shallow = omega arith;
       }
 
@@ -129,8 +126,8 @@ module _ (program : TreeProgram) (c : Code) (h : IsCompiled program c) (input : 
       subst (λ (g : Option TreeFn). Forward k (runs program (main_at program g input)) (code_run c input)) (sym h.main_is)
       (subst (λ (m : State). Forward k (runs program (arrived first)) (state_run m)) (sym start_is)
       (record {
-        at = λ n lt. asks_led b.called_state b.state [] b.steps b.leads n n (omega arith) (run program n (arrived first)).end (run program n (arrived first)).output
-            ((follows_forward program c.items h.emitted k first b.state stands).at n lt);
+        at = λ n lt. asks_led b.called_state (with_stack b.state b.stack) [] b.steps b.leads n n (omega arith) (run program n (arrived first)).end (run program n (arrived first)).output
+            ((follows_forward program c.items h.emitted k first b.state b.stack stands).at n lt);
       }))
 
   follows_trees : Follows (tree_run program input) (code_run c input)

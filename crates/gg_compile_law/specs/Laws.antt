@@ -12,25 +12,29 @@ use Rattle.tree_meaning.specs.State.{State as Trees}
 use Rattle.vax_machine_lists.specs.Runs.{Leads, Halts, Gets}
 use Rattle.vax_frames_law.specs.vax_states.specs.Agreeing.{Agrees}
 use Rattle.vax_frames_law.specs.Laws.{IsRoomy}
+use Rattle.vax_homes_items.specs.vax_homes_law.specs.Calling.{with_stack}
+use Rattle.vax_homes_frames.specs.Live.{HomedCall, AllAtHome}
 use Rattle.gg_compile_law.specs.Programs.{Waits, Stands}
 
--- Behind a return with a value the run is over, or the caller goes on, in a state that stands for the trees' state behind the call.
+-- Behind a return with a value the run is over, or the caller goes on, in a machine that stands for the trees' state behind the call.
 abbrev pub ComesBack : TreeProgram → List CodeItem → List Activation → Trees → ℕ → State → List ℕ → Type 0
 ComesBack program code [] t v m w = (count : ℕ) × Halts m w count (Ended v)
 ComesBack program code (c ∷ cs) t v m w =
-    (count : ℕ) × (n : State) × (1 ≤ count) × Leads m w count n
-    × Stands program code (record { running = record c { result = v }; callers = cs; area = t.area; input = t.input }) n
+    (count : ℕ) × (n : State) × (st : List ℕ) × (1 ≤ count) × Leads m w count (with_stack n st)
+    × Stands program code (record { running = record c { result = v }; callers = cs; area = t.area; input = t.input }) n st
 
 abbrev pub ReturnsComeBack : Type 0
 ReturnsComeBack =
-    (program : TreeProgram) (code : List CodeItem) (m : State) (w : List ℕ) (j : ℕ) (e : Extent) (es : List Extent) (t : Trees) (mr : State)
-    → Gets m w j (returned mr) → Agrees program.objects e es t mr → mr.items ≡ code → (v : ℕ) → reg mr R0 ≡ v
-    → Waits program code mr.frames es t.callers → length t.callers < ACTIVE_CALL_LIMIT → ComesBack program code t.callers t v m w
+    (program : TreeProgram) (code : List CodeItem) (m : State) (w : List ℕ) (j : ℕ) (e : Extent) (es : List Extent) (c : HomedCall)
+    (cs : List HomedCall) (t : Trees) (mr : State) (st : List ℕ)
+    → Gets m w j (returned (with_stack mr st)) → AllAtHome program.objects e es c cs t mr st → mr.items ≡ code → (v : ℕ) → reg mr R0 ≡ v
+    → Waits program code c cs es t.callers → length t.callers < ACTIVE_CALL_LIMIT → ComesBack program code t.callers t v m w
 
 -- The stack has room for a whole call, as long as at most `ACTIVE_CALL_LIMIT` calls are active.
 abbrev pub StackHasRoom : Type 0
 StackHasRoom =
-    (program : TreeProgram) (code : List CodeItem) (e : Extent) (es : List Extent) (t : Trees) (m : State)
+    (program : TreeProgram) (code : List CodeItem) (e : Extent) (es : List Extent) (c : HomedCall) (cs : List HomedCall) (t : Trees)
+    (m : State)
     → Agrees program.objects e es t m → e.words ≤ NEED_LIMIT → length t.running.pushed ≤ 255
-    → Waits program code m.frames es t.callers → length t.callers < ACTIVE_CALL_LIMIT
+    → Waits program code c cs es t.callers → length t.callers < ACTIVE_CALL_LIMIT
     → IsRoomy m

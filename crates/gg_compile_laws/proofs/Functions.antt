@@ -21,9 +21,11 @@ use Rattle.gg_compile_keeps.specs.vax_target_meaning.specs.Fitting.{CanWrite}
 use Rattle.gg_compile_keeps.specs.vax_target_meaning.specs.Vax.{vax}
 use Rattle.gg_compile_counts.specs.gg_compile_law.specs.Names.{AreSmall, HaveSmall}
 use Rattle.gg_compile_counts.specs.gg_compile_law.proofs.Validity.{IsIn}
+use Rattle.gg_compile_counts.specs.gg_compile_law.specs.vax_homes_items.specs.vax_homes_law.specs.vax_homes.specs.Homing.{homed}
+use Rattle.gg_compile_counts.specs.gg_compile_law.specs.vax_homes_items.proofs.Writing.{homed_bodies_can_be_written}
 use Rattle.gg_compile_keeps.specs.gg_compile_code.specs.Selecting.{AreSelected, nothing, label, tree, IsSelectedFunction, AreSelectedFunctions, none, more}
 use Rattle.gg_compile_laws.specs.Keeping.{IsWithinLimits}
-use Rattle.gg_compile_laws.proofs.Tests.{label_spelled}
+use Rattle.gg_compile_laws.proofs.Tests.{all_true, all_passed, label_spelled}
 use Rattle.gg_compile_laws.proofs.Trees.{instrs_valid, words_low}
 
 abbrev pub Fine : CodeItem → Type 0
@@ -93,8 +95,9 @@ module _ (q : TreeProgram) (valid : IsValid q) (limits : IsWithinLimits q) (can 
             name,
             (
               le-leb s.framed.mask 4095 (omega (arith, small)),
-              all_append Fine (code_items (room_code s.words)) (s.body ++ code_items end_code) (room_fine s.words b.low)
-                  (all_append Fine s.body (code_items end_code) b.fine (refl, (refl, tt))),
+              all_append Fine (code_items (room_code s.words)) (homed g.wanted s.body ++ code_items end_code) (room_fine s.words b.low)
+                  (all_append Fine (homed g.wanted s.body) (code_items end_code)
+                  (all_passed is_code_item (homed g.wanted s.body) (homed_bodies_can_be_written g.wanted s.body (all_true is_code_item s.body b.fine))) (refl, (refl, tt))),
             ),
           ),
         )

@@ -13,6 +13,7 @@ use Rattle.vax_core.specs.declared.code.CodeItem.{CodeItem}
 use Rattle.vax_core.specs.declared.code.CodeItem.TheVariants as item_kind
 use Rattle.vax_machine.specs.Labels.{is_label, has_label}
 use Rattle.vax_frames.specs.Frames.{code_items, room_code, end_code}
+use Rattle.gg_compile_law.specs.Framing.{FrameLayout, homed_code}
 use Rattle.gg_compile_law.specs.Programs.{stands_in}
 use Rattle.gg_compile_law.specs.Assembled.{IsTreeCode, nothing, label, root, IsFunctionCode, AreFunctions, none, more}
 use Rattle.gg_compile_law.proofs.Loaded.{has_object}
@@ -31,10 +32,10 @@ behind [] ys name h = h
 behind (x ∷ xs) ys name h = or_right (is_label x name) (has_label (xs ++ ys) name) (behind xs ys name h)
 
 module _ (q : TreeProgram) where
-  tree_label : (g : TreeFn) (words l : ℕ) (is : List TreeItem) (body : List CodeItem) → IsTreeCode q g words is body → stands_in is l ≡ true → has_label body (label_name l) ≡ true
-  tree_label g words l is body nothing e = absurd (true≢false (sym e))
-  tree_label g words l is body (root w js instrs code f h) e = behind (code_items instrs) code (label_name l) (tree_label g words l js code h e)
-  tree_label g words l is body (label k js code h) e = by (k == l) refl e (λ f. tree_label g words l js code h f)
+  tree_label : (g : TreeFn) (y : FrameLayout) (l : ℕ) (is : List TreeItem) (body : List CodeItem) → IsTreeCode q g y is body → stands_in is l ≡ true → has_label body (label_name l) ≡ true
+  tree_label g y l is body nothing e = absurd (true≢false (sym e))
+  tree_label g y l is body (root w js instrs code f h) e = behind (code_items (homed_code y instrs)) code (label_name l) (tree_label g y l js code h e)
+  tree_label g y l is body (label k js code h) e = by (k == l) refl e (λ f. tree_label g y l js code h f)
     where
       by : (b : Bool) → (k == l) ≡ b → (b || stands_in js l) ≡ true → (stands_in js l ≡ true → has_label code (label_name l) ≡ true)
           → has_label (item_kind.Label (label_name k) ∷ code) (label_name l) ≡ true
@@ -51,8 +52,8 @@ module _ (q : TreeProgram) where
   trees_here g part l h e =
       subst (λ (x : List CodeItem). has_label x (label_name l) ≡ true) (sym h.part_is)
       (or_right (bytes_eq (function_label g.name) (label_name l)) _
-      (behind (code_items (room_code h.words)) (h.body ++ code_items end_code) (label_name l)
-      (front h.body (code_items end_code) (label_name l) (tree_label g h.words l g.items h.body h.is_body e))))
+      (behind (code_items (room_code h.layout.words)) (h.body ++ code_items end_code) (label_name l)
+      (front h.body (code_items end_code) (label_name l) (tree_label g h.layout l g.items h.body h.is_body e))))
 
   functions_stand : (gs : List TreeFn) (code : List CodeItem) → AreFunctions q gs code → (n : ℕ) (f : TreeFn) → slice_get gs n ≡ Some f
       → has_label code (function_label f.name) ≡ true

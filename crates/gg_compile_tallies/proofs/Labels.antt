@@ -17,6 +17,7 @@ use Rattle.tree_counts.specs.Counted.{is_ahead}
 use Rattle.vax_frames.specs.Frames.{code_items, end_code}
 use Rattle.vax_frames_law.proofs.Labelling.{first_place}
 use Rattle.vax_bound.specs.Counted.{counted_by, counted_step, counted_behind, counted_steps}
+use Rattle.gg_compile_law.specs.Framing.{FrameLayout, homed_code}
 use Rattle.gg_compile_law.specs.Programs.{HasItems, IsBody, nothing, label, root, StandsAt}
 use Rattle.gg_compile_law.proofs.Placing.{label_skipped}
 use Rattle.gg_compile_tallies.proofs.Walking.{Walks}
@@ -56,11 +57,12 @@ past : (code : List CodeItem) (place : ℕ) (xs ys : List CodeItem) → HasItems
 past code place [] ys h = let e : place ≡ place + 0 = omega arith in subst (λ (p : ℕ). HasItems code p ys) e h
 past code place (x ∷ xs) ys h = let e : place + 1 + length xs ≡ place + length (x ∷ xs) = omega arith in subst (λ (p : ℕ). HasItems code p ys) e (past code (place + 1) xs ys h.1)
 
-module _ (program : TreeProgram) (code : List CodeItem) (g : TreeFn) (words l : ℕ) where
-  ahead_in : (is : List TreeItem) (body : List CodeItem) → IsBody program g words is body → (place : ℕ) → HasItems code place body → is_ahead is l ≡ true → Ahead code place l
+module _ (program : TreeProgram) (code : List CodeItem) (g : TreeFn) (y : FrameLayout) (l : ℕ) where
+  ahead_in : (is : List TreeItem) (body : List CodeItem) → IsBody program g y is body → (place : ℕ) → HasItems code place body → is_ahead is l ≡ true → Ahead code place l
   ahead_in is body nothing place there e = absurd (true≢false (sym e))
   ahead_in is body (root w is' instrs rest s h) place there e =
-      nearer code place (length (code_items instrs)) l (ahead_in is' rest h (place + length (code_items instrs)) (past code place (code_items instrs) rest there) e)
+      nearer code place (length (code_items (homed_code y instrs))) l
+      (ahead_in is' rest h (place + length (code_items (homed_code y instrs))) (past code place (code_items (homed_code y instrs)) rest there) e)
   ahead_in is body (label k is' rest h) place there e = by (k == l) refl e (λ f. ahead_in is' rest h (place + 1) there.1 f)
     where
       by : (b : Bool) → (k == l) ≡ b → (b || is_ahead is' l) ≡ true → (is_ahead is' l ≡ true → Ahead code (place + 1) l) → Ahead code place l
@@ -76,7 +78,7 @@ module _ (program : TreeProgram) (code : List CodeItem) (g : TreeFn) (words l : 
   front place (x ∷ xs) ys h = (h.0, front (place + 1) xs ys h.1)
 
   -- a label that stands among the items to come has a place ahead
-  pub ahead_place : (place : ℕ) (is : List TreeItem) → StandsAt program code g words place is → double_label code ≡ None → is_ahead is l ≡ true → place ≤ label_place code (label_name l)
+  pub ahead_place : (place : ℕ) (is : List TreeItem) → StandsAt program code g y place is → double_label code ≡ None → is_ahead is l ≡ true → place ≤ label_place code (label_name l)
   ahead_place place is s once e =
       let a : Ahead code place l = ahead_in is s.body s.is_body place (front place s.body (code_items end_code) s.there) e in
       let at : label_place code (label_name l) ≡ a.at = label_is_at code a.at (label_name l) once a.stands in

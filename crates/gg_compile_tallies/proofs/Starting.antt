@@ -1,11 +1,9 @@
 -- The run of a program's code begins where the run of its trees begins, and counts no more.
 use Rattle.std.proofs.Common.{◌≡◌, ℕ, ◌+◌, false, List, [], length, Option, Some, None, refl, sym, ap, subst, ◌∙◌, arith}
 use Rattle.std.specs.Prelude.{slice_get, codes}
-use Rattle.std.proofs.lemmas.Option.{none-some}
 use Rattle.std.proofs.lemmas.Bool.{false≢true}
 use Rattle.vax_core.specs.declared.code.Code.{Code}
 use Rattle.vax_core.specs.First.{main_name}
-use Rattle.vax_machine_live.specs.declared.frame.Frame.{Frame}
 use Rattle.vax_machine.specs.State.{State}
 use Rattle.vax_machine.specs.Labels.{label_place, double_label}
 use Rattle.vax_machine.specs.Calls.{called}
@@ -19,15 +17,17 @@ use Rattle.tree_meaning.specs.State.{begun, arrived}
 use Rattle.tree_meaning.specs.State.{State as Trees}
 use Rattle.tree_meaning.specs.Meaning.{main_at}
 use Rattle.tree_counts.specs.Counted.{tally, tree_tally}
-use Rattle.vax_states.specs.Stack.{nobody}
 use Rattle.vax_machine_lists.specs.Sound.{AllBelow, IsSound}
 use Rattle.vax_machine_lists.proofs.Beginning.{zeros_below}
-use Rattle.gg_compile_law.specs.Programs.{IsEmitted, StandsAt, Waits, ends_run, Stands, IsCompiled}
-use Rattle.vax_frames_law.specs.Laws.{Begins}
-use Rattle.vax_frames_law.proofs.Entering.{CanCall}
+use Rattle.vax_frames.specs.Frames.{room_code}
+use Rattle.gg_compile_law.specs.vax_homes_items.specs.vax_homes_law.specs.Calling.{with_stack}
+use Rattle.gg_compile_law.specs.vax_homes_frames.specs.Passing.{BeginsAtHome}
+use Rattle.gg_compile_law.specs.vax_homes_frames.proofs.Beginning.{runs_begin_at_home}
+use Rattle.gg_compile_law.specs.Programs.{IsEmitted, ends_run, Stands, IsCompiled}
 use Rattle.gg_compile_law.proofs.Starting.{found}
+use Rattle.gg_compile_law.proofs.Roots.{begins_there}
 use Rattle.gg_compile_tallies.specs.Claims.{Within}
-use Rattle.gg_compile_tallies.proofs.Beginning.{Enters, enters_with}
+use Rattle.gg_compile_tallies.proofs.Beginning.{room_walks}
 use Rattle.gg_compile_tallies.proofs.Tallying.{within_more, within_walked, tells_within}
 
 -- ---- the state before the call of `_main`
@@ -54,9 +54,6 @@ module _ (program : TreeProgram) (c : Code) (h : IsCompiled program c) (once : d
     input_bytes = bytes;
   }
 
-  can : CanCall (blank c input)
-  can = record { sound = blank_sound; space = omega arith; top = omega arith; aligned = refl; live = omega arith; free = λ a k le. refl }
-
   abbrev the_main : (number : ℕ) × (slice_get program.functions number ≡ Some h.main) × (h.main.name ≡ codes "main")
   the_main = found program.functions h.main h.main_is
 
@@ -66,37 +63,35 @@ module _ (program : TreeProgram) (c : Code) (h : IsCompiled program c) (once : d
   abbrev first : Trees
   first = record { running = begun h.main []; callers = []; area = opening program.objects; input = input }
 
-  enters_main : Enters program.objects c.items h.main em.frame [] first (blank c input) 0 None
-  enters_main =
-      enters_with program.objects c.items h.main em.frame (blank c input) can (omega arith) refl 0 None (omega arith) [] [] [] (opening program.objects) input refl
-      (λ i v is. absurd (none-some v is)) h.labelled h.area refl nobody
+  begins_main : BeginsAtHome program.objects c.items h.main em.frame [] em.homes [] first (blank c input) (blank c input).stack 0 None
+  begins_main =
+      runs_begin_at_home program.objects c.items h.main em.frame em.homes (blank c input) (opening program.objects) input None blank_sound refl refl refl h.labelled h.area refl em.are_homes
 
-  abbrev begins_main : Begins program.objects c.items h.main em.frame [] first (blank c input) 0 None
-  begins_main = enters_main.begins
-
-  stands : Stands program c.items first begins_main.state
+  stands : Stands program c.items first begins_main.state begins_main.stack
   stands =
       let b = begins_main in
       record {
         e = record { locals = h.main.locals; words = em.frame.words };
         es = [];
+        c = record { frame = b.frame; homes = em.homes };
+        cs = [];
         g = h.main;
         is_behind = false;
-        agrees = b.agrees;
+        at_home = b.at_home;
         items = b.items;
         active = record {
           number = the_main.0;
           function = the_main.1;
           emitted = em;
-          words = refl;
+          layout = ap (λ (k : ℕ). record { words = em.frame.words; mask = k; homes = em.homes }) b.is_made.mask_is;
           locals = refl;
           items = refl;
           arguments = sym h.main_args;
-          here = subst (λ (p : ℕ). StandsAt program c.items h.main em.frame.words p h.main.items) (sym b.at) em.begins;
+          here = begins_there program c.items h.emitted h.main em b.frame b.state.place b.is_made.mask_is b.at;
           order = em.order;
         };
         result = λ e. absurd (false≢true e);
-        waits = subst (λ (x : List Frame). Waits program c.items x [] []) (sym b.frames) (ends_run b.frame b.is_made.back_is);
+        waits = ends_run (record { frame = b.frame; homes = em.homes }) b.is_made.back_is;
         shallow = omega arith;
       }
 
@@ -114,7 +109,9 @@ module _ (program : TreeProgram) (c : Code) (h : IsCompiled program c) (once : d
       subst (λ (m : State). Within (tally program n (arrived first)).number (tally program n (arrived first)).end (tally program n (arrived first)).output m) (sym start_is)
       (within_more b.called_state (0 + (tally program n (arrived first)).number) (tally program n (arrived first)).number (omega arith) (tally program n (arrived first)).end
       (tally program n (arrived first)).output
-      (within_walked b.called_state b.state [] b.steps 0 enters_main.walks (tally program n (arrived first)) (tells_within program c.items h.emitted once first b.state stands n)))
+      (within_walked b.called_state (with_stack b.state b.stack) [] (length (room_code em.frame.words)) 0
+      (room_walks program.objects c.items h.main em.frame [] em.homes [] first (blank c input) (blank c input).stack 0 None b) (tally program n (arrived first))
+      (tells_within program c.items h.emitted once first b.state b.stack stands n)))
 
   pub compiled_within : (n : ℕ) → Within (tree_tally program input n).number (tree_tally program input n).end (tree_tally program input n).output (start c input)
   compiled_within n =

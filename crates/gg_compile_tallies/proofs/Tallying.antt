@@ -26,12 +26,14 @@ use Rattle.tree_counts.specs.Counted.{is_ahead, with_count, tallied, tally}
 use Rattle.vax_machine_lists.specs.Instructions.{Course}
 use Rattle.vax_frames.specs.Frames.{end_code}
 use Rattle.vax_machine_lists.specs.Runs.{HasInstrs, at_of}
+use Rattle.gg_compile_law.specs.vax_homes_items.specs.vax_homes_law.specs.Calling.{with_stack}
+use Rattle.gg_compile_law.specs.vax_homes_frames.proofs.Same.{places_stay_home, items_stay_home, end_codes_stay_home}
+use Rattle.gg_compile_law.specs.Framing.{layout_in}
 use Rattle.gg_compile_law.specs.Programs.{InOrder, IsEmitted, StandsAt, Stands}
 use Rattle.gg_compile_law.specs.Roles.{Role, role_of, target_of}
 use Rattle.gg_compile_law.proofs.Facts.{Facts, step_facts}
-use Rattle.vax_frames_law.proofs.FrameCode.{ended, end_is, end_agrees, end_result}
 use Rattle.gg_compile_law.proofs.Placing.{label_at, end_at}
-use Rattle.gg_compile_law.proofs.Going.{with_items, agrees_at, agrees_items}
+use Rattle.gg_compile_law.proofs.Going.{with_items}
 use Rattle.gg_compile_tallies.specs.Claims.{Within}
 use Rattle.gg_compile_tallies.proofs.Walking.{Walks, Halted, stay}
 use Rattle.gg_compile_tallies.proofs.Carrying.{Carries, carries}
@@ -120,24 +122,26 @@ module _ (program : TreeProgram) (code : List CodeItem) (emitted : (n : ℕ) (g 
 
   -- ---- the end of a function's items
 
-  ends_items : (t : Trees) (m : State) (s : Stands program code t m) → t.running.items ≡ [] → ComesBack program code t.callers t 0 m []
-  ends_items t m s eq =
-      let there = end_at program code s.g s.e.words m.place (subst (λ (x : List TreeItem). StandsAt program code s.g s.e.words m.place x) eq s.active.here) in
-      let n = ended program.objects s.e s.es t m s.agrees in
-      let got = subst (λ (c : Course). Carries m 2 c) (end_is program.objects s.e s.es t m s.agrees)
-      (carries end_code m (subst (λ (x : List CodeItem). HasInstrs x m.place end_code) (sym s.items) there) s.agrees.sound.going) in
-      comes_back program code m [] 2 s.e s.es t (at_of m n got.0) got.1 refl
-      (agrees_at program.objects s.e s.es t n got.0 m.items m.over s.agrees.sound.going (end_agrees program.objects s.e s.es t m s.agrees)) s.items 0
-      (end_result program.objects s.e s.es t m s.agrees) s.waits s.shallow t.callers refl
+  ends_items : (t : Trees) (m : State) (st : List ℕ) (s : Stands program code t m st) → t.running.items ≡ [] → ComesBack program code t.callers t 0 (with_stack m st) []
+  ends_items t m st s eq =
+      let k = with_stack m st in
+      let y = layout_in s.e s.c in
+      let there = end_at program code s.g y m.place (subst (λ (x : List TreeItem). StandsAt program code s.g y m.place x) eq s.active.here) in
+      let going = s.at_home.home.agrees.sound.going in
+      let end = end_codes_stay_home program.objects s.e s.es s.c s.cs t m st s.at_home in
+      let got = subst (λ (c : Course). Carries k 2 c) end.does
+      (carries end_code k (subst (λ (x : List CodeItem). HasInstrs x m.place end_code) (sym s.items) there) going) in
+      comes_back program code k [] 2 t (at_of m end.state got.0) st got.1 end.stays.frames s.items 0 end.result s.shallow s.e s.c s.cs s.es t.callers s.waits
+      (places_stay_home program.objects s.e s.es s.c s.cs t end.state st end.stays.at_home got.0 m.items m.over going) refl
 
   -- ---- one tree
 
-  module _ (k : ℕ) (ih : (t : Trees) (m : State) → Stands program code t m → (n : ℕ) → n < k → Asked (tally program n (arrived t)) m) where
+  module _ (k : ℕ) (ih : (t : Trees) (m : State) (st : List ℕ) → Stands program code t m st → (n : ℕ) → n < k → Asked (tally program n (arrived t)) (with_stack m st)) where
     module _ (m : State) (n : ℕ) (lt : n < k) where
       -- behind steps that count so much, the runs go on
       goes_on : (w : List ℕ) (much : ℕ) (s : Trees) → Arrives program code emitted once m w much s
           → Within (much + (tally program n (arrived s)).number) (tally program n (arrived s)).end (w ++ (tally program n (arrived s)).output) m
-      goes_on w much s a = within_walked m a.state w a.count much a.walks (tally program n (arrived s)) (ih s a.state a.stands n lt)
+      goes_on w much s a = within_walked m (with_stack a.state a.stack) w a.count much a.walks (tally program n (arrived s)) (ih s a.state a.stack a.stands n lt)
 
       goes_quietly : (s : Trees) → Arrives program code emitted once m [] 0 s → Asked (tally program n (arrived s)) m
       goes_quietly s a =
@@ -149,67 +153,78 @@ module _ (program : TreeProgram) (code : List CodeItem) (emitted : (n : ℕ) (g 
 
       leaves_by : (v : ℕ) (s : Trees) (callers : List Activation) → ComesBack program code callers s v m [] → Asked (tally program n (returned v callers s.area s.input)) m
       leaves_by v s [] c = within_ended m [] c.0 v 0 c.1
-      leaves_by v s (a ∷ rest) c = goes_quietly _ (record { count = c.0; state = c.1; walks = c.2; stands = c.3 })
+      leaves_by v s (a ∷ rest) c = goes_quietly _ (record { count = c.0; state = c.1; stack = c.2; walks = c.3; stands = c.4 })
 
-      answers : (t0 : Trees) (w : List Leaf) (is : List TreeItem) (here : Stands program code t0 m) (first : t0.running.items ≡ tree_item.Root w ∷ is) (d : Step)
-          → Steps is d → Came program code emitted once t0 m w is here first d → Asked (tallied (tally program n) d) m
-      answers t0 w is here first (Goes s) at c = goes_quietly s c
-      answers t0 w is here first (Serves None s) at c = goes_quietly s c
-      answers t0 w is here first (Serves (Some b) s) at c =
-          within_more m (0 + (tally program n (arrived s)).number) (tally program n (arrived s)).number (omega arith) (tally program n (arrived s)).end (b ∷ (tally program n (arrived s)).output)
-          (goes_on (b ∷ []) 0 s c)
-      answers t0 w is here first (GoesTo l s) at c =
-          goes_counted (not (is_ahead s.running.items l)) (with_label s l)
-          (subst (λ (x : List TreeItem). Arrives program code emitted once m [] (as_number (not (is_ahead x l))) (with_label s l)) (sym at) c)
-      answers t0 w is here first (Enters h args s) at c = goes_counted true _ c
-      answers t0 w is here first (GoesBack v s) at c = leaves_by v s s.callers c
-      answers t0 w is here first (Ends (finish.Ended v)) at c = absurd c
-      answers t0 w is here first (Ends finish.Trapped) at c = within_trapped m [] c.0 0 c.1
-      answers t0 w is here first (Ends finish.Wild) at c = tt
-      answers t0 w is here first (Ends finish.Deep) at c = tt
+    answers : (m : State) (st : List ℕ) (n : ℕ) → n < k → (t0 : Trees) (w : List Leaf) (is : List TreeItem) (here : Stands program code t0 m st) (first : t0.running.items ≡ tree_item.Root w ∷ is)
+        (d : Step) → Steps is d → Came program code emitted once t0 m st w is here first d → Asked (tallied (tally program n) d) (with_stack m st)
+    answers m st n lt t0 w is here first (Goes s) at c = goes_quietly (with_stack m st) n lt s c
+    answers m st n lt t0 w is here first (Serves None s) at c = goes_quietly (with_stack m st) n lt s c
+    answers m st n lt t0 w is here first (Serves (Some b) s) at c =
+        within_more (with_stack m st) (0 + (tally program n (arrived s)).number) (tally program n (arrived s)).number (omega arith) (tally program n (arrived s)).end
+        (b ∷ (tally program n (arrived s)).output)
+        (goes_on (with_stack m st) n lt (b ∷ []) 0 s c)
+    answers m st n lt t0 w is here first (GoesTo l s) at c =
+        goes_counted (with_stack m st) n lt (not (is_ahead s.running.items l)) (with_label s l)
+        (subst (λ (x : List TreeItem). Arrives program code emitted once (with_stack m st) [] (as_number (not (is_ahead x l))) (with_label s l)) (sym at) c)
+    answers m st n lt t0 w is here first (Enters h args s) at c = goes_counted (with_stack m st) n lt true _ c
+    answers m st n lt t0 w is here first (GoesBack v s) at c = leaves_by (with_stack m st) n lt v s s.callers c
+    answers m st n lt t0 w is here first (Ends (finish.Ended v)) at c = absurd c
+    answers m st n lt t0 w is here first (Ends finish.Trapped) at c = within_trapped (with_stack m st) [] c.0 0 c.1
+    answers m st n lt t0 w is here first (Ends finish.Wild) at c = tt
+    answers m st n lt t0 w is here first (Ends finish.Deep) at c = tt
 
-    at_root : (t : Trees) (m : State) (w : List Leaf) (is : List TreeItem) → Stands program code t m → t.running.items ≡ tree_item.Root w ∷ is → (n : ℕ) → n < suc k
-        → Asked (tally program n (tree_at w (with_items t is))) m
-    at_root t m w is s first zero lt = tt
-    at_root t m w is s first (suc n) lt =
+    at_root : (t : Trees) (m : State) (st : List ℕ) (w : List Leaf) (is : List TreeItem) → Stands program code t m st → t.running.items ≡ tree_item.Root w ∷ is → (n : ℕ) → n < suc k
+        → Asked (tally program n (tree_at w (with_items t is))) (with_stack m st)
+    at_root t m st w is s first zero lt = tt
+    at_root t m st w is s first (suc n) lt =
         let facts = step_facts program (with_items t is) w in
-        answers m n (omega (arith, lt)) t w is s first (tree_step program (with_items t is) (grown w)) (steps_at (with_items t is) (role_of w) (target_of w) _ facts)
-        (came program code emitted once t m w is s first facts)
+        answers m st n (omega (arith, lt)) t w is s first (tree_step program (with_items t is) (grown w)) (steps_at (with_items t is) (role_of w) (target_of w) _ facts)
+        (came program code emitted once t m st w is s first facts)
 
     -- ---- one state
 
     abbrev IsFollowed : Trees → State → Type 0
     IsFollowed t m = (n : ℕ) → n < suc k → Asked (tally program n (arrived t)) m
 
-    ends_by : (t : Trees) (m : State) (callers : List Activation) → ((s : Trees) (n : State) → (c : Activation) → callers ≡ c ∷ s.callers → Stands program code s n → IsFollowed s n)
+    -- the states of suspended calls are followed
+    abbrev OutersFollow : List Activation → Type 0
+    OutersFollow callers = (s : Trees) (n : State) (sn : List ℕ) (c : Activation) → callers ≡ c ∷ s.callers → Stands program code s n sn → IsFollowed s (with_stack n sn)
+
+    ends_by : (t : Trees) (m : State) (callers : List Activation) → OutersFollow callers
         → ComesBack program code callers t 0 m [] → (n : ℕ) → n < suc k → Asked (tally program n (returned 0 callers t.area t.input)) m
     ends_by t m [] outer c n lt = within_ended m [] c.0 0 0 c.1
     ends_by t m (a ∷ rest) outer c n lt =
         let s : Trees = record { running = record a { result = 0 }; callers = rest; area = t.area; input = t.input } in
         within_more m (0 + (tally program n (arrived s)).number) (tally program n (arrived s)).number (omega arith) (tally program n (arrived s)).end (tally program n (arrived s)).output
-        (within_walked m c.1 [] c.0 0 c.2 (tally program n (arrived s)) (outer s c.1 a refl c.3 n lt))
+        (within_walked m (with_stack c.1 c.2) [] c.0 0 c.3 (tally program n (arrived s)) (outer s c.1 c.2 a refl c.4 n lt))
 
-    by_items : (is : List TreeItem) (t : Trees) (m : State) → t.running.items ≡ is → Stands program code t m
-        → ((s : Trees) (n : State) → (c : Activation) → t.callers ≡ c ∷ s.callers → Stands program code s n → IsFollowed s n) → IsFollowed t m
-    by_items [] t m eq s outer = λ n lt. subst (λ (x : Next). Asked (tally program n x) m) (sym (arrives_end t eq)) (ends_by t m t.callers outer (ends_items t m s eq) n lt)
-    by_items (tree_item.Root w ∷ is) t m eq s outer = λ n lt. subst (λ (x : Next). Asked (tally program n x) m) (sym (arrives_at t w is eq)) (at_root t m w is s eq n lt)
-    by_items (tree_item.Label l ∷ is) t m eq s outer =
-        let at = label_at program code s.g s.e.words m.place l is (subst (λ (x : List TreeItem). StandsAt program code s.g s.e.words m.place x) eq s.active.here) in
+    by_items : (is : List TreeItem) (t : Trees) (m : State) (st : List ℕ) → t.running.items ≡ is → Stands program code t m st → OutersFollow t.callers → IsFollowed t (with_stack m st)
+    by_items [] t m st eq s outer =
+        λ n lt. subst (λ (x : Next). Asked (tally program n x) (with_stack m st)) (sym (arrives_end t eq)) (ends_by t (with_stack m st) t.callers outer (ends_items t m st s eq) n lt)
+    by_items (tree_item.Root w ∷ is) t m st eq s outer =
+        λ n lt. subst (λ (x : Next). Asked (tally program n x) (with_stack m st)) (sym (arrives_at t w is eq)) (at_root t m st w is s eq n lt)
+    by_items (tree_item.Label l ∷ is) t m st eq s outer =
+        let y = layout_in s.e s.c in
+        let at = label_at program code s.g y m.place l is (subst (λ (x : List TreeItem). StandsAt program code s.g y m.place x) eq s.active.here) in
         let order = subst (λ (x : List TreeItem). InOrder (length t.running.pushed) s.is_behind x) eq s.active.order in
         let m' = record m { place = m.place + 1 } in
         let stand : slice_get m.items m.place ≡ Some (item_kind.Label (label_name l)) = ap (λ (x : List CodeItem). slice_get x m.place) s.items ∙ at.stands in
-        let stands : Stands program code (with_items t is) m' = record {
+        let stands : Stands program code (with_items t is) m' st = record {
           e = s.e;
           es = s.es;
+          c = s.c;
+          cs = s.cs;
           g = s.g;
           is_behind = false;
-          agrees = agrees_at program.objects s.e s.es (with_items t is) m (m.place + 1) m.items m.over s.agrees.sound.going (agrees_items program.objects s.e s.es t m is s.agrees);
+          at_home =
+              items_stay_home program.objects s.e s.es s.c s.cs t m' st
+              (places_stay_home program.objects s.e s.es s.c s.cs t m st s.at_home (m.place + 1) m.items m.over s.at_home.home.agrees.sound.going) is;
           items = s.items;
           active = record {
             number = s.active.number;
             function = s.active.function;
             emitted = s.active.emitted;
-            words = s.active.words;
+            layout = s.active.layout;
             locals = s.active.locals;
             items = s.active.items;
             arguments = s.active.arguments;
@@ -221,17 +236,19 @@ module _ (program : TreeProgram) (code : List CodeItem) (emitted : (n : ℕ) (g 
           shallow = s.shallow;
         } in
         λ n lt.
-        subst (λ (x : Next). Asked (tally program n x) m) (sym (arrives_with t (tree_item.Label l ∷ is) is eq refl))
-        (within_past m (label_name l) stand (tally program n (arrived (with_items t is))) (by_items is (with_items t is) m' refl stands outer n lt))
+        subst (λ (x : Next). Asked (tally program n x) (with_stack m st)) (sym (arrives_with t (tree_item.Label l ∷ is) is eq refl))
+        (within_past (with_stack m st) (label_name l) stand (tally program n (arrived (with_items t is))) (by_items is (with_items t is) m' st refl stands outer n lt))
 
-    by_callers : (callers : List Activation) (t : Trees) (m : State) → t.callers ≡ callers → Stands program code t m → IsFollowed t m
-    by_callers [] t m eq s = by_items t.running.items t m refl s (λ s' n' c is stands. absurd (nil_cons c s'.callers (sym eq ∙ is)))
-    by_callers (a ∷ rest) t m eq s = by_items t.running.items t m refl s (λ s' n' c is stands. by_callers rest s' n' (tail_same c a s'.callers rest (sym is ∙ eq)) stands)
+    by_callers : (callers : List Activation) (t : Trees) (m : State) (st : List ℕ) → t.callers ≡ callers → Stands program code t m st → IsFollowed t (with_stack m st)
+    by_callers [] t m st eq s = by_items t.running.items t m st refl s (λ s' n' sn c is stands. absurd (nil_cons c s'.callers (sym eq ∙ is)))
+    by_callers (a ∷ rest) t m st eq s =
+        by_items t.running.items t m st refl s (λ s' n' sn c is stands. by_callers rest s' n' sn (tail_same c a s'.callers rest (sym is ∙ eq)) stands)
 
-  below : (k : ℕ) (t : Trees) (m : State) → Stands program code t m → (n : ℕ) → n < k → Asked (tally program n (arrived t)) m
-  below zero t m s = λ n lt. absurd (omega arith)
-  below (suc k) t m s = by_callers k (λ t m s n lt. below k t m s n lt) t.callers t m refl s
+  below : (k : ℕ) (t : Trees) (m : State) (st : List ℕ) → Stands program code t m st → (n : ℕ) → n < k → Asked (tally program n (arrived t)) (with_stack m st)
+  below zero t m st s = λ n lt. absurd (omega arith)
+  below (suc k) t m st s = by_callers k (λ t m st s n lt. below k t m st s n lt) t.callers t m st refl s
 
   -- From states that stand for one another, where the trees' run ends, so does the machine's run, and counts no more.
-  pub tells_within : (t : Trees) (m : State) → Stands program code t m → (n : ℕ) → Within (tally program n (arrived t)).number (tally program n (arrived t)).end (tally program n (arrived t)).output m
-  tells_within t m s n = below (suc n) t m s n (omega arith)
+  pub tells_within : (t : Trees) (m : State) (st : List ℕ) → Stands program code t m st → (n : ℕ)
+      → Within (tally program n (arrived t)).number (tally program n (arrived t)).end (tally program n (arrived t)).output (with_stack m st)
+  tells_within t m st s n = below (suc n) t m st s n (omega arith)

@@ -110,12 +110,15 @@ module _ (q : TreeProgram) (g : TreeFn) (number : ℕ) (there : slice_get q.func
 
   function_code : IsFunctionCode r alone (frame_of g.locals)
   function_code = record {
-    words = g.locals;
-    mask = 0;
+    layout = record { words = g.locals; mask = 0; homes = [] };
     body = [];
     locals = omega arith;
     few = w.locals number g there;
     is_mask = record { low = refl; high = omega arith };
+    are_homes = record {
+      paired = record { low = λ h has. absurd has; high = λ h has. absurd has; registers = λ g h has. absurd has; locals = λ g h has. absurd has };
+      fits = λ h has. absurd has;
+    };
     is_body = no_items;
     part_is = refl;
   }

@@ -1,5 +1,5 @@
 -- Calls begin at home.
-use Rattle.std.proofs.Common.{◌≡◌, ◌⊎◌, inl, inr, ⊎_elim, ℕ, ◌+◌, ◌-◌, ◌*◌, ◌^◌, ◌<◌, ◌≤◌, true, List, [], ◌∷◌, ◌++◌, length, take, drop, Option, Some, refl}
+use Rattle.std.proofs.Common.{◌≡◌, inl, inr, ⊎_elim, ℕ, ◌+◌, ◌-◌, ◌*◌, ◌^◌, ◌<◌, ◌≤◌, true, List, [], ◌∷◌, ◌++◌, length, take, drop, Option, Some, refl}
 use Rattle.std.proofs.Common.{sym, ap, subst, ◌∙◌, arith, get_or-set_same, get_or-set_other, length-set}
 use Rattle.std.proofs.lemmas.Bool.{cases_lt, false≢true}
 use Rattle.std.proofs.lemmas.List.{length-take-le}
@@ -32,7 +32,6 @@ use Rattle.vax_states.specs.Agreeing.{AreLabelled, Agrees}
 use Rattle.vax_frames_law.specs.vax_frames.specs.Frames.{room_code}
 use Rattle.vax_frames_law.specs.Calling.{HasFrame, IsMadeIn, with_call}
 use Rattle.vax_frames_law.specs.Laws.{IsRoomy}
-use Rattle.vax_frames_law.specs.Guarding.{has}
 use Rattle.vax_frames_law.proofs.Entering.{CanCall, number_at, frame_at, stack_with, frame_made, made, few_saved, called_is, same_above, callee_agrees}
 use Rattle.vax_frames_law.proofs.Entering.{can_call, caller_holds, arguments_stand}
 use Rattle.vax_frames_law.proofs.FrameCode.{Lowers, room_made}

@@ -12,7 +12,6 @@ use Rattle.vax_states.specs.vax_machine_lists.specs.Instructions.{Course, Ending
 use Rattle.vax_states.specs.vax_machine_lists.specs.Instructions as machine
 use Rattle.vax_states.specs.Agreeing.{Agrees, HasRoom}
 use Rattle.vax_states.proofs.Pieces.{hold_end}
-use Rattle.vax_frames_law.specs.Guarding.{has}
 use Rattle.vax_homes_law.specs.vax_homes.specs.Homing.{homed_instr}
 use Rattle.vax_homes_law.specs.vax_confined.specs.Confined as confined
 use Rattle.vax_homes_law.specs.Alike.{beside, AreReady, AreLaid}

@@ -1,4 +1,4 @@
-use Rattle.gg_compile_law.proofs.Assembling.{frames_are_function_codes}
+use Rattle.gg_compile_law.proofs.Framing.{frames_are_function_codes}
 use Rattle.gg_compile_law.proofs.laws.frames_are_function_codes.Goals as goal
 
 pub returns : goal.returns
