@@ -1,25 +1,27 @@
 #!/bin/sh
-# Looks up each input of the tables of docs/faults.md, with its report, in the stored run of `ggdesk`, and names what doesn't stand there. It
-# reads the stored files alone, which `rt ci` compares with what the program writes. Then it looks up each row's words in the table of
-# `desk_page`, and names what only one of the two has.
+# Looks up each input of the tables of docs/faults.md, with its report, in the stored run of `ggdesk`, and names what doesn't stand there.
+# It reads the stored files alone, which `rt ci` compares with what the program writes. Then it looks up each row's words in the table of
+# `ggdesk why`, names what only one of the two has, and counts the kinds that the stored answers of `ggdesk why` say. Two kinds whose
+# inputs are long are asked of the program, where BUILT names a folder that has it.
 # Usage: bench/faults.sh
 set -eu
 . "$(dirname -- "$0")/common.sh"
 
-python3 - "$here" <<'PY'
+python3 - "$here" "$work" "${BUILT:+$(program_of ggdesk)}" <<'PY'
 import difflib
 import re
+import subprocess
 import sys
 
-HERE = sys.argv[1]
+HERE, WORK, PROGRAM = sys.argv[1:4]
 POOLS = {"": "", "text": "", "source": "", "1": "pool r0\n", "2": "pool r0 r1\n", "3": "pool r0 r1 r2\n"}
 
 
 def stored(subject, name="stdin"):
-    """The rows of a subject, or what is written of them."""
+    """The rows of a subject, or what is written of them: of all its sections."""
     with open(f"{HERE}/crates/ggdesk/{name}") as file:
         _, *parts = re.split(r"^== (.*)\n", file.read(), flags=re.M)
-    return dict(zip(parts[::2], parts[1::2]))[subject]
+    return "".join(rows for head, rows in zip(parts[::2], parts[1::2]) if head == subject)
 
 
 def lines_of(text):
@@ -112,7 +114,7 @@ print(f"{len(page) - len(missing)} of {len(page)} inputs of docs/faults.md stand
 
 
 def of_advice():
-    """Why and the way out, of each row of the table of `desk_page`."""
+    """Why and the way out, of each row of the table of `ggdesk why`."""
     with open(f"{HERE}/crates/desk_page/src/advice.rt") as file:
         texts = re.findall(r'"((?:[^"\\]|\\.)*)"', file.read())
     plain = [re.sub(r"\\(.)", r"\1", text) for text in texts]
@@ -126,12 +128,36 @@ def of_words():
     return {tuple(row[2:]) for row in rows if len(row) == 4 and all(row[2:]) and row[3] != "The way out"}
 
 
-# A check with so many summaries, and bytes that are no image, have no row.
+def long_inputs():
+    """A description with too many item sets, and one in which two classes become each other."""
+    digits = [format(number, "010b").replace("0", " Neg").replace("1", " Com") for number in range(584)]
+    rules = "".join(f"rule reg :{digit} Plus One Plus One One\n  give fresh\n" for digit in digits)
+    case = next(case for case in stored("tables").split("=>\n") if "^ 584\n" in case and "rule reg : One\n" in case)
+    yield case.replace("^ 584\n", rules)
+    yield next(case for case in re.split(r"^=\n", stored("check"), flags=re.M) if "rule qq : pp\n" in case)
+
+
+def of_desk():
+    """Why and the way out, of each answer of `ggdesk why`."""
+    told = stored("desk", "stdout")
+    for text in long_inputs() if PROGRAM else ():
+        with open(f"{WORK}/long.gg", "w") as file:
+            file.write(text)
+        told += subprocess.run([PROGRAM, "why", "long.gg"], cwd=WORK, text=True, stdout=subprocess.PIPE).stdout
+    return set(re.findall(r"^  why: (.*)\n  way out: (.*)$", told, re.M))
+
+
+# A check with so many summaries, and bytes that are no image, have no row on the page.
 UNSEEN = {pair for pair in of_advice() if pair[0].startswith(("there are too many ways", "the file is no code's image"))}
 told, words = of_advice(), of_words()
 for pair in sorted(words - told):
-    print("not in the table of `desk_page`:", *pair)
+    print("not in the table of `ggdesk why`:", *pair)
 for pair in sorted(told - words - UNSEEN):
     print("not on the page:", *pair)
-sys.exit(1 if missing or not page or words - told or told - words - UNSEEN else 0)
+said = told & of_desk()
+for pair in sorted(told - said):
+    print("not said:", *pair)
+print(f"{len(said)} of {len(told)} kinds are said by `ggdesk why`")
+few = len(told) - len(said) > (1 if PROGRAM else 3)
+sys.exit(1 if missing or not page or words - told or told - words - UNSEEN or few else 0)
 PY

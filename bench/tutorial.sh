@@ -6,7 +6,7 @@
 # BUILT may name a folder with programs that were built before; where it lacks `ggdesk`, the commands that need it are left out.
 set -eu
 . "$(dirname -- "$0")/common.sh"
-[ $# -gt 0 ] || set -- README.md docs/first-description.md docs/commands.md
+[ $# -gt 0 ] || set -- README.md docs/first-description.md docs/commands.md docs/desk.md
 
 program=$(program_of ggvax)
 [ -n "$program" ] || skip "BUILT names a folder without ggvax"

@@ -1,4 +1,4 @@
-# Completion of ggvax's words for bash: source this file.
+# Completion of the words of ggvax and of ggdesk for bash: source this file.
 
 _ggvax() {
     local word=${COMP_WORDS[COMP_CWORD]} at=$COMP_CWORD first=1 ending
@@ -23,3 +23,21 @@ _ggvax() {
 }
 
 complete -F _ggvax ggvax ./ggvax
+
+_ggdesk() {
+    local word=${COMP_WORDS[COMP_CWORD]} ending
+    if [ "$COMP_CWORD" -eq 1 ]; then
+        COMPREPLY=($(compgen -W 'why trees rules sets dot parse code --help' -- "$word"))
+        return
+    fi
+    case ${COMP_WORDS[1]}$((COMP_CWORD - 1)) in
+    why1) ending='@(c|gg|s|img)' ;;
+    rules1 | sets1 | dot1 | parse1 | code1) ending=gg ;;
+    trees1 | rules2 | code2) ending=c ;;
+    *) return ;;
+    esac
+    compopt -o filenames
+    COMPREPLY=($(compgen -f -X "!*.$ending" -- "$word") $(compgen -d -- "$word"))
+}
+
+complete -F _ggdesk ggdesk

@@ -1,17 +1,36 @@
 #!/usr/bin/env python3
-"""Prints the man page ggvax(1), made from docs/commands.md. Usage: tools/man.py >ggvax.1"""
+"""Prints the man page ggvax(1), made from docs/commands.md, or ggdesk(1), made from docs/desk.md.
+
+Usage: tools/man.py >ggvax.1; tools/man.py ggdesk >ggdesk.1
+"""
 
 import pathlib
 import re
 import sys
 
 HERE = pathlib.Path(__file__).resolve().parent.parent
-HEAD = """.TH GGVAX 1
+# Of each program its page, that page's title, what the program is, and its words.
+PAGES = {
+    "ggvax": (
+        "commands.md",
+        "Commands",
+        "a retargetable code generator for the VAX-11, whose output is proved to do what its source does",
+        "check D | compile D S | run A N | meaning S N | load D K | image A | text I",
+    ),
+    "ggdesk": (
+        "desk.md",
+        "The desk",
+        "says what the parts of ggvax(1) make of a file",
+        "why NAME | trees S | rules D [S] | sets D | dot D | parse D | code D S",
+    ),
+}
+HEAD = """.TH {} 1
 .SH NAME
-ggvax \\- a retargetable code generator for the VAX-11, whose output is proved to do what its source does
+{} \\- {}
 .SH SYNOPSIS
-.B ggvax
-check D | compile D S | run A N | meaning S N | load D K | image A | text I"""
+.B {}
+{}
+.SH DESCRIPTION"""
 
 
 def spelled(text):
@@ -51,12 +70,13 @@ def blocks(text):
             yield ".PP\n" + spelled(" ".join(lines))
 
 
-def main():
-    text = (HERE / "docs" / "commands.md").read_text()
-    page = [it for it in blocks(text) if it != ".SH COMMANDS"]
-    print("\n".join([HEAD, ".SH DESCRIPTION", *page]))
+def main(name="ggvax"):
+    page, title, what, words = PAGES[name]
+    text = (HERE / "docs" / page).read_text()
+    parts = [it for it in blocks(text) if it != f".SH {title.upper()}"]
+    print("\n".join([HEAD.format(name.upper(), name, what, name, words), *parts]))
     return 0
 
 
 if __name__ == "__main__":
-    sys.exit(main())
+    sys.exit(main(*sys.argv[1:]))

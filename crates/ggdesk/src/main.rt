@@ -1,17 +1,20 @@
-// The program `ggdesk`: what the parts of the compiler say of the rows of a script. `ggdesk` reads a script from its input: a line
-// `== SUBJECT` names the subject of the rows behind it. `ggdesk SUBJECT` reads rows of that subject alone.
+// The program `ggdesk`: what the parts of the compiler say of a file, by words, or of the rows of a script. `ggdesk` reads a script from
+// its input: a line `== SUBJECT` names the subject of the rows behind it. `ggdesk SUBJECT` reads rows of that subject alone. All other
+// words are a command.
 #![tactic(auto)]
 
 mod script;
 mod subject;
 
 use cmd_session::{InputFault, Status, read_all, refuse};
+use desk_commands::answer_words;
 use gg_base::NoMemory;
-use gg_outside::{StdSink, StdSource};
+use gg_outside::{StdFolder, StdSink, StdSource};
 use script::answer_script;
 use std::alloc::AllocError;
 use std::env;
 use std::process::ExitCode;
+use subject::Subject;
 
 /// The most bytes of a script.
 const SCRIPT_LIMIT: usize = 0x400_0000;
@@ -52,19 +55,22 @@ fn answer(rt: HostRuntime, subject: &str) -> Result<Status, NoMemory> {
     answer_script(alloc, subject, &script, &mut out)
 }
 
+// Answers a command.
+fn answer_command(rt: HostRuntime, words: &[String]) -> Result<Status, NoMemory> {
+    let alloc = rt.alloc();
+    let mut folder = StdFolder::new(rt, alloc);
+    let mut input = StdSource::new(rt)?;
+    let mut out = StdSink::out(rt)?;
+    let mut report = StdSink::err(rt)?;
+    answer_words(alloc, words, &mut folder, &mut input, &mut out, &mut report)
+}
+
 fn run(rt: HostRuntime) -> Result<Status, NoMemory> {
     let words = command_words(rt)?;
     match words.as_slice() {
         [] => answer(rt, ""),
-        [subject] => answer(rt, subject.as_str()),
-        _ => {
-            let mut report = StdSink::err(rt)?;
-            Ok(refuse(
-                &mut report,
-                b"usage: ggdesk [SUBJECT] <SCRIPT\n",
-                Status::Usage,
-            ))
-        }
+        [subject] if Subject::named(subject).is_some() => answer(rt, subject.as_str()),
+        words => answer_command(rt, words),
     }
 }
 

@@ -1,6 +1,7 @@
 // Scripts: sections of rows, each behind a line that names its subject.
 use crate::subject::{SUBJECTS, Subject};
 use cmd_session::{Status, write_all};
+use desk_commands::answer_desk;
 use gg_base::NoMemory;
 use gg_outside::{Sink, SinkFault};
 use ggdesk_commands::commands::answer_commands;
@@ -38,6 +39,7 @@ fn answer_rows(
         Subject::Templates => answer_templates(alloc, rows, told),
         Subject::Check => answer_checks(alloc, rows, told),
         Subject::Commands => answer_commands(alloc, rows, told),
+        Subject::Desk => answer_desk(alloc, rows, told),
     }
 }
 

@@ -29,10 +29,12 @@ pub enum Subject {
     Check,
     /// Calls of the commands, with what fails beside them: statuses, outputs and reports.
     Commands,
+    /// Calls of the desk by words, over files of the rows.
+    Desk,
 }
 
 /// The subjects with their names.
-pub static SUBJECTS: [(&str, Subject); 13] = [
+pub static SUBJECTS: [(&str, Subject); 14] = [
     ("syntax", Subject::Syntax),
     ("assembly", Subject::Assembly),
     ("images", Subject::Images),
@@ -46,6 +48,7 @@ pub static SUBJECTS: [(&str, Subject); 13] = [
     ("templates", Subject::Templates),
     ("check", Subject::Check),
     ("commands", Subject::Commands),
+    ("desk", Subject::Desk),
 ];
 
 impl Subject {

@@ -7,7 +7,6 @@ pub mod check;
 pub mod effects;
 pub mod found;
 pub mod samples;
-pub mod sets;
 pub mod shipped;
 pub mod stacks;
 pub mod tables;

@@ -1,5 +1,5 @@
 // Trees that are written as the lines of a sample.
-use crate::words::token_named;
+use desk_tables::token_named;
 use lr_check::{Sample, SampleNode};
 use std::alloc::{AllocError, Global};
 

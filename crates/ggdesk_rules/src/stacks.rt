@@ -1,6 +1,5 @@
 // The item sets on the stack where the parse of a tree stops, drawn.
-use crate::sets::{Drawing, START};
-use crate::words::token_named;
+use desk_tables::{Drawing, START, token_named};
 use gg_base::NoMemory;
 use lr_tables::{Choice, State, Tables};
 use md_reader::Sym;

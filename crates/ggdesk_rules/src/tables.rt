@@ -6,9 +6,9 @@
 // with the one of version 1.
 use crate::cases::put_line;
 use crate::found::{Finding, examine, tables_of};
-use crate::sets::Drawing;
 use crate::shipped::put_comparison;
 use crate::stacks::put_stack;
+use desk_tables::Drawing;
 use gg_base::NoMemory;
 use gg_base::limits::DESCRIPTION_LIMIT;
 use std::alloc::Global;

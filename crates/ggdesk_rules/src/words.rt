@@ -1,8 +1,7 @@
-// Words of rows: tokens, and terms as they are written, `Add(K-1,Mem(b,V2))`.
+// Words of rows: terms as they are written, `Add(K-1,Mem(b,V2))`.
 use gg_base::{NoMemory, Size};
 use std::alloc::Global;
 use term_core::{BinaryOp, Term, UnaryOp, binary, put_term, unary};
-use tree_core::{Tok, tokens};
 
 static UNARY: [(&str, UnaryOp); 6] = [
     ("Neg", UnaryOp::Neg),
@@ -25,11 +24,6 @@ static BINARY: [(&str, BinaryOp); 8] = [
 ];
 
 static SIZES: [(&str, Size); 3] = [("b", Size::Byte), ("w", Size::Word), ("l", Size::Long)];
-
-/// The token of this name.
-pub fn token_named(word: &str) -> Option<Tok> {
-    tokens().iter().copied().find(|token| token.name() == word)
-}
 
 fn unary_named(word: &str) -> Option<UnaryOp> {
     UNARY
