@@ -16,8 +16,9 @@ use vax_core::{Code, CodeItems};
 use vax_target::Vax;
 
 /// The code of a tree program by a description's tables: each function is a frame round the code that is selected of its trees, in
-/// order, with the wanted locals in registers that may live there, and the data area is that of the objects. A function has at most `NEED_LIMIT` locals, an object at most `AREA_LIMIT` bytes; no
-/// tree blocks or finds its frame full, as none does by an accepted description in a program whose functions fit their frames.
+/// order, with the wanted locals in registers that may live there, and the data area is that of the objects. A function has at most
+/// `NEED_LIMIT` locals, an object at most `AREA_LIMIT` bytes; no tree blocks or finds its frame full, as none does by an accepted
+/// description in a program whose functions fit their frames.
 pub fn assemble(
     alloc: Global,
     generator: &Generator<Vax>,
