@@ -11,21 +11,22 @@ use Rattle.l32_templates.specs.Standing.{form_where}
 use Rattle.l32_templates.specs.Taking.{taken, evaluated}
 use Rattle.l32_templates.specs.Judging.{operated, branches, line_did}
 use Rattle.l32_templates.specs.GiveLines.{shape_given}
-use Rattle.l32_templates.specs.Found.{ended, template_found, found, saved_found}
+use Rattle.l32_templates.specs.Found.{found, saved_found}
+use Rattle.l32_templates.specs.template_judging.specs.Found.{ended, template_found, found as any_found, saved_found as any_saved}
 use Rattle.l32_shown.specs.Shipped.{classes, spills, rules}
 use Rattle.l32_shown.specs.Wrong.{templates, found_in, told_of}
 
 pub lines_are_shown : lines_refused saved_found saved_kinds spills ≡ None
 unfolding signed_front at_front number_spelled op_of fetched immediate_front form_front form_where taken evaluated operated branches line_did
-    shape_given ended template_found found saved_found
+    shape_given ended template_found any_saved
 lines_are_shown = refl
 
 pub rules_are_shown : rules_refused found classes 1 rules ≡ None
 unfolding signed_front at_front number_spelled op_of fetched immediate_front form_front form_where taken evaluated operated branches line_did
-    shape_given ended template_found found
+    shape_given ended template_found any_found
 rules_are_shown = refl
 
 pub wrong_ones_are_told : map found_in templates ≡ map told_of templates
 unfolding signed_front at_front number_spelled op_of fetched immediate_front form_front form_where taken evaluated operated branches line_did
-    shape_given ended template_found found
+    shape_given ended template_found any_found
 wrong_ones_are_told = refl

@@ -4,21 +4,10 @@ ghost use Rattle.std.specs.Option.{option_map};
 ghost use Rattle.vax_templates.specs.Forms.{number_spelled, negative_hole};
 ghost use Rattle.l32_templates.specs.Forms.{near, far, deferred_front, immediate_front, named_front, form_front};
 
-use crate::marks::{at, hole, signed, strip};
 use l32_templates::Form;
+use vax_target_forms::form::{negative, number};
+use vax_target_forms::marks::{at, strip};
 use vax_templates::{Mark, Number};
-
-// `n` or `%i`
-#[tactic(auto, unfolding(vax_templates::specs::Forms::number_spelled))]
-fn number(marks: &[Mark]) -> Option<(Number, &[Mark])>
-    ensures { number_spelled marks.now ≡ option_map (λ x. (x.0, x.1.now)) result }
-{
-    if let Some((i, rest)) = hole(marks) {
-        return Some((Number::Symbol(i), rest));
-    }
-    let (n, rest) = signed(marks)?;
-    Some((Number::Itself(n), rest))
-}
 
 fn near(number: Number, marks: &[Mark]) -> Option<(Form, &[Mark])>
     ensures { near (number, marks.now) ≡ option_map (λ x. (x.0, x.1.now)) result }
@@ -50,12 +39,6 @@ fn deferred(marks: &[Mark]) -> Option<(Form, &[Mark])>
 {
     let (n, rest) = number(marks)?;
     far(n, rest)
-}
-
-fn negative(marks: &[Mark]) -> Option<(u8, &[Mark])>
-    ensures { negative_hole marks.now ≡ option_map (λ x. (x.0, x.1.now)) result }
-{
-    hole(strip(b'-', marks)?)
 }
 
 // What stands behind `$`.

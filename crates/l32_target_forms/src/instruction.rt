@@ -1,7 +1,7 @@
 // The instruction of a template's line.
-ghost use Rattle.std.specs.Prelude.{◌≡◌, ◌≤◌, [], length, IfOk};
+ghost use Rattle.std.specs.Prelude.{◌≡◌, [], IfOk};
 ghost use Rattle.std.specs.Option.{option_copied};
-ghost use Rattle.vax_templates.specs.Instructions.{behind_blank, word_len, word_of, marks_behind};
+ghost use Rattle.vax_templates.specs.Instructions.{behind_blank, word_of, marks_behind};
 ghost use Rattle.vax_templates.specs.Marks.{strip};
 ghost use Rattle.vax_target_forms.specs.Answers.{Reads};
 ghost use Rattle.l32_templates.specs.Instructions.{label_front, forms_from, is_call, operates, is_call_op, calls, with_op, relation};
@@ -9,12 +9,13 @@ ghost use Rattle.l32_templates.specs.Instructions.{read_behind, instruction_of, 
 ghost use Rattle.l32_target_forms.specs.Views.{instruction_view, forms_view, form_view};
 
 use crate::form::form;
-use crate::marks::{hole, marks_of, put_bytes, put_pieces, strip};
 use gg_base::NoMemory;
 use l32_core::{Op32, Part};
 use l32_templates::Form;
 use md_reader::{Piece, is_word};
 use std::alloc::Global;
+use vax_target_forms::instruction::word_len;
+use vax_target_forms::marks::{hole, marks_of, put_bytes, put_pieces, strip};
 use vax_target_forms::refusal::{NOT_INSTR, Refusal};
 use vax_templates::Mark;
 
@@ -149,17 +150,6 @@ fn read_behind(alloc: Global, word: &[u8], marks: &[Mark]) -> Result<LineInstruc
         Some(op) => with_op(alloc, op, marks),
         None => relation(alloc, word, marks),
     }
-}
-
-// A mnemonic ends before a blank.
-fn word_len(bytes: &[u8]) -> usize
-    ensures len { result ≡ word_len bytes.now }
-    ensures within { result ≤ length bytes.now }
-{
-    bytes
-        .iter()
-        .position(|byte| *byte == b' ')
-        .unwrap_or(bytes.len())
 }
 
 // The mnemonic at the front of a line.

@@ -3,4 +3,3 @@
 
 mod form;
 pub mod instruction;
-mod marks;

@@ -1,11 +1,8 @@
--- What a template did, by the `give` line of its rule.
-use Rattle.std.specs.Prelude.{ℕ, List, Option, Some, None, Result, Ok, Err}
+-- What an operand is that a rule gives.
+use Rattle.std.specs.Prelude.{List, Option, Some, None, Result, Ok, Err}
 use Rattle.vax_templates.specs.sel_target.specs.md_reader_pieces.specs.declared.piece.Piece.{Piece}
 use Rattle.vax_templates.specs.sel_target.specs.md_reader.specs.declared.types.Kind.{Kind}
 use Rattle.vax_templates.specs.sel_target.specs.md_reader.specs.declared.types.Kind.TheVariants as kind
-use Rattle.vax_templates.specs.sel_target.specs.md_reader.specs.declared.types.Give.{Give}
-use Rattle.vax_templates.specs.sel_target.specs.md_reader.specs.declared.types.Give.TheVariants as give
-use Rattle.vax_templates.specs.term_core.specs.Shape.{Shape}
 use Rattle.vax_templates.specs.sel_target.specs.sel_terms.specs.Effects.{ActShape}
 use Rattle.vax_templates.specs.sel_target.specs.declared.fault.TemplateKind.{TemplateKind}
 use Rattle.vax_templates.specs.sel_target.specs.declared.fault.TemplateKind.TheVariants.{NotInstr}
@@ -14,8 +11,7 @@ use Rattle.vax_templates.specs.declared.setting.Setting.{Setting}
 use Rattle.vax_templates.specs.Settings.{hole_at}
 use Rattle.vax_templates.specs.HoleTerms.{constant_of}
 use Rattle.vax_templates.specs.Standing.{Where, ◌>>=◌}
-use Rattle.vax_templates.specs.Deeds.{Last}
-use Rattle.vax_templates.specs.GiveLines.{left_value, last_deed, register_given, number_given, address_given, value_given, place_given}
+use Rattle.vax_templates.specs.GiveLines.{register_given, number_given, address_given, value_given, place_given}
 use Rattle.l32_templates.specs.declared.form.Form.{Form}
 use Rattle.l32_templates.specs.declared.form.Form.TheVariants as form
 use Rattle.l32_templates.specs.Instructions.{shape_of_pieces}
@@ -42,11 +38,3 @@ shape_read (Some f) = Ok f
 
 abbrev pub given_shape : Setting → List Hole → Option Kind → List Piece → Result ActShape TemplateKind
 given_shape s holes k ps = shape_read (shape_of_pieces ps) >>= shape_given s holes k
-
--- what a template did, by what it gives, where this is left in `%0` and that by the last line
-abbrev pub given_by : Setting → List Hole → Option Kind → Option Shape → Last → Give → Result ActShape TemplateKind
-given_by s holes k zero l give.Fresh = left_value zero
-given_by s holes k zero l give.Reuse = left_value zero
-given_by s holes k zero l give.Scratch = last_deed l
-given_by s holes k zero l give.Nothing = last_deed l
-given_by s holes k zero l (give.Shape shape) = given_shape s holes k shape.pieces

@@ -6,7 +6,6 @@ pub mod Taking
 pub mod Giving
 pub mod Deeds
 pub mod Judging
-pub mod Lines
 pub mod GiveLines
 pub mod Found
 pub mod Homes
@@ -14,5 +13,6 @@ pub mod Filled
 pub mod FilledLines
 pub mod Spelled
 pub use Rattle.vax_templates
+pub use Rattle.template_judging
 pub use Rattle.l32_machine
 pub use Rattle.l32_core
