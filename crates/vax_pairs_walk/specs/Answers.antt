@@ -1,0 +1,12 @@
+-- What a part of the walk answers, by the definition that computes it.
+use Rattle.std.specs.Prelude.{◌≡◌, ℕ, Option, Some, Result, Ok, Err}
+use Rattle.vax_pairs_walk.specs.declared.gap.Gap.{Gap}
+
+-- it is what is wanted, or nothing is said
+abbrev pub Gives : {X Y : Type 0} → (X → Y) → Result X Gap → Option Y → Type 0
+Gives view (Ok x) wanted = wanted ≡ Some (view x)
+Gives view (Err e) wanted = Unit {0}
+
+-- a number as it is
+abbrev pub itself : ℕ → ℕ
+itself n = n
