@@ -76,7 +76,7 @@ fn tables_of(alloc: Global, bytes: &[u8]) -> Result<Option<Tables>, NoMemory> {
 }
 
 // The tables of a description; else why it has none was added.
-fn described(
+fn describe(
     alloc: Global,
     name: &str,
     bytes: &[u8],
@@ -157,7 +157,7 @@ fn rules<F: Folder>(
     told: &mut String,
 ) -> Result<(), Trouble> {
     let bytes = file_of(alloc, folder, name, DESCRIPTION_LIMIT)?;
-    let Some(described) = described(alloc, name, &bytes, told)? else {
+    let Some(described) = describe(alloc, name, &bytes, told)? else {
         return Ok(());
     };
     match source {
@@ -185,7 +185,7 @@ fn sets<F: Folder>(
     told: &mut String,
 ) -> Result<(), Trouble> {
     let bytes = file_of(alloc, folder, name, DESCRIPTION_LIMIT)?;
-    if let Some(described) = described(alloc, name, &bytes, told)? {
+    if let Some(described) = describe(alloc, name, &bytes, told)? {
         match drawn {
             Drawn::Text => put_item_sets(alloc, &described.tables, told)?,
             Drawn::Graph => put_dot(alloc, &described.tables, told)?,
@@ -218,7 +218,7 @@ fn parse<F: Folder, I: Source>(
     told: &mut String,
 ) -> Result<(), Trouble> {
     let bytes = file_of(alloc, folder, name, DESCRIPTION_LIMIT)?;
-    if let Some(described) = described(alloc, name, &bytes, told)? {
+    if let Some(described) = describe(alloc, name, &bytes, told)? {
         let trees = input_of(alloc, input)?;
         put_parses(alloc, &described.tables, &described.lines, &trees, told)?;
     }
@@ -233,7 +233,7 @@ fn code<F: Folder>(
     told: &mut String,
 ) -> Result<(), Trouble> {
     let bytes = file_of(alloc, folder, name, DESCRIPTION_LIMIT)?;
-    let Some(described) = described(alloc, name, &bytes, told)? else {
+    let Some(described) = describe(alloc, name, &bytes, told)? else {
         return Ok(());
     };
     let bytes = file_of(alloc, folder, source, SOURCE_LIMIT)?;
