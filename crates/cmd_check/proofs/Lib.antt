@@ -1,4 +1,1 @@
-pub mod Leaving
 pub mod Exactly
-pub mod Telling
-pub mod Accepting

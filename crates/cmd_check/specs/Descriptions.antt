@@ -1,69 +1,21 @@
--- Machine descriptions in files, which of them are accepted, and how another is told.
-use Rattle.std.specs.Prelude.{◌≡◌, ℕ, List, None}
-use Rattle.gg_base.specs.declared.limits.TheConstants.{DESCRIPTION_LIMIT}
+-- Machine descriptions of the VAX in files, which of them are accepted, and how another is told.
+use Rattle.std.specs.Prelude.{ℕ, List}
 use Rattle.cmd_session.specs.declared.status.Status.{Status}
-use Rattle.cmd_session.specs.declared.status.Status.TheVariants as statuses
-use Rattle.cmd_session.specs.Writing.{Change, Reports}
-use Rattle.cmd_session.specs.Telling.{IsStarved}
-use Rattle.cmd_files.specs.Forms.{Form, Holds}
-use Rattle.cmd_files.specs.Outsides.{Lookup, IsUnfailed}
-use Rattle.cmd_files.specs.Stages.{FileRefused}
-use Rattle.md_reader.specs.declared.faults.DescKind.{DescKind}
-use Rattle.md_reader.specs.declared.faults.DescFault.TheVariants as desc_fault
+use Rattle.cmd_session.specs.Writing.{Change}
+use Rattle.cmd_files.specs.Forms.{Form}
+use Rattle.cmd_files.specs.Outsides.{Lookup}
 use Rattle.md_reader.specs.State.{Content}
-use Rattle.md_reader.specs.Desc.{Desc}
-use Rattle.md_reader.specs.First.{IsFirst}
-use Rattle.lr_tables.specs.Promises.{HasTooManySets}
-use Rattle.lr_checked.specs.Accepted.{NeverStops}
-use Rattle.lr_checked.specs.Counted.{HasTooManySums}
-use Rattle.cmd_check.specs.Lines.{wrong_line, full_line}
-use Rattle.cmd_check.specs.Stops.{StopRefused}
-use Rattle.cmd_check.specs.Rules.{vax_refusal, RulesRefused}
+use Rattle.cmd_descriptions.specs.Descriptions.{description_form_for, IsAcceptedFor, NotAcceptedFor}
+use Rattle.cmd_check.specs.Machine.{the_vax}
 
--- the longest description
-abbrev pub description_limit : ℕ
-description_limit = DESCRIPTION_LIMIT
-
--- the line names the first wrong line of the bytes, and what is wrong there
-pub record NamesFirstWrong (bytes line : List ℕ) : Type 0 where
-  pub number : ℕ
-  pub kind : DescKind
-  pub first : IsFirst bytes (desc_fault.Line number kind)
-  pub named : line ≡ wrong_line number kind
-
--- a file is a machine description
+-- a file is a machine description of the VAX
 abbrev pub description_form : Form Content
-description_form = record {
-  limit = description_limit;
-  reads = Desc;
-  refuses = NamesFirstWrong;
-  status = statuses.DescRefused;
-  of_files = tt;
-}
+description_form = description_form_for the_vax.word
 
--- a description is accepted: it has tables, with no more than `SUMMARY_LIMIT` summaries, by which no typed statement stops the parse, and
--- all its rules are shown
-pub record IsAccepted (d : Content) : Type 0 where
-  pub few : ¬ HasTooManySets d
-  pub sums : ¬ HasTooManySums d
-  pub never : NeverStops d
-  pub shown : vax_refusal d ≡ None
+-- it has tables by which no typed statement stops the parse, and all its rules are shown on the VAX
+abbrev pub IsAccepted : Content → Type 0
+IsAccepted d = IsAcceptedFor the_vax d
 
--- no tables were built of a description
-pub data BuildRefused (d : Content) (status : Status) (report : Change) : Type 0 where
-  TooMany : (is : status ≡ statuses.Full) (many : HasTooManySets d) (told : Reports report full_line) → BuildRefused d status report
-  StarvedBuild : (starved : IsStarved status report) → BuildRefused d status report
-
--- the file of that name was not read as a description, or its description has no tables
-pub data TablesRefused (name : List ℕ) (folder : Lookup) (status : Status) (report : Change) : Type 0 where
-  NotRead : (refused : FileRefused description_form name folder status report) → TablesRefused name folder status report
-  NotBuilt : (d : Content) (holds : Holds description_form (folder.holds name) d) (unfailed : IsUnfailed folder)
-      (refused : BuildRefused d status report) → TablesRefused name folder status report
-
--- the same, or its tables were refused, or their rules are not all shown
-pub data NotAccepted (name : List ℕ) (folder : Lookup) (status : Status) (report : Change) : Type 0 where
-  NoTables : (refused : TablesRefused name folder status report) → NotAccepted name folder status report
-  Stopped : (d : Content) (holds : Holds description_form (folder.holds name) d) (unfailed : IsUnfailed folder) (few : ¬ HasTooManySets d)
-      (refused : StopRefused d status report) → NotAccepted name folder status report
-  NoRules : (d : Content) (holds : Holds description_form (folder.holds name) d) (unfailed : IsUnfailed folder) (few : ¬ HasTooManySets d)
-      (sums : ¬ HasTooManySums d) (never : NeverStops d) (refused : RulesRefused d status report) → NotAccepted name folder status report
+-- the file of that name gave no accepted description
+abbrev pub NotAccepted : List ℕ → Lookup → Status → Change → Type 0
+NotAccepted name folder status report = NotAcceptedFor the_vax name folder status report

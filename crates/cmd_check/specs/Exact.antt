@@ -1,36 +1,15 @@
 -- What the command `check D` must answer, where the folder tells what it holds and no fault is counted.
-use Rattle.std.specs.Prelude.{◌≡◌, ◌⊎◌, ℕ, List, Some}
+use Rattle.std.specs.Prelude.{ℕ, List}
 use Rattle.gg_outside.specs.Outside.{Content as File}
 use Rattle.cmd_session.specs.declared.status.Status.{Status}
-use Rattle.cmd_session.specs.declared.status.Status.TheVariants as statuses
-use Rattle.cmd_files.specs.Outsides.{Outside, HasNoFault}
-use Rattle.cmd_files.specs.Exact.{IsLongFile, IsNoItem, IsItem, IsAnswer}
-use Rattle.md_reader.specs.State.{Content}
-use Rattle.lr_tables.specs.Promises.{HasTooManySets}
-use Rattle.lr_checked.specs.Accepted.{NeverStops}
-use Rattle.lr_checked.specs.Counted.{HasTooManySums}
-use Rattle.sel_parse.specs.Shown.{Refusal}
-use Rattle.cmd_check.specs.Descriptions.{description_limit, description_form, IsAccepted}
-use Rattle.cmd_check.specs.Rules.{vax_refusal, refusal_status}
-
--- some typed statement blocks, or one loops
-abbrev pub IsStop : Status → Type 0
-IsStop result = IsAnswer statuses.Blocks result ⊎ (result ≡ statuses.Loops)
+use Rattle.cmd_files.specs.Outsides.{Outside}
+use Rattle.cmd_descriptions.specs.Exact.{RefusesFor, IsExactFor}
+use Rattle.cmd_check.specs.Machine.{the_vax}
 
 -- each status that refuses a description, where its cause is there
-pub record Refuses (result : Status) (file : File) : Type 0 where
-  pub long : IsLongFile description_limit file → IsAnswer statuses.TooLong result
-  pub wrong : IsNoItem description_form file → IsAnswer statuses.DescRefused result
-  pub full : (d : Content) → IsItem description_form file d → HasTooManySets d → IsAnswer statuses.Full result
-  pub many_sums : (d : Content) → IsItem description_form file d → ¬ HasTooManySets d → HasTooManySums d → IsAnswer statuses.Full result
-  pub stops : (d : Content) → IsItem description_form file d → ¬ HasTooManySets d → ¬ HasTooManySums d → ¬ NeverStops d → IsStop result
-  pub unshown : (d : Content) (r : Refusal) → IsItem description_form file d → ¬ HasTooManySets d → ¬ HasTooManySums d → NeverStops d
-      → vax_refusal d ≡ Some r → IsAnswer (refusal_status r) result
+abbrev pub Refuses : Status → File → Type 0
+Refuses result file = RefusesFor the_vax result file
 
 -- each status where its cause is there
-pub record Answers (result : Status) (name : List ℕ) (at : Outside) : Type 0 where
-  pub refuses : Refuses result (at.folder.holds name)
-  pub done : (d : Content) → IsItem description_form (at.folder.holds name) d → IsAccepted d → IsAnswer statuses.Done result
-
 abbrev pub IsExact : Status → List ℕ → Outside → Type 0
-IsExact result name at = HasNoFault name at → Answers result name at
+IsExact result name at = IsExactFor the_vax result name at

@@ -1,9 +1,9 @@
-pub mod Lines
+pub mod Machine
 pub mod Rules
-pub mod Stops
 pub mod Descriptions
 pub mod Outcome
 pub mod Exact
-pub use Rattle.lr_checked
-pub use Rattle.sel_parse
-pub use Rattle.gg_accepted.specs.vax_target_meaning as vax_target_meaning
+pub use Rattle.cmd_descriptions
+pub use Rattle.cmd_descriptions.specs.lr_checked as lr_checked
+pub use Rattle.cmd_descriptions.specs.sel_parse as sel_parse
+pub use Rattle.vax_target.specs.vax_target_meaning as vax_target_meaning

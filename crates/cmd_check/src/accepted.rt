@@ -6,13 +6,12 @@ ghost use Rattle.cmd_files.specs.Forms.{Holds};
 ghost use Rattle.cmd_files.specs.Outsides.{lookup, IsUnfailed, FailsAtMost};
 ghost use Rattle.cmd_check.specs.Descriptions.{description_form, IsAccepted, NotAccepted};
 
-use crate::rules::shown;
-use crate::stopping::checked;
-use crate::tables::read_tables;
+use crate::word::VaxWord;
+use cmd_descriptions::{Accepted, read_accepted_for};
 use cmd_session::Status;
-use gg_accepted::Accepted;
 use gg_outside::{Folder, Sink};
 use std::alloc::Global;
+use vax_target::Vax;
 
 /// Reads the machine description in the file `name`, builds and checks its tables, and shows its rules on the VAX. Where it can't, it has
 /// written the lines of that refusal to `report` and answers its status.
@@ -21,7 +20,7 @@ pub fn read_accepted<F: Folder, E: Sink>(
     folder: &mut F,
     name: &str,
     report: &mut E,
-) -> Result<Accepted, Status>
+) -> Result<Accepted<Vax>, Status>
     ensures description { IfOk result (λ a. Holds description_form (F.holds folder.old name.now) a.content) }
     ensures numbered { IfOk result IsNumbered }
     ensures accepted { IfOk result (λ a. IsAccepted a.content) }
@@ -32,12 +31,5 @@ pub fn read_accepted<F: Folder, E: Sink>(
     ensures names { FailsAtMost name.now (lookup F.Folder folder.old folder.new) }
     ensures holds { (n : List ℕ) → F.holds folder.new n ≡ F.holds folder.old n }
 {
-    let tables = match read_tables(alloc, folder, name, report) {
-        Ok(tables) => tables,
-        Err(status) => return Err(status),
-    };
-    match checked(alloc, tables, report) {
-        Ok(tables) => shown(alloc, tables, report),
-        Err(status) => Err(status),
-    }
+    read_accepted_for::<VaxWord, Vax, F, E>(alloc, Vax, folder, name, report)
 }

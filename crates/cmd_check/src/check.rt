@@ -4,38 +4,12 @@ ghost use Rattle.cmd_files.specs.Outsides.{lookup, outside, FailsAtMost};
 ghost use Rattle.cmd_check.specs.Outcome.{Leaves};
 ghost use Rattle.cmd_check.specs.Exact.{IsExact};
 
-use crate::accepted::read_accepted;
-use crate::lines::ok_line;
-use cmd_files::write_out;
-use cmd_session::{Status, no_memory};
-use gg_base::NoMemory;
+use crate::word::VaxWord;
+use cmd_descriptions::check_for;
+use cmd_session::Status;
 use gg_outside::{Folder, Sink};
 use std::alloc::Global;
-
-// The command, with what each of its statuses says.
-fn read_and_tell<F: Folder, O: Sink, E: Sink>(
-    alloc: Global,
-    name: &str,
-    folder: &mut F,
-    out: &mut O,
-    report: &mut E,
-) -> Status
-    ensures leaves { Leaves result name.now (outside F.Folder O.Sink E.Sink folder.old folder.new out.old out.new report.old report.new) }
-    ensures names { FailsAtMost name.now (lookup F.Folder folder.old folder.new) }
-    ensures holds { (n : List ℕ) → F.holds folder.new n ≡ F.holds folder.old n }
-{
-    let accepted = match read_accepted(alloc, folder, name, report) {
-        Ok(accepted) => accepted,
-        Err(status) => return status,
-    };
-    match ok_line(alloc, accepted.rules(), accepted.states()) {
-        Ok(line) => match write_out(out, line.as_slice(), report) {
-            Ok(()) => Status::Done,
-            Err(status) => status,
-        },
-        Err(NoMemory) => no_memory(report),
-    }
-}
+use vax_target::Vax;
 
 /// The command `check D`: reads the machine description `name`, builds its tables, checks that no tree stops the parse by them, and shows
 /// its rules on the VAX. Then it writes to `out` how many rules the description has and how many states its tables. A refusal writes its
@@ -55,5 +29,5 @@ pub fn check_description<F: Folder, O: Sink, E: Sink>(
     ensures names { FailsAtMost name.now (lookup F.Folder folder.old folder.new) }
     ensures holds { (n : List ℕ) → F.holds folder.new n ≡ F.holds folder.old n }
 {
-    read_and_tell(alloc, name, folder, out, report)
+    check_for::<VaxWord, Vax, F, O, E>(alloc, Vax, name, folder, out, report)
 }

@@ -1,14 +1,12 @@
-// The command `check D`: reads a machine description, builds and checks its tables, and shows its rules.
+// The command `check D`: the check of a description for the VAX.
 #![tactic(auto)]
 
 pub mod accepted;
 pub mod check;
-pub mod description;
-pub mod lines;
-pub mod rules;
-pub mod stopping;
-pub mod tables;
+pub mod word;
 
 pub use accepted::read_accepted;
 pub use check::check_description;
-pub use gg_accepted::Accepted;
+pub use cmd_descriptions::Accepted;
+pub use vax_target::Vax;
+pub use word::VaxWord;

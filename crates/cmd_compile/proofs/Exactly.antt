@@ -12,7 +12,7 @@ use Rattle.cmd_files.specs.Exact.{IsLongFile, IsNoItem, IsItem, IsAnswer}
 use Rattle.cmd_files.proofs.Exactly.{long_no_item, long_not_wrong, item_not_long, none_not_long, none_no_item, item_not_wrong, same_item}
 use Rattle.md_reader.specs.State.{Content}
 use Rattle.c_program.specs.Programs.{AProgram}
-use Rattle.cmd_check.proofs.Exactly as check
+use Rattle.cmd_check.specs.cmd_descriptions.proofs.Exactly as check
 use Rattle.cmd_check.proofs.Exactly.{OfDescription, Comes, IsNot, of_description, not_refused, refuses}
 use Rattle.cmd_meaning.specs.Sources.{source_form}
 use Rattle.gg_compile.specs.Needs.{AllFit, IsFirstOver}

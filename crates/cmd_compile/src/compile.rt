@@ -12,7 +12,7 @@ ghost use Rattle.cmd_compile.specs.Exact.{IsExact};
 use crate::passing::{all_changes, changed_lines};
 use crate::text::text_of;
 use c_typed::Program;
-use cmd_check::{Accepted, read_accepted};
+use cmd_check::{Accepted, Vax, read_accepted};
 use cmd_files::{read_file, write_out};
 use cmd_meaning::SourceText;
 use cmd_session::{Status, no_memory, write_all};
@@ -31,7 +31,7 @@ struct Told {
 // The text of a program, and the lines that tell how many changes each pass made.
 fn text_and_lines<E: Sink>(
     alloc: Global,
-    accepted: &Accepted,
+    accepted: &Accepted<Vax>,
     source: &Program,
     passes: &mut Vec<Box<dyn Pass>>,
     report: &mut E,

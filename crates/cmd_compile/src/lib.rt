@@ -6,7 +6,7 @@ pub mod lines;
 pub mod passing;
 pub mod text;
 
-pub use cmd_check::{Accepted, check_description, read_accepted};
+pub use cmd_check::{Accepted, Vax, check_description, read_accepted};
 pub use compile::compile_source;
 pub use text::text_of;
 pub use vax_passes::Pass;

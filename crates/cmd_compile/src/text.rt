@@ -10,7 +10,7 @@ use crate::lines::frame_line;
 use c_typed::Program;
 use cmd_session::{Status, no_memory, refuse_with};
 use gg_base::NoMemory;
-use gg_compile::{Accepted, CompileFault, compile};
+use gg_compile::{Accepted, CompileFault, Vax, compile};
 use gg_outside::Sink;
 use std::alloc::Global;
 use vax_alike::laws::alike_runs_follow;
@@ -21,7 +21,7 @@ use vax_writer::write_code;
 // The code that is selected of a program's trees.
 fn selected_code<E: Sink>(
     alloc: Global,
-    accepted: &Accepted,
+    accepted: &Accepted<Vax>,
     source: &Program,
     report: &mut E,
 ) -> Result<Code, Status>
@@ -61,7 +61,7 @@ fn passed_text(
 /// written to `report`, and the status of that refusal is answered.
 pub fn text_of<E: Sink>(
     alloc: Global,
-    accepted: &Accepted,
+    accepted: &Accepted<Vax>,
     source: &Program,
     passes: &mut Vec<Box<dyn Pass>>,
     report: &mut E,

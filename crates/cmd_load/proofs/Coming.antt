@@ -10,9 +10,11 @@ use Rattle.md_reader.specs.State.{Content}
 use Rattle.cmd_compile.specs.lr_checked.specs.declared.checking.CheckFault.{CheckFault}
 use Rattle.cmd_compile.specs.lr_checked.specs.declared.checking.CheckFault.TheVariants as check_fault
 use Rattle.cmd_compile.specs.sel_parse.specs.Shown.{Refusal, PoolSmall, Template, Unshown}
-use Rattle.cmd_compile.specs.cmd_check.specs.Descriptions.{description_form, BuildRefused, TooMany, StarvedBuild, NotRead, NotBuilt, NotAccepted, NoTables, Stopped, NoRules}
-use Rattle.cmd_compile.specs.cmd_check.specs.Rules.{refusal_status, RulesRefused, NotShown, StarvedShow}
-use Rattle.cmd_compile.specs.cmd_check.specs.Stops.{TellsStop}
+use Rattle.cmd_compile.specs.cmd_check.specs.Descriptions.{description_form, NotAccepted}
+use Rattle.cmd_compile.specs.cmd_check.specs.cmd_descriptions.specs.Descriptions.{BuildRefused, TooMany, StarvedBuild, NotRead, NotBuilt, NoTables, Stopped, NoRules}
+use Rattle.cmd_compile.specs.cmd_check.specs.Rules.{RulesRefused}
+use Rattle.cmd_compile.specs.cmd_check.specs.cmd_descriptions.specs.Rules.{refusal_status, NotShown, StarvedShow}
+use Rattle.cmd_compile.specs.cmd_check.specs.cmd_descriptions.specs.Stops.{TellsStop}
 use Rattle.cmd_compile.specs.Passing.{Passing}
 use Rattle.cmd_load.specs.declared.summary.Summary.{Summary}
 use Rattle.cmd_load.specs.Telling.{SummaryTold, Whole, Cut, StarvedSummary}

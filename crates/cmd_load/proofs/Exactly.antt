@@ -8,7 +8,7 @@ use Rattle.cmd_files.specs.Stages.{OutputRefused, CutOutput, StarvedOutput}
 use Rattle.cmd_files.specs.Exact.{IsItem, IsAnswer}
 use Rattle.md_reader.specs.State.{Content}
 use Rattle.cmd_compile.specs.cmd_check.specs.Descriptions.{description_form, IsAccepted}
-use Rattle.cmd_compile.specs.cmd_check.proofs.Exactly as check
+use Rattle.cmd_compile.specs.cmd_check.specs.cmd_descriptions.proofs.Exactly as check
 use Rattle.cmd_compile.specs.cmd_check.proofs.Exactly.{Comes, IsNot, of_description, not_refused, refuses}
 use Rattle.cmd_compile.specs.Passing.{Passing}
 use Rattle.cmd_load.specs.declared.summary.Summary.{Summary}

@@ -7,5 +7,7 @@ pub mod load;
 pub mod sides;
 pub mod summary;
 
-pub use cmd_compile::{Accepted, Pass, check_description, compile_source, read_accepted, text_of};
+pub use cmd_compile::{
+    Accepted, Pass, Vax, check_description, compile_source, read_accepted, text_of,
+};
 pub use load::load_generated;

@@ -10,7 +10,7 @@ ghost use Rattle.cmd_load.specs.Exact.{IsExact};
 use crate::generated::generate;
 use crate::laws::both_sides_end_alike;
 use crate::sides::{Sizes, run_sides, tell_sides};
-use cmd_compile::{Accepted, Pass, read_accepted, text_of};
+use cmd_compile::{Accepted, Pass, Vax, read_accepted, text_of};
 use cmd_session::{Status, no_memory};
 use gg_base::NoMemory;
 use gg_load_reads::generated_source_has_program;
@@ -20,7 +20,7 @@ use std::alloc::Global;
 // By an accepted description: the generated source, its text, and both sides' runs.
 fn load_by<O: Sink, E: Sink>(
     alloc: Global,
-    accepted: &Accepted,
+    accepted: &Accepted<Vax>,
     functions: u32,
     out: &mut O,
     report: &mut E,

@@ -3,5 +3,5 @@
 
 pub mod top;
 
-pub use cmd_load::{Accepted, read_accepted, text_of};
+pub use cmd_load::{Accepted, Vax, read_accepted, text_of};
 pub use top::ggvax;

@@ -1,5 +1,3 @@
 -- No definitions of its own: what is said here is said in those of the crates below.
 pub use Rattle.sel_parse_effect
 pub use Rattle.lr_checked
-pub use Rattle.vax_target.specs.vax_templates as vax_templates
-pub use Rattle.vax_target.specs.vax_target_meaning as vax_target_meaning

@@ -1,4 +1,5 @@
-//! Machine descriptions that are accepted: no typed statement stops the parse by their tables, and all their rules are shown on the VAX.
+//! Machine descriptions that are accepted for a machine: no typed statement stops the parse by their tables, and all their rules are shown
+//! on the machine.
 #![tactic(auto)]
 
 mod accepting;

@@ -21,6 +21,7 @@ use gg_compile_laws::assemble;
 use std::alloc::Global;
 use tree_core::TreeProgram;
 use vax_core::Code;
+use vax_target::Vax;
 
 /// A program's trees, and the code that is selected of them.
 #[derive(Drop)]
@@ -30,7 +31,7 @@ pub struct Compiled {
 }
 
 // The code of trees that are ready for it: no tree of theirs blocks, turns or finds its frame full.
-fn code_of(alloc: Global, accepted: &Accepted, trees: &TreeProgram) -> Result<Code, NoMemory>
+fn code_of(alloc: Global, accepted: &Accepted<Vax>, trees: &TreeProgram) -> Result<Code, NoMemory>
     requires ready { ∥ HasReadyTrees trees.now ∥₁ }
     requires locals { All (λ f. f.locals ≤ NEED_LIMIT) trees.now.functions }
     ensures { IfOk result (λ c. SelectedAll vax accepted.now.content trees.now c) }
@@ -45,7 +46,7 @@ fn code_of(alloc: Global, accepted: &Accepted, trees: &TreeProgram) -> Result<Co
 /// want of memory, and nothing else.
 pub fn compile(
     alloc: Global,
-    accepted: &Accepted,
+    accepted: &Accepted<Vax>,
     source: &Program,
 ) -> Result<Compiled, CompileFault>
     ensures trees { IfOk result (λ c. c.trees ≡ lowered (program source.now.held)) }

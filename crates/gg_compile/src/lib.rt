@@ -8,3 +8,4 @@ mod needs;
 pub use compiler::{Compiled, compile};
 pub use fault::CompileFault;
 pub use gg_accepted::Accepted;
+pub use vax_target::Vax;

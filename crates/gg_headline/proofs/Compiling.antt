@@ -10,7 +10,8 @@ use Rattle.cmd_files.specs.Forms.{Holds}
 use Rattle.cmd_files.specs.Outsides.{Outside, IsUnfailed, Fails}
 use Rattle.cmd_files.specs.Stages.{FileRefused, Unread, LongFile, WrongFile, StarvedFile, OutputRefused, CutOutput, StarvedOutput}
 use Rattle.cmd_files.specs.Exact.{IsAnswer}
-use Rattle.cmd_compile.specs.cmd_check.specs.Descriptions.{NotRead, NotBuilt, NotAccepted, NoTables, Stopped, NoRules}
+use Rattle.cmd_compile.specs.cmd_check.specs.Descriptions.{NotAccepted}
+use Rattle.cmd_compile.specs.cmd_check.specs.cmd_descriptions.specs.Descriptions.{NotRead, NotBuilt, NoTables, Stopped, NoRules}
 use Rattle.cmd_compile.specs.cmd_check.proofs.Exactly.{IsNot, of_description, not_refused}
 use Rattle.cmd_compile.specs.cmd_meaning.specs.Sources.{source_form}
 use Rattle.cmd_compile.specs.Lines.{name_at, frame_line}

@@ -11,9 +11,11 @@ use Rattle.cmd_session.specs.Writing.{Change}
 use Rattle.cmd_session.specs.Telling.{IsRefused, IsStarved}
 use Rattle.cmd_files.specs.Outsides.{Lookup}
 use Rattle.cmd_files.specs.Stages.{FileRefused, Unread, LongFile, WrongFile, StarvedFile, OutputRefused, CutOutput, StarvedOutput}
-use Rattle.cmd_compile.specs.cmd_check.specs.Rules.{refusal_status, RulesRefused, NotShown, StarvedShow}
-use Rattle.cmd_compile.specs.cmd_check.specs.Stops.{TellsStop}
-use Rattle.cmd_compile.specs.cmd_check.specs.Descriptions.{description_form, BuildRefused, TooMany, StarvedBuild, NotRead, NotBuilt, NotAccepted, NoTables, Stopped, NoRules}
+use Rattle.cmd_compile.specs.cmd_check.specs.Rules.{RulesRefused}
+use Rattle.cmd_compile.specs.cmd_check.specs.cmd_descriptions.specs.Rules.{refusal_status, NotShown, StarvedShow}
+use Rattle.cmd_compile.specs.cmd_check.specs.cmd_descriptions.specs.Stops.{TellsStop}
+use Rattle.cmd_compile.specs.cmd_check.specs.Descriptions.{description_form, NotAccepted}
+use Rattle.cmd_compile.specs.cmd_check.specs.cmd_descriptions.specs.Descriptions.{BuildRefused, TooMany, StarvedBuild, NotRead, NotBuilt, NoTables, Stopped, NoRules}
 use Rattle.cmd_compile.specs.cmd_meaning.specs.Sources.{source_form}
 use Rattle.cmd_compile.specs.Passing.{Passing}
 use Rattle.cmd_compile.specs.Texts.{HasNoText, FrameIsFull, StarvedText, LinesRefused, CutLines, StarvedLines}

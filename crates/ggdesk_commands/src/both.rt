@@ -6,7 +6,7 @@ use crate::world::{SOURCE, TEXT, folder_of, put_file, ran, refusal};
 use cmd_files::read_file;
 use cmd_meaning::SourceText;
 use cmd_session::Status;
-use cmd_top::{Accepted, read_accepted, text_of};
+use cmd_top::{Accepted, Vax, read_accepted, text_of};
 use gg_outside::{MemFolder, MemSink};
 use gg_texts::VAX_GG;
 use std::alloc::{AllocError, Global};
@@ -34,11 +34,11 @@ fn description(alloc: Global, registers: &str) -> Result<String, AllocError> {
 #[derive(Drop)]
 pub struct Opened {
     pub registers: String,
-    accepted: Result<Accepted, String>,
+    accepted: Result<Accepted<Vax>, String>,
 }
 
 // The description of this text, accepted, or what `compile` leaves behind where it is refused.
-fn accepted_of(alloc: Global, text: &str) -> Result<Result<Accepted, String>, AllocError> {
+fn accepted_of(alloc: Global, text: &str) -> Result<Result<Accepted<Vax>, String>, AllocError> {
     let mut folder = folder_of(alloc, "d", text.as_bytes())?;
     let mut report = MemSink::new(alloc, 1, Vec::new(alloc));
     match read_accepted(alloc, &mut folder, "d", &mut report) {
@@ -59,7 +59,7 @@ pub fn open(alloc: Global, registers: &str) -> Result<Opened, AllocError> {
 // The text of a source that was read, by those of the passes that are shipped, or what `compile` leaves behind where there is none.
 fn written(
     alloc: Global,
-    accepted: &Accepted,
+    accepted: &Accepted<Vax>,
     source: &SourceText,
     names: &[PassName],
 ) -> Result<Result<String, String>, AllocError> {
@@ -83,7 +83,7 @@ fn written(
 // The text of the source, or what `compile` leaves behind where there is none.
 fn compiled(
     alloc: Global,
-    accepted: &Accepted,
+    accepted: &Accepted<Vax>,
     source: &str,
     names: &[PassName],
 ) -> Result<Result<String, String>, AllocError> {

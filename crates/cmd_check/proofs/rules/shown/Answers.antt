@@ -1,5 +1,0 @@
-use Rattle.cmd_check.proofs.Telling.{told}
-use Rattle.cmd_check.proofs.rules.shown.Goals as goal
-
-pub returns-in-Err-clause-refused : goal.returns-in-Err-clause-refused
-returns-in-Err-clause-refused g c = told _ _ _ _ c.in-Err.ensures.1 c.tell_refused.ensures

@@ -1,0 +1,4 @@
+pub mod Leaving
+pub mod Exactly
+pub mod Telling
+pub mod Accepting
