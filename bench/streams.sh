@@ -28,7 +28,7 @@ from common import HI, answer, put, written
 program, library, description, work = sys.argv[1:]
 os.chdir(work)
 DONE, USAGE, FILE, INPUT, WRITE, LONG, CUT, SPENT = 0, 1, 3, 4, 5, 6, 15, 16
-USAGES = "ggvax: usage: check D | compile D S | run A N | meaning S N | load D K | image A | text I\n"
+USAGES = "ggvax: usage: check D | compile D S | run A N | meaning S N | load D K | image A | text I | check32 D | run32 A N\n"
 FAILED, LONG_INPUT = "ggvax: output failed\n", "ggvax: input is too long\n"
 ECHO = "int main(){int c;while((c=getchar())!=-1)putchar(c);return 0;}"
 MANY = "int main(){int i;for(i=0;i<300000;i++)putchar(65+i%26);return 0;}"

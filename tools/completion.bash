@@ -4,17 +4,18 @@ _ggvax() {
     local word=${COMP_WORDS[COMP_CWORD]} at=$COMP_CWORD first=1 ending
     [ "${COMP_WORDS[1]}" = --try ] && first=2
     if [ "$at" -eq 1 ]; then
-        COMPREPLY=($(compgen -W 'check compile run meaning load image text --try --help --version' -- "$word"))
+        COMPREPLY=($(compgen -W 'check compile run meaning load image text check32 run32 --try --help --version' -- "$word"))
         return
     fi
     if [ "$at" -eq "$first" ]; then
-        COMPREPLY=($(compgen -W 'check compile run meaning load image text' -- "$word"))
+        COMPREPLY=($(compgen -W 'check compile run meaning load image text check32 run32' -- "$word"))
         return
     fi
     case ${COMP_WORDS[first]}$((at - first)) in
-    check1 | compile1 | load1) ending=gg ;;
+    check1 | compile1 | load1 | check321) ending=gg ;;
     compile2 | meaning1) ending=c ;;
     run1 | image1) ending=s ;;
+    run321) ending=l32 ;;
     text1) ending=img ;;
     *) return ;;
     esac

@@ -15,7 +15,7 @@ PAGES = {
         "commands.md",
         "Commands",
         "a retargetable code generator for the VAX-11, whose output is proved to do what its source does",
-        "check D | compile D S | run A N | meaning S N | load D K | image A | text I",
+        "check D | compile D S | run A N | meaning S N | load D K | image A | text I | check32 D | run32 A N",
     ),
     "ggdesk": (
         "desk.md",

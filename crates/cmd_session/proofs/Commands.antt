@@ -8,7 +8,8 @@ use Rattle.std.specs.declared.alloc.Global.{Global}
 use Rattle.std.specs.String.{string_bytes}
 use Rattle.std.proofs.lemmas.Fmt.{parse-decimal, decimal_injective}
 use Rattle.std.proofs.lemmas.Slice.Eq.{bytes_eq-Decides}
-use Rattle.cmd_session.specs.Words.{spelled, SaysNamed, SaysPaired, SaysCounted, NoNamed, OnlyNamed, NoPaired, OnlyPaired, NoCounted, OnlyCounted}
+use Rattle.cmd_session.specs.Words.{spelled, SaysNamed, SaysPaired, SaysCounted}
+use Rattle.cmd_session.specs.Choice.{NoNamed, OnlyNamed, NoPaired, OnlyPaired, NoCounted, OnlyCounted}
 
 two : {A : Type 0} (xs : List A) (a b : A) → 2 ≤ length xs → length xs < 3 → a ≡ get_or xs 0 a → b ≡ get_or xs 1 b → xs ≡ a ∷ (b ∷ [])
 two (x ∷ (y ∷ [])) a b low high first second = cc
@@ -131,6 +132,28 @@ check_is_not_text h = let first = ap (λ (l : List ℕ). get_or l 0 0) h in omeg
 
 pub image_is_not_text : codes "image" ≡ codes "text" → ⊥
 image_is_not_text h = let first = ap (λ (l : List ℕ). get_or l 0 0) h in omega (arith, first)
+
+pub compile_is_not_run32 : codes "compile" ≡ codes "run32" → ⊥
+compile_is_not_run32 h = let first = ap (λ (l : List ℕ). get_or l 0 0) h in omega (arith, first)
+
+pub meaning_is_not_run32 : codes "meaning" ≡ codes "run32" → ⊥
+meaning_is_not_run32 h = let first = ap (λ (l : List ℕ). get_or l 0 0) h in omega (arith, first)
+
+pub load_is_not_run32 : codes "load" ≡ codes "run32" → ⊥
+load_is_not_run32 h = let first = ap (λ (l : List ℕ). get_or l 0 0) h in omega (arith, first)
+
+pub image_is_not_check32 : codes "image" ≡ codes "check32" → ⊥
+image_is_not_check32 h = let first = ap (λ (l : List ℕ). get_or l 0 0) h in omega (arith, first)
+
+pub text_is_not_check32 : codes "text" ≡ codes "check32" → ⊥
+text_is_not_check32 h = let first = ap (λ (l : List ℕ). get_or l 0 0) h in omega (arith, first)
+
+-- a word that goes on behind the other
+pub check_is_not_check32 : codes "check" ≡ codes "check32" → ⊥
+check_is_not_check32 h = let long = ap (λ (l : List ℕ). length l) h in omega (arith, long)
+
+pub run_is_not_run32 : codes "run" ≡ codes "run32" → ⊥
+run_is_not_run32 h = let long = ap (λ (l : List ℕ). length l) h in omega (arith, long)
 
 -- words that say a name are two, and the first is the word before it
 pub named_length : (words : List (String Global)) (word name : List ℕ) → SaysNamed word (spelled words) name → length words ≡ 2

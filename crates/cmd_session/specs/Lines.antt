@@ -42,7 +42,8 @@ abbrev pub too_long_line : List ℕ → List ℕ
 too_long_line name = codes "ggvax: " ++ (name ++ codes " is too long\n")
 
 abbrev pub usage_line : List ℕ
-usage_line = codes "ggvax: usage: check D | compile D S | run A N | meaning S N | load D K | image A | text I\n"
+usage_line = codes
+    "ggvax: usage: check D | compile D S | run A N | meaning S N | load D K | image A | text I | check32 D | run32 A N\n"
 
 abbrev pub input_failed_line : List ℕ
 input_failed_line = codes "ggvax: input failed\n"

@@ -1,7 +1,8 @@
 // The words of the commands.
 ghost use Rattle.std.specs.Prelude.{◌≡◌, IfSome, IfNone, ℕ, List};
 ghost use Rattle.std.specs.Fmt.{decimal};
-ghost use Rattle.cmd_session.specs.Words.{spelled, IsCount, SaysNamed, SaysPaired, SaysCounted, NoCounted, Says, SaysOnly, SaysNone};
+ghost use Rattle.cmd_session.specs.Words.{spelled, IsCount, SaysNamed, SaysPaired, SaysCounted, Says};
+ghost use Rattle.cmd_session.specs.Choice.{NoCounted, SaysOnly, SaysNone};
 
 use itoa::Buffer;
 
@@ -22,6 +23,10 @@ pub enum Command<'a> {
     Image(&'a str),
     /// `text I`: the text of the code whose binary image is I.
     Text(&'a str),
+    /// `check32 D`: the tables of the machine description D of L32.
+    Check32(&'a str),
+    /// `run32 A N`: the run of the text A of L32 with at most N steps.
+    Run32(&'a str, u64),
 }
 
 /// The greatest number of steps that a command may ask for.
@@ -107,6 +112,12 @@ pub fn command_of(words: &[String]) -> Option<Command<'_>>
     if let Some(text) = named(words, "image") {
         return Some(Command::Image(text));
     }
-    let image = named(words, "text")?;
-    Some(Command::Text(image))
+    if let Some(image) = named(words, "text") {
+        return Some(Command::Text(image));
+    }
+    if let Some(description) = named(words, "check32") {
+        return Some(Command::Check32(description));
+    }
+    let (text, count) = counted(words, "run32", GREATEST_COUNT)?;
+    Some(Command::Run32(text, count))
 }

@@ -1,9 +1,10 @@
 -- What holds of the command that was chosen holds of the one that the words say.
 use Rattle.std.proofs.Common.{◌≡◌, ◌<◌, ℕ, List, length, codes, Bor, sym, subst}
 use Rattle.cmd_session.specs.declared.words.Command.{Command}
-use Rattle.cmd_session.specs.declared.words.Command.TheVariants.{Check, Compile, Run, Meaning, Load, Image, Text}
+use Rattle.cmd_session.specs.declared.words.Command.TheVariants.{Check, Compile, Run, Meaning, Load, Image, Text, Check32, Run32}
 use Rattle.cmd_session.specs.declared.status.Status.{Status}
-use Rattle.cmd_session.specs.Words.{IsCount, greatest_count, greatest_size, OnlyNamed, OnlyPaired, OnlyCounted, Says, SaysOnly}
+use Rattle.cmd_session.specs.Words.{IsCount, greatest_count, greatest_size, Says}
+use Rattle.cmd_session.specs.Choice.{OnlyNamed, OnlyPaired, OnlyCounted, SaysOnly}
 use Rattle.cmd_files.specs.Outsides.{Outside}
 use Rattle.cmd_load.specs.cmd_compile.specs.Passing.{Passing}
 use Rattle.cmd_load.specs.cmd_compile.specs.Outcome.{files, Leaves as CompileLeaves}
@@ -32,6 +33,14 @@ only_image words command text only is = (subst (SaysOnly words) is only).5
 
 pub only_text : (words : List (List ℕ)) (command : Command) (image : Bor (List ℕ)) → SaysOnly words command → command ≡ Text image → OnlyNamed (codes "text") words image.now
 only_text words command image only is = (subst (SaysOnly words) is only).6
+
+pub only_check32 : (words : List (List ℕ)) (command : Command) (d : Bor (List ℕ)) → SaysOnly words command → command ≡ Check32 d
+    → OnlyNamed (codes "check32") words d.now
+only_check32 words command d only is = (subst (SaysOnly words) is only).7
+
+pub only_run32 : (words : List (List ℕ)) (command : Command) (text : Bor (List ℕ)) (count : ℕ) → SaysOnly words command → command ≡ Run32 text count
+    → OnlyCounted (codes "run32") greatest_count words text.now count
+only_run32 words command text count only is = (subst (SaysOnly words) is only).8
 
 -- the two names are not empty
 pub named_pair : (words : List (List ℕ)) (command : Command) (d source : Bor (List ℕ)) → Says words command → command ≡ Compile d source

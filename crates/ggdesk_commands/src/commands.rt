@@ -8,8 +8,8 @@
 // - `source@SOURCE@N@INPUT`: what `meaning` of that source leaves behind.
 // - `writes@SOURCE@1@`: how the writing of the text of that source ends at each of its calls that fails, one for each byte.
 // - `ggvax@WORDS@FILE@INPUT@MARKS`: what the whole program leaves behind, by words between commas, where the folder has the shipped
-//   description as `d`, the small one as `m`, the large one as `h`, and the file `s`; `→` stands for a TAB there and `¶` for a line feed.
-//   The marks are told with `World`.
+//   description as `d`, the small one as `m`, that of L32 as `l`, the large one as `h`, and the file `s`; `→` stands for a TAB there and
+//   `¶` for a line feed. The marks are told with `World`.
 // - `fronts@WORDS@FILE@INPUT@MARKS`: the same of each front of the file, behind the least length of those that leave it.
 use crate::both::{Opened, open, told_of, written_of};
 use crate::fronts::fronts_of;

@@ -9,7 +9,7 @@ use cmd_session::Status;
 use cmd_top::ggvax;
 use gg_base::{Bytes, Name};
 use gg_outside::{MemFile, MemFolder, MemSink, MemSource};
-use gg_texts::{M_GG, VAX_GG};
+use gg_texts::{L32_GG, M_GG, VAX_GG};
 use std::alloc::{AllocError, Global};
 use vax_codes::{JumpChain, NeedlessTest};
 use vax_passes::{DeadTail, NextJump, Pass};
@@ -192,12 +192,13 @@ fn shown(alloc: Global, bytes: &[u8]) -> Result<String, AllocError> {
         .collect(alloc)
 }
 
-// The files of the whole program's folder: the shipped description, the small one, and the file of a row; the large one, where its first
-// file is asked for by that name.
+// The files of the whole program's folder: the shipped description, the small one, that of L32, and the file of a row; the large one,
+// where its first file is asked for by that name.
 fn files_of(alloc: Global, words: &[String], file: &[u8]) -> Result<Vec<MemFile>, AllocError> {
     let mut files = Vec::new(alloc);
     put_file(alloc, &mut files, "d", VAX_GG.as_bytes())?;
     put_file(alloc, &mut files, "m", M_GG.as_bytes())?;
+    put_file(alloc, &mut files, "l", L32_GG.as_bytes())?;
     put_file(alloc, &mut files, "s", file)?;
     if words.get(1).is_some_and(|name| name.as_str() == LARGE) {
         let large = large_description(alloc)?;
@@ -250,7 +251,7 @@ fn run_program(
 }
 
 /// What the whole program leaves behind: its status, what its output gained, a bar, and what its report gained. The folder has the
-/// shipped description as `d`, the small one as `m`, the large one as `h`, and the file `s`.
+/// shipped description as `d`, the small one as `m`, that of L32 as `l`, the large one as `h`, and the file `s`.
 pub fn called(
     alloc: Global,
     words: &str,

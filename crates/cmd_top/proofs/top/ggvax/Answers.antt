@@ -6,15 +6,19 @@ use Rattle.cmd_files.specs.Exact.{IsExact}
 use Rattle.cmd_files.specs.Translations.{IsTranslated}
 use Rattle.cmd_meaning.specs.Sources.{source_form, source_runner}
 use Rattle.cmd_run.specs.Texts.{text_form, code_runner}
+use Rattle.cmd_run32.specs.Texts.{text_form as text_form32, code_runner as code_runner32}
 use Rattle.cmd_load.specs.cmd_check.specs.Outcome.{Leaves as CheckLeaves}
 use Rattle.cmd_load.specs.cmd_check.specs.Exact.{IsExact as CheckIsExact}
+use Rattle.cmd_check32.specs.cmd_descriptions.specs.Outcome.{LeavesFor as CheckLeavesFor}
+use Rattle.cmd_check32.specs.cmd_descriptions.specs.Exact.{IsExactFor as CheckIsExactFor}
+use Rattle.cmd_check32.specs.Machine.{the_l32}
 use Rattle.cmd_load.specs.cmd_compile.specs.Outcome.{files, FailAtMost}
 use Rattle.cmd_load.specs.cmd_compile.specs.Exact.{IsExact as CompileIsExact}
 use Rattle.cmd_load.specs.Exact.{IsExact as LoadIsExact}
 use Rattle.cmd_load.specs.cmd_compile.proofs.Counting.{kept_same}
 use Rattle.cmd_image.specs.Texts.{image_of_text}
 use Rattle.cmd_text.specs.Images.{text_of_image}
-use Rattle.cmd_top.proofs.Chosen.{only_check, only_compile, only_run, only_meaning, only_load, only_image, only_text, counts, carried, named, paired, named_pair, compiled, loaded}
+use Rattle.cmd_top.proofs.Chosen.{only_check, only_compile, only_run, only_meaning, only_load, only_image, only_text, only_check32, only_run32, counts, carried, named, paired, named_pair, compiled, loaded}
 use Rattle.cmd_top.proofs.top.ggvax.Goals as goal
 
 pub returns-in-Meaning-clause-meaning : goal.returns-in-Meaning-clause-meaning
@@ -121,3 +125,35 @@ returns-in-Text-clause-text g c = λ image said.
     named (λ s. IsTranslated text_of_image c.write_text.result s
     (outside g.F.Folder g.O.Sink g.E.Sink c.args.folder.now c.write_text.new.folder c.args.out.now c.write_text.new.out c.args.report.now c.write_text.new.report))
     _ _ (only_text _ _ _ c.in-Some.ensures.only c.in-Text.is image said) c.write_text.ensures.translates
+
+pub returns-in-Check32-clause-check32 : goal.returns-in-Check32-clause-check32
+returns-in-Check32-clause-check32 g c = λ d said.
+    named (λ s. CheckLeavesFor the_l32 c.check_description32.result s
+    (outside g.F.Folder g.O.Sink g.E.Sink c.args.folder.now c.check_description32.new.folder c.args.out.now c.check_description32.new.out c.args.report.now c.check_description32.new.report))
+    _ _ (only_check32 _ _ _ c.in-Some.ensures.only c.in-Check32.is d said) c.check_description32.ensures.leaves
+
+pub returns-in-Check32-clause-check32_exact : goal.returns-in-Check32-clause-check32_exact
+returns-in-Check32-clause-check32_exact g c = λ d said.
+    named (λ s. CheckIsExactFor the_l32 c.check_description32.result s
+    (outside g.F.Folder g.O.Sink g.E.Sink c.args.folder.now c.check_description32.new.folder c.args.out.now c.check_description32.new.out c.args.report.now c.check_description32.new.report))
+    _ _ (only_check32 _ _ _ c.in-Some.ensures.only c.in-Check32.is d said) c.check_description32.ensures.exact
+
+pub returns-in-Run32-clause-run32 : goal.returns-in-Run32-clause-run32
+returns-in-Run32-clause-run32 g c = λ text count said.
+    carried (λ s n. Leaves text_form32 code_runner32 c.run_text32.result (call_of s n
+    (intake g.I.Source c.args.input.now c.run_text32.new.input)
+    (outside g.F.Folder g.O.Sink g.E.Sink c.args.folder.now c.run_text32.new.folder c.args.out.now c.run_text32.new.out c.args.report.now c.run_text32.new.report)))
+    _ _ _ _ (only_run32 _ _ _ _ c.in-Some.ensures.only c.in-Run32.is text count said) c.run_text32.ensures.runs.leaves
+
+pub returns-in-Run32-clause-run32_exact : goal.returns-in-Run32-clause-run32_exact
+returns-in-Run32-clause-run32_exact g c = λ text count said.
+    carried (λ s n. IsExact text_form32 code_runner32 c.run_text32.result (call_of s n
+    (intake g.I.Source c.args.input.now c.run_text32.new.input)
+    (outside g.F.Folder g.O.Sink g.E.Sink c.args.folder.now c.run_text32.new.folder c.args.out.now c.run_text32.new.out c.args.report.now c.run_text32.new.report)))
+    _ _ _ _ (only_run32 _ _ _ _ c.in-Some.ensures.only c.in-Run32.is text count said) c.run_text32.ensures.runs.exact
+
+pub returns-in-Check32-clause-kept : goal.returns-in-Check32-clause-kept
+returns-in-Check32-clause-kept g c = kept_same _ _ _
+
+pub returns-in-Run32-clause-kept : goal.returns-in-Run32-clause-kept
+returns-in-Run32-clause-kept g c = kept_same _ _ _
