@@ -56,8 +56,19 @@ def table(lines):
         yield "\n.br\n".join(spelled(it) for it in others if it)
 
 
+def listed(lines):
+    """A list's items, each behind its mark; what goes on with an item is indented."""
+    for line in lines:
+        found = re.match(r"(- |\d+\. )(.*)", line)
+        if found:
+            mark = "\\(bu" if found[1] == "- " else found[1].strip()
+            yield f".IP {mark} 3\n{spelled(found[2])}"
+        else:
+            yield spelled(line.strip())
+
+
 def blocks(text):
-    """The page's parts: headings, tables, texts that stand as they are, and paragraphs."""
+    """The page's parts: headings, tables, texts that stand as they are, lists, and paragraphs."""
     for part in re.findall(r"```\n.*?\n```|(?:[^\n]+\n?)+", text, re.S):
         lines = part.strip("\n").split("\n")
         if lines[0] == "```":
@@ -66,6 +77,8 @@ def blocks(text):
             yield f".SH {lines[0].lstrip('# ').upper()}"
         elif lines[0].startswith("|"):
             yield "\n".join(table(lines))
+        elif re.match(r"(- |\d+\. )", lines[0]):
+            yield "\n".join(listed(lines))
         else:
             yield ".PP\n" + spelled(" ".join(lines))
 
