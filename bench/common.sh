@@ -21,8 +21,8 @@ program_of() {
         built=$(CDPATH='' cd -- "$BUILT" && pwd)
         [ ! -x "$built/$1" ] || echo "$built/$1"
     elif [ "$1" = ggvax ]; then
-        # With no words the front script only builds the program and tells its usage.
-        "$here/ggvax" >/dev/null 2>&1 || true
+        # The front script builds the program for the words of a command; this command refuses an empty text.
+        "$here/ggvax" image /dev/null >/dev/null 2>&1 || true
         echo "$here/crates/ggvax/out/ggvax"
     else
         given=$here/crates/$1/stdin

@@ -1,13 +1,15 @@
 #!/bin/sh
-# Types the commands of the pages that a reader follows, and compares what the programs say with what the pages say: the lines behind a `$`
-# of README.md, docs/first-description.md and docs/commands.md. Standard output and standard error are taken as one. It tells each command
-# whose answer is another one, and how many were typed.
-# Usage: bench/tutorial.sh [PAGE ..] (default: these three)
+# Types the commands of the pages that a reader follows, and compares what the programs say with what the pages say: the lines that begin
+# with a `$` of README.md, docs/first-description.md, docs/commands.md and docs/desk.md. Standard output and standard error are taken as one.
+# It tells each command whose answer is another one, and how many were typed. First it compares the picture of the item sets with their
+# graph (bench/picture.py).
+# Usage: bench/tutorial.sh [PAGE ..] (default: these four)
 # BUILT may name a folder with programs that were built before; where it lacks `ggdesk`, the commands that need it are left out.
 set -eu
 . "$(dirname -- "$0")/common.sh"
 [ $# -gt 0 ] || set -- README.md docs/first-description.md docs/commands.md docs/desk.md
 
+python3 "$here/bench/picture.py"
 program=$(program_of ggvax)
 [ -n "$program" ] || skip "BUILT names a folder without ggvax"
 desk=$(program_of ggdesk)
