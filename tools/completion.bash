@@ -26,19 +26,23 @@ _ggvax() {
 complete -F _ggvax ggvax ./ggvax
 
 _ggdesk() {
-    local word=${COMP_WORDS[COMP_CWORD]} ending
+    local word=${COMP_WORDS[COMP_CWORD]} ending endings
     if [ "$COMP_CWORD" -eq 1 ]; then
         COMPREPLY=($(compgen -W 'why trees rules sets dot parse code --help' -- "$word"))
         return
     fi
     case ${COMP_WORDS[1]}$((COMP_CWORD - 1)) in
-    why1) ending='@(c|gg|s|img)' ;;
-    rules1 | sets1 | dot1 | parse1 | code1) ending=gg ;;
-    trees1 | rules2 | code2) ending=c ;;
+    why1) endings='c gg s img' ;;
+    rules1 | sets1 | dot1 | parse1 | code1) endings=gg ;;
+    trees1 | rules2 | code2) endings=c ;;
+    --help1) COMPREPLY=($(compgen -W 'why trees rules sets dot parse code' -- "$word")) && return ;;
     *) return ;;
     esac
     compopt -o filenames
-    COMPREPLY=($(compgen -f -X "!*.$ending" -- "$word") $(compgen -d -- "$word"))
+    COMPREPLY=($(compgen -d -- "$word"))
+    for ending in $endings; do
+        COMPREPLY+=($(compgen -f -X "!*.$ending" -- "$word"))
+    done
 }
 
 complete -F _ggdesk ggdesk
