@@ -3,6 +3,7 @@
 #![tactic(auto)]
 
 mod free;
+mod items;
 mod lists;
 mod masks;
 mod places;
@@ -10,5 +11,7 @@ mod plan;
 mod reading;
 mod rows;
 mod settling;
+mod steps;
 
-pub use plan::planned;
+pub use plan::{planned, planned_steps};
+pub use steps::{Begins, Settles, Source, Step};

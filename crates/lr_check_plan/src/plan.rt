@@ -1,9 +1,10 @@
 // The plan, and its events.
 use crate::free::free_at;
+use crate::items::items_of;
 use crate::lists::Lists;
 use crate::masks::{beginnings, bit, has};
-use crate::places::From;
 use crate::rows::{Free, Part, Readers, Row, row_of};
+use crate::steps::{Begins, Step};
 use gg_base::NoMemory;
 use lr_check_found::Item;
 use lr_tables::{State, Tables, number};
@@ -20,13 +21,11 @@ pub enum Event {
     Seconds(usize, u64),
 }
 
-/// The items up to now, and what they follow from.
+/// The steps up to now, and what they follow from.
 #[derive(Drop)]
 pub struct Plan<'a> {
     pub tables: &'a Tables,
-    pub items: Vec<Item>,
-    pub places: usize,
-    pub settlings: usize,
+    pub steps: Vec<Step>,
     pub lists: Lists,
     pub singles: Vec<usize>,
     pub free: Vec<Free>,
@@ -57,9 +56,7 @@ impl<'a> Plan<'a> {
         }
         Ok(Plan {
             tables,
-            items: Vec::new(alloc),
-            places: 0,
-            settlings: 0,
+            steps: Vec::new(alloc),
             lists,
             singles,
             free,
@@ -90,7 +87,7 @@ impl<'a> Plan<'a> {
         let first = beginnings(Sort::Stmt);
         for token in tokens() {
             if has(first, *token) {
-                self.add_places(State::START, *token, bit(Tok::End), From::Root)?;
+                self.add_places(State::START, *token, bit(Tok::End), Begins::Whole)?;
             }
         }
         for at in 0..usize::MAX {
@@ -114,9 +111,15 @@ impl<'a> Plan<'a> {
     }
 }
 
-/// Places and settlings, each behind those from which it follows, numbered as they stand.
-pub fn planned(alloc: Global, tables: &Tables) -> Result<Vec<Item>, NoMemory> {
+/// Steps in which all places and lists that settle are found, each behind those from which it follows.
+pub fn planned_steps(alloc: Global, tables: &Tables) -> Result<Vec<Step>, NoMemory> {
     let mut plan = Plan::new(alloc, tables)?;
     plan.start(alloc)?;
-    Ok(plan.items)
+    Ok(plan.steps)
+}
+
+/// The same as items, one for each token behind, numbered as they stand.
+pub fn planned(alloc: Global, tables: &Tables) -> Result<Vec<Item>, NoMemory> {
+    let steps = planned_steps(alloc, tables)?;
+    items_of(alloc, tables.states(), &steps)
 }

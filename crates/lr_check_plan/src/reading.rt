@@ -1,9 +1,8 @@
 // What follows from sums of kids.
 use crate::masks::{first_of, has, without_first};
-use crate::places::From;
 use crate::plan::{Event, Plan};
-use crate::rows::{Numbers, Part, Reader, row_of};
-use crate::settling::{By, Source};
+use crate::rows::{Part, Reader, Sources, row_of};
+use crate::steps::{Begins, Settles, Source};
 use gg_base::NoMemory;
 use lr_tables::State;
 use std::alloc::Global;
@@ -33,7 +32,7 @@ impl<'a> Plan<'a> {
         }
         let below = self.single(token);
         let list = self.lists.join(alloc, list, below)?;
-        self.settle(alloc, state, token, set, list, behind, By::One(kid))
+        self.settle(alloc, state, token, set, list, behind, Settles::One(kid))
     }
 
     pub fn only_sums(
@@ -84,7 +83,7 @@ impl<'a> Plan<'a> {
             list,
             behind,
             seconds: 0,
-            firsts: Numbers::new(alloc),
+            firsts: Sources::new(alloc),
         })?;
         if let Some(row) = self.rows.get_mut(row) {
             row.parts.push(part)?;
@@ -130,9 +129,8 @@ impl<'a> Plan<'a> {
                 Some(next) => next,
                 None => break,
             };
-            let number = self.settling_number(kid, next);
             if let Some(part) = self.parts.get_mut(at) {
-                part.firsts.put(next, number)?;
+                part.firsts.put(next, kid)?;
             }
             rest = without_first(rest);
         }
@@ -182,7 +180,7 @@ impl<'a> Plan<'a> {
             None => return Ok(()),
         };
         let parent = row_of(state, token);
-        self.add_places(over, next, behind, From::Second(parent, first))?;
+        self.add_places(over, next, behind, Begins::Second(parent, first))?;
         let row = row_of(over, next);
         for entry in 0..self.entries(row) {
             let source = Source { row, entry };
@@ -190,7 +188,7 @@ impl<'a> Plan<'a> {
                 let set = known.sums & behind;
                 if set != 0 {
                     let whole = self.lists.join(alloc, known.list, list)?;
-                    let by = By::Two(first, source);
+                    let by = Settles::Two(first, source);
                     self.settle(alloc, state, token, set, whole, known.behind, by)?;
                 }
             }
@@ -364,7 +362,7 @@ impl<'a> Plan<'a> {
             set,
             whole,
             Some(behind),
-            By::Two(first, kid),
+            Settles::Two(first, kid),
         )
     }
 }

@@ -1,32 +1,33 @@
 // What stands at a state and a token, for all tokens behind.
+use crate::steps::Source;
 use gg_base::NoMemory;
 use lr_tables::{State, number};
 use std::alloc::Global;
 use tree_core::Tok;
 
-/// Numbers by token.
+/// Sources by token.
 #[derive(Drop)]
-pub struct Numbers {
-    held: Vec<usize>,
+pub struct Sources {
+    held: Vec<Source>,
 }
 
-impl Numbers {
+impl Sources {
     pub fn new(alloc: Global) -> Self {
-        Numbers {
+        Sources {
             held: Vec::new(alloc),
         }
     }
 
-    pub fn get(&self, token: Tok) -> usize {
+    pub fn get(&self, token: Tok) -> Source {
         match self.held.get(number(token)) {
-            Some(number) => *number,
-            None => 0,
+            Some(source) => *source,
+            None => Source { row: 0, entry: 0 },
         }
     }
 
-    pub fn put(&mut self, token: Tok, value: usize) -> Result<(), NoMemory> {
+    pub fn put(&mut self, token: Tok, value: Source) -> Result<(), NoMemory> {
         if self.held.len() == 0 {
-            self.held.resize(40, 0)?;
+            self.held.resize(40, Source { row: 0, entry: 0 })?;
         }
         if let Some(held) = self.held.get_mut(number(token)) {
             *held = value;
@@ -43,7 +44,6 @@ pub struct Entry {
     pub behind: Option<State>,
     pub settled: u64,
     pub sums: u64,
-    pub numbers: Numbers,
 }
 
 /// The first of a row's two kids, as a list behind the row's token; the tokens with which the second may
@@ -55,14 +55,13 @@ pub struct Part {
     pub list: usize,
     pub behind: State,
     pub seconds: u64,
-    pub firsts: Numbers,
+    pub firsts: Sources,
 }
 
 /// A state and a token.
 #[derive(Drop)]
 pub struct Row {
     pub places: u64,
-    pub numbers: Numbers,
     pub entries: Vec<Entry>,
     pub parts: Vec<usize>,
     pub is_read: bool,
@@ -111,7 +110,6 @@ impl Row {
     pub fn new(alloc: Global) -> Self {
         Row {
             places: 0,
-            numbers: Numbers::new(alloc),
             entries: Vec::new(alloc),
             parts: Vec::new(alloc),
             is_read: false,

@@ -1,29 +1,12 @@
 // Lists that settle, and what follows from their reductions.
-use crate::masks::{bit, first_of, without_first};
 use crate::plan::{Event, Plan};
-use crate::rows::{Entry, Free, Numbers, row_of};
+use crate::rows::{Entry, Free, row_of};
+use crate::steps::{Settles, Source, Step};
 use gg_base::NoMemory;
-use lr_check_found::{How, Item};
 use lr_tables::State;
 use md_reader::Sym;
 use std::alloc::Global;
 use tree_core::Tok;
-
-/// A list of a row, by its number there.
-#[derive(Clone, Copy, Debug)]
-pub struct Source {
-    pub row: usize,
-    pub entry: usize,
-}
-
-/// How a list settles, for each token behind.
-#[derive(Clone, Copy, Debug)]
-pub enum By {
-    Leaf,
-    One(Source),
-    Two(usize, Source),
-    Reduced(Source, u16),
-}
 
 /// What is known of a list of a row.
 #[derive(Clone, Copy, Debug)]
@@ -83,25 +66,6 @@ impl<'a> Plan<'a> {
         })
     }
 
-    pub fn settling_number(&self, source: Source, behind: Tok) -> usize {
-        match self.rows.get(source.row) {
-            Some(row) => match row.entries.get(source.entry) {
-                Some(entry) => entry.numbers.get(behind),
-                None => 0,
-            },
-            None => 0,
-        }
-    }
-
-    fn how(&self, by: By, behind: Tok) -> How {
-        match by {
-            By::Leaf => How::Leaf,
-            By::One(kid) => How::One(self.settling_number(kid, behind)),
-            By::Two(first, second) => How::Two(first, self.settling_number(second, behind)),
-            By::Reduced(whole, class) => How::Reduced(self.settling_number(whole, behind), class),
-        }
-    }
-
     // The number of the list in the row.
     fn entry_of(
         &mut self,
@@ -121,26 +85,11 @@ impl<'a> Plan<'a> {
                     behind,
                     settled: 0,
                     sums: 0,
-                    numbers: Numbers::new(alloc),
                 })?;
                 Ok(Some(at))
             }
             None => Ok(None),
         }
-    }
-
-    fn add_settling(&mut self, source: Source, behind: Tok, by: By) -> Result<(), NoMemory> {
-        let how = self.how(by, behind);
-        let place = self.place_number(source.row, behind);
-        self.items.push(Item::Settling(place, how))?;
-        if let Some(row) = self.rows.get_mut(source.row) {
-            if let Some(entry) = row.entries.get_mut(source.entry) {
-                entry.settled |= bit(behind);
-                entry.numbers.put(behind, self.settlings)?;
-            }
-        }
-        self.settlings = self.settlings.wrapping_add(1);
-        Ok(())
     }
 
     pub fn settle(
@@ -151,7 +100,7 @@ impl<'a> Plan<'a> {
         wanted: u64,
         list: usize,
         behind: Option<State>,
-        by: By,
+        by: Settles,
     ) -> Result<(), NoMemory> {
         let row = row_of(state, token);
         let entry = match self.entry_of(alloc, row, list, behind)? {
@@ -167,15 +116,18 @@ impl<'a> Plan<'a> {
         if more == 0 {
             return Ok(());
         }
-        let mut rest = more;
-        for _turn in 0..64_u32 {
-            let token = match first_of(rest) {
-                Some(token) => token,
-                None => break,
-            };
-            self.add_settling(source, token, by)?;
-            rest = without_first(rest);
+        if let Some(row) = self.rows.get_mut(row) {
+            if let Some(entry) = row.entries.get_mut(entry) {
+                entry.settled |= more;
+            }
         }
+        self.steps.push(Step::Settled {
+            state,
+            token,
+            entry,
+            behinds: more,
+            by,
+        })?;
         self.events.push(Event::Settled(state, token, entry, more))?;
         Ok(())
     }
@@ -193,7 +145,7 @@ impl<'a> Plan<'a> {
             let (class, set) = classes[at];
             let list = self.lists.push(Sym::Class(class), 0)?;
             let over = self.tables.over(state, Sym::Class(class));
-            let by = By::Reduced(whole, class);
+            let by = Settles::Reduced(whole, class);
             self.settle(alloc, state, token, set, list, over, by)?;
         }
         Ok(())
