@@ -1,0 +1,6 @@
+use Rattle.lr_check_found.specs.lr_check_sets.specs.Table.{automaton_of}
+use Rattle.lr_check_store.specs.Store.{IsSound}
+use Rattle.lr_check_store.proofs.store.Store.add_all.Given as goal
+
+abbrev pub invariant-loop-step : goal.invariant-loop-step
+invariant-loop-step l = IsSound (automaton_of l.tables) l.self

@@ -1,0 +1,4 @@
+pub mod Store
+pub mod Holding
+pub mod Adding
+pub mod Counted
