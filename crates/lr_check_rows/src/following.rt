@@ -136,8 +136,9 @@ pub fn begins_second(
     token: Tok,
     set: u64,
 ) -> bool
-    ensures { (v : ListsView) → IsRow (automaton_of tables.now) v row.now → IsLine (automaton_of tables.now) v first.now.state first.now.token line.now
-        → IsTrue result → ArePlaces (automaton_of tables.now) state token set }
+    ensures { (v : ListsView) → IsRow (automaton_of tables.now) v row.now
+        → IsLine (automaton_of tables.now) v first.now.state first.now.token line.now → IsTrue result
+        → ArePlaces (automaton_of tables.now) state token set }
 {
     let kids = row.token.kids();
     if kids.len() != 2 {

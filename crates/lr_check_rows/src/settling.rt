@@ -65,7 +65,8 @@ pub fn settles_two(
     ensures settled { (v : ListsView) → IsRow (automaton_of tables.now) v row.now
         → (h : IsLine (automaton_of tables.now) v first.now.state first.now.token lower.now)
         → (g : IsLine (automaton_of tables.now) v second.now.state second.now.token upper.now) → IsTrue result
-        → AreSettled (automaton_of tables.now) row.now.state row.now.token (g.list ++ (h.list ++ (grammar_symbol.Tok row.now.token ∷ []))) set }
+        → AreSettled (automaton_of tables.now) row.now.state row.now.token
+        (g.list ++ (h.list ++ (grammar_symbol.Tok row.now.token ∷ []))) set }
     // The state behind them is the second's line's.
     ensures behind { (v : ListsView) (h : IsLine (automaton_of tables.now) v first.now.state first.now.token lower.now)
         → (g : IsLine (automaton_of tables.now) v second.now.state second.now.token upper.now) → IsTrue result

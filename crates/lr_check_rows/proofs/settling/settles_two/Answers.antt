@@ -5,7 +5,8 @@ use Rattle.lr_check_rows.proofs.Replacing.{two_settles, two_behind}
 use Rattle.lr_check_rows.proofs.settling.settles_two.Goals as goal
 
 pub returns-clause-settled : goal.returns-clause-settled
-returns-clause-settled c = λ v row h g u. two_settles (automaton_of c.args.tables.now) v c.args.row.now c.args.first.now.state row (c.leads.ensures c.if-not-leads.false) c.args.set (c.is_within-2.ensures u)
+returns-clause-settled c = λ v row h g u. two_settles (automaton_of c.args.tables.now) v c.args.row.now c.args.first.now.state row (c.leads.ensures c.if-not-leads.false) c.args.set
+    (c.is_within-2.ensures u)
     c.args.first.now.token c.args.second.now.token c.args.second.now.state _ _ c.args.lower.now c.args.upper.now h g
     (two_kids c.args.row.now.token c.kids-kids.result.now _ _ c.kids-kids.ensures c.if-kids-ne2.false)
     (sym c.may.ensures ∙ c.if-not-may.false) (sym c.may-2.ensures ∙ c.if-not-may-2.false) (c.has.ensures.there c.if-not-has.false)
