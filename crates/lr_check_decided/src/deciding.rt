@@ -13,6 +13,7 @@ use gg_base::NoMemory;
 use lr_check_complete::complete;
 use lr_check_flaws::Flaw;
 use lr_check_found::{Found, Stop};
+use lr_check_masks::mask_check;
 use lr_check_sets::tables_meet_laws;
 use lr_tables::Tables;
 use std::alloc::Global;
@@ -44,8 +45,8 @@ pub fn find_flaw(alloc: Global, tables: &Tables, found: &Found) -> Result<Option
     find_circle(alloc, tables, found)
 }
 
-/// Decides it; no memory is the only other answer.
-pub fn decide(alloc: Global, tables: &Tables) -> Result<Decision, NoMemory>
+// Decides it by all that is found, one place and one list at a time: so a flaw has its sample.
+fn decided_by_places(alloc: Global, tables: &Tables) -> Result<Decision, NoMemory>
     ensures { IfOk result (λ d. IsSo (automaton_of tables.now) d) }
 {
     tables.is_numbered();
@@ -59,5 +60,16 @@ pub fn decide(alloc: Global, tables: &Tables) -> Result<Decision, NoMemory>
     match find_flaw(alloc, tables, &found)? {
         Some(flaw) => Ok(Decision::Faulty(found, flaw)),
         None => Ok(Decision::Fine(found.tuples())),
+    }
+}
+
+/// Decides it; no memory is the only other answer. What sets of tokens show to have no fault isn't looked at once more.
+pub fn decide(alloc: Global, tables: &Tables) -> Result<Decision, NoMemory>
+    ensures { IfOk result (λ d. IsSo (automaton_of tables.now) d) }
+{
+    let shown = mask_check(alloc, tables)?;
+    match shown {
+        Some(tuples) => Ok(Decision::Fine(tuples)),
+        None => decided_by_places(alloc, tables),
     }
 }
