@@ -14,7 +14,8 @@ use Rattle.vax_pairs.specs.Shown.{StandsFor}
 abbrev pub TreesAreDone : Type 0
 TreesAreDone =
     (is_cut : ℕ → Bool) (fuel : ℕ) (env : List ℕ) (m : State) (s : TermState) (t : Tree) → m.over ≡ None → Scoped (length env) s
-    → StandsFor env s m → run_tree m.items m.layout is_cut fuel false m.place (length env) s ≡ Some t → DoesTree m.items t env m m
+    → StandsFor env s m → run_tree m.items m.layout is_cut fuel false m.place (length env) s ≡ Some t
+    → DoesTree m.items t env m m []
 
 -- Terms without memory, with longwords for constants, agree where they have one normal form.
 abbrev pub SameNormsAgree : Type 0

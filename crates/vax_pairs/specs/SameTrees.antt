@@ -9,7 +9,7 @@ use Rattle.vax_machine_lists.specs.vax_machine.specs.Labels.{label_place}
 use Rattle.vax_machine_lists.specs.Sound.{AllBelow}
 use Rattle.vax_pairs.specs.Standing.{Seen, Later}
 use Rattle.vax_pairs.specs.Piecewise.{Enters}
-use Rattle.vax_pairs.specs.Events.{worth, Event, Reads, Stores, Lowers, Divides}
+use Rattle.vax_pairs.specs.Events.{worth, Event, Reads, Stores, Lowers, Divides, Gets, Puts}
 use Rattle.vax_pairs.specs.TermStates.{TermState, coded, valued_registers, sight, term_at}
 use Rattle.vax_pairs.specs.Trees.{Tree, Emits, Asks, Arrives, CallsHere, ReturnsHere}
 
@@ -22,6 +22,8 @@ SameEvent (Reads z a) (Reads y b) = (z ≡ y) × Agree a b
 SameEvent (Stores z a v) (Stores y b w) = (z ≡ y) × (Agree a b × Agree v w)
 SameEvent (Lowers a) (Lowers b) = Agree a b
 SameEvent (Divides a) (Divides b) = Agree a b
+SameEvent Gets Gets = Unit {0}
+SameEvent (Puts a) (Puts b) = Agree a b
 SameEvent e f = ⊥
 
 -- the answer to a question is the same, whatever the condition codes at the beginning of either piece

@@ -12,6 +12,7 @@ use Rattle.vax_machine_lists.specs.vax_machine.specs.Loading.{blank}
 use Rattle.vax_machine_lists.specs.Sound.{AllBelow}
 use Rattle.vax_pairs.specs.Standing.{Seen, IsSteady, Stands}
 use Rattle.vax_pairs.specs.Piecewise.{Enters, Invariant}
+use Rattle.vax_pairs.specs.Events.{next_byte, bytes_behind}
 use Rattle.vax_pairs.specs.TermStates.{TermState, coded, valued_registers}
 use Rattle.vax_pairs.specs.Trees.{Tree}
 use Rattle.vax_pairs.specs.SameTrees.{SameTree}
@@ -34,6 +35,8 @@ pub record Knows (c : Code) (Ready Fine : State → Type 0) : Type 0 where
 pub record Reading (Fine : State → Type 0) : Type 0 where
   pub reads : (m : State) → Fine m → (a : ℕ) (s : Size) (v : ℕ) → read m a s ≡ Ok v → v < 2 ^ 32
   pub writes : (m : State) → Fine m → (a : ℕ) (s : Size) (v : ℕ) (n : State) → written m a s v ≡ Ok n → Fine n
+  pub gets : (m : State) → Fine m → next_byte m.input < 2 ^ 32
+  pub got : (m : State) → Fine m → Fine (record m { input = bytes_behind m.input })
 
 -- a state on terms stands for a machine's state
 pub record StandsFor (env : List ℕ) (s : TermState) (m : State) : Type 0 where

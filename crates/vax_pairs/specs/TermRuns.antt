@@ -1,8 +1,13 @@
 -- The tree of a piece of code: a run on terms. Where it has none, nothing is said.
-use Rattle.std.specs.Prelude.{ℕ, zero, suc, ◌+◌, ◌&&◌, Bool, true, List, [], ◌∷◌, Option, Some, None, slice_get, if◌then◌else◌}
+use Rattle.std.specs.Prelude.{ℕ, zero, suc, ◌+◌, ◌==◌, ◌&&◌, Bool, true, List, [], ◌∷◌, Option, Some, None, slice_get, if◌then◌else◌}
 use Rattle.gg_base.specs.declared.size.Size.{Size}
+use Rattle.std.specs.Str.{bytes_eq}
 use Rattle.gg_base.specs.declared.size.Size.TheVariants.{Long}
+use Rattle.term_core.specs.declared.operator.UnaryOp.TheVariants.{Zx8}
+use Rattle.term_core.specs.declared.operator.BinaryOp.TheVariants.{Add}
+use Rattle.term_core.specs.Shape.{Constant, Symbol, Unary, Binary}
 use Rattle.vax_machine_lists.specs.vax_core.specs.declared.register.Reg.{Reg}
+use Rattle.vax_machine_lists.specs.vax_core.specs.declared.register.Reg.TheVariants.{Sp}
 use Rattle.vax_machine_lists.specs.vax_core.specs.declared.operand.Base.{Base}
 use Rattle.vax_machine_lists.specs.vax_core.specs.declared.operand.Base.TheVariants as bases
 use Rattle.vax_machine_lists.specs.vax_core.specs.declared.operand.Operand.{Operand}
@@ -12,17 +17,21 @@ use Rattle.vax_machine_lists.specs.vax_core.specs.declared.op.OperandKind.{Opera
 use Rattle.vax_machine_lists.specs.vax_core.specs.declared.code.AreaItem.{AreaItem}
 use Rattle.vax_machine_lists.specs.vax_core.specs.declared.code.CodeItem.{CodeItem}
 use Rattle.vax_machine_lists.specs.vax_core.specs.declared.code.CodeItem.TheVariants as item_kind
+use Rattle.vax_machine_lists.specs.vax_core.specs.First.{putchar_name}
 use Rattle.vax_machine_lists.specs.vax_core.specs.Ops.{shape}
 use Rattle.vax_machine_lists.specs.vax_machine.specs.declared.function.Action.{Action}
 use Rattle.vax_machine_lists.specs.vax_machine.specs.declared.function.Action.TheVariants.{Compute, Push, Branch, Call}
 use Rattle.vax_machine_lists.specs.vax_machine.specs.declared.function.Action.TheVariants.{Return}
+use Rattle.vax_machine_lists.specs.vax_machine.specs.declared.function.Function.TheVariants as functions
 use Rattle.vax_machine_lists.specs.vax_machine.specs.declared.function.Test.{Test}
 use Rattle.vax_machine_lists.specs.vax_machine.specs.declared.function.Test.TheVariants as test
 use Rattle.vax_machine_lists.specs.vax_machine.specs.Functions.{action_of}
-use Rattle.vax_machine_lists.specs.vax_machine.specs.Labels.{next_item, label_place, is_service}
-use Rattle.vax_pairs.specs.TermStates.{TermState}
+use Rattle.vax_machine_lists.specs.vax_machine.specs.Labels.{next_item, label_place, getchar_name}
+use Rattle.vax_pairs.specs.Events.{Reads, Gets, Puts}
+use Rattle.vax_pairs.specs.TermStates.{Tests, TermState}
 use Rattle.vax_pairs.specs.Trees.{Tree, Asks, Arrives, CallsHere, ReturnsHere}
-use Rattle.vax_pairs.specs.TermResults.{compute}
+use Rattle.vax_pairs.specs.TermOperands.{in_register, before, holding, set_register}
+use Rattle.vax_pairs.specs.TermResults.{coded_behind, compute, push}
 
 -- a question whose both ways have a tree
 abbrev pub asked : Test → TermState → Option Tree → Option Tree → Option Tree
@@ -30,28 +39,48 @@ asked t s None b = None
 asked t s (Some a) None = None
 asked t s (Some a) (Some b) = Some (Asks t s a b)
 
--- `calls $n,f`, f being no service
-abbrev pub call_named : Option (List ℕ) → ℕ → List ℕ → ℕ → TermState → Option Tree
-call_named None n f behind s = if is_service f then None else Some (CallsHere n f behind s)
-call_named (Some name) n f behind s = None
+-- what comes behind an instruction: at a place, of so many symbols and of the state
+abbrev pub Onwards : Type 0
+Onwards = (place n : ℕ) → TermState → Option Tree
 
-abbrev pub call_based : Base → Option Reg → Option (List ℕ) → ℕ → TermState → Option Tree
-call_based (bases.Imm a) None (Some f) behind s = call_named a.name a.offset f behind s
-call_based b index target behind s = None
+-- ---- the two services, and calls
 
-abbrev pub call_tree : List Operand → Option (List ℕ) → ℕ → TermState → Option Tree
-call_tree (o ∷ []) target behind s = call_based o.base o.index target behind s
-call_tree os target behind s = None
+-- N, Z and C are clear, as behind a test of 1
+abbrev pub uncoded : TermState → TermState
+uncoded s = coded_behind s (functions.CompareWithZero Long) (Constant 1) (Constant 0) (Tests Long (Constant 1))
+
+-- `putchar`: a byte is taken off the stack and written, and r0 is that byte
+abbrev pub put_tree : ℕ → TermState → (ℕ → TermState → Option Tree) → Option Tree
+put_tree n s rest =
+    before (Reads Long (in_register s Sp))
+    (set_register s Sp (Binary Add (in_register s Sp) (Constant 4))
+    (λ z. before (Puts (Unary Zx8 (Symbol n))) (rest (n + 1) (uncoded (holding z 0 (Unary Zx8 (Symbol n)))))))
+
+-- `getchar`: r0 is a byte of the input, or -1
+abbrev pub get_tree : ℕ → TermState → (ℕ → TermState → Option Tree) → Option Tree
+get_tree n s rest = before Gets (rest (n + 1) (uncoded (holding s 0 (Symbol n))))
+
+-- `calls $count,f`
+abbrev pub call_named : Option (List ℕ) → ℕ → List ℕ → ℕ → ℕ → TermState → Onwards → Option Tree
+call_named None count f behind n s on =
+    if bytes_eq f putchar_name then (if count == 1 then put_tree n s (λ k t. on behind k t) else None)
+    else if bytes_eq f getchar_name then (if count == 0 then get_tree n s (λ k t. on behind k t) else None)
+    else Some (CallsHere count f behind s)
+call_named (Some name) count f behind n s on = None
+
+abbrev pub call_based : Base → Option Reg → Option (List ℕ) → ℕ → ℕ → TermState → Onwards → Option Tree
+call_based (bases.Imm a) None (Some f) behind n s on = call_named a.name a.offset f behind n s on
+call_based b index target behind n s on = None
+
+abbrev pub call_tree : List Operand → Option (List ℕ) → ℕ → ℕ → TermState → Onwards → Option Tree
+call_tree (o ∷ []) target behind n s on = call_based o.base o.index target behind n s on
+call_tree os target behind n s on = None
 
 abbrev pub counts : Access → Size → Option Tree → Option Tree
 counts accesses.Count Long t = t
 counts a z t = None
 
 module _ (items : List CodeItem) (layout : List AreaItem) (is_cut : ℕ → Bool) where
-  -- what comes behind an instruction
-  abbrev pub Onwards : Type 0
-  Onwards = (place n : ℕ) → TermState → Option Tree
-
   abbrev pub branch_tree : Test → Option (List ℕ) → ℕ → ℕ → TermState → Onwards → Option Tree
   branch_tree t None behind n s on = None
   branch_tree test.Always (Some l) behind n s on = on (label_place items l) n s
@@ -59,10 +88,10 @@ module _ (items : List CodeItem) (layout : List AreaItem) (is_cut : ℕ → Bool
 
   abbrev pub action_tree : Action → List OperandKind → List Operand → Option (List ℕ) → ℕ → ℕ → TermState → Onwards → Option Tree
   action_tree (Compute f) ks os target behind n s on = compute layout n s f ks os (λ k t. on behind k t)
-  action_tree Push ks os target behind n s on = None
+  action_tree Push ks os target behind n s on = push layout n s ks os (λ k t. on behind k t)
   action_tree (Branch t) [] os target behind n s on = branch_tree t target behind n s on
   action_tree (Branch t) (k ∷ ks) os target behind n s on = None
-  action_tree Call (k ∷ []) os target behind n s on = counts k.access k.size (call_tree os target behind s)
+  action_tree Call (k ∷ []) os target behind n s on = counts k.access k.size (call_tree os target behind n s on)
   action_tree Call ks os target behind n s on = None
   action_tree Return [] os target behind n s on = Some (ReturnsHere behind s)
   action_tree Return (k ∷ ks) os target behind n s on = None

@@ -12,6 +12,7 @@ use Rattle.vax_pairs.specs.vax_machine.specs.Loading.{Loads}
 use Rattle.vax_pairs.specs.vax_machine_lists.specs.Sound.{AllBelow, IsRunning}
 use Rattle.vax_pairs.specs.vax_machine_lists.proofs.Soundness.{After, Small, read_small, written_running}
 use Rattle.vax_pairs_law.specs.vax_alike.specs.Alike.{AlikeRuns}
+use Rattle.vax_pairs.specs.Events.{next_byte, bytes_behind}
 use Rattle.vax_pairs.specs.Scopes.{Under, AllUnder, Scoped}
 use Rattle.vax_pairs.specs.Shown.{Reading, Shown, Certified}
 use Rattle.vax_pairs.specs.Facts.{Fact, Equal, First, Second, AreSo, first_term, second_term, first_begins, second_begins}
@@ -31,10 +32,38 @@ small_of r v h e = subst Small e h
 after_of : (r : Result State Stop) (n : State) → After r → r ≡ Ok n → IsRunning n
 after_of r n h e = subst After e h
 
+-- a byte of the input, or -1, is a longword
+next_small : (bytes : List ℕ) → AllBelow 256 bytes → next_byte bytes < 2 ^ 32
+next_small [] h = omega arith
+next_small (b ∷ bytes) h = (let lt = h.0 in omega (arith, lt))
+
+behind_bytes : (bytes : List ℕ) → AllBelow 256 bytes → AllBelow 256 (bytes_behind bytes)
+behind_bytes [] h = tt
+behind_bytes (b ∷ bytes) h = h.1
+
+got_running : (m : State) → IsRunning m → IsRunning (record m { input = bytes_behind m.input })
+got_running m h =
+    let s = h.sound in record {
+      sound = record {
+        going = s.going;
+        registers = s.registers;
+        longwords = s.longwords;
+        stack = s.stack;
+        stack_bytes = s.stack_bytes;
+        area = s.area;
+        area_bytes = s.area_bytes;
+        input_bytes = behind_bytes m.input s.input_bytes;
+      };
+      saved = h.saved;
+      valid = h.valid;
+    }
+
 running_reads : Reading IsRunning
 running_reads = record {
   reads = λ m h a s v e. small_of (read m a s) v (read_small m a s h) e;
   writes = λ m h a s v n e. after_of (written m a s v) n (written_running m a s v h) e;
+  gets = λ m h. next_small m.input h.sound.input_bytes;
+  got = λ m h. got_running m h;
 }
 
 -- ---- the symbols of the states with which pieces begin

@@ -14,7 +14,8 @@ use Rattle.vax_pairs.specs.Shown.{Shown, StandsFor, Certified}
 use Rattle.vax_pairs_law.specs.Laws.{CertifiedRunsAreAlike}
 use Rattle.vax_pairs_law.proofs.Beginning.{piecewise_runs_are_alike}
 use Rattle.vax_pairs_law.proofs.Meeting.{trees_meet}
-use Rattle.vax_pairs_law.proofs.Running.{Does, run_does}
+use Rattle.vax_pairs_law.proofs.Telling.{Does}
+use Rattle.vax_pairs_law.proofs.Running.{run_does}
 use Rattle.vax_pairs_law.proofs.Doing.{way_from}
 
 both_below : (bound : ℕ) (xs ys : List ℕ) → AllBelow bound xs → AllBelow bound ys → AllBelow bound (xs ++ ys)
@@ -36,19 +37,19 @@ module _ (Rel : Type 0) (Holds : Rel → Seen → Seen → Type 0) (At : ℕ →
     unfolding env
     both = shown.stands m n stands
 
-    does : DoesTree c.items shown.tree env m m
+    does : DoesTree c.items shown.tree env m m []
     does =
-        subst (λ (t : Option Tree). Does c.items c.area is_cut m t env m) shown.runs
-        (subst (λ (i : ℕ). Does c.items c.area is_cut m (run_tree c.items c.area is_cut shown.fuel false m.place i shown.first) env m) many
-        (run_does c.items c.area is_cut m shown.fuel false m.place env m shown.first 0
+        subst (λ (t : Option Tree). Does c.items m t env m []) shown.runs
+        (subst (λ (i : ℕ). Does c.items m (run_tree c.items c.area is_cut shown.fuel false m.place i shown.first) env m []) many
+        (run_does c.items c.area is_cut m shown.fuel false m.place env m shown.first [] 0
         (record { items_are = (cert.knows.home m ready).items_are; layout_is = (cert.knows.home m ready).layout_is; going = stands.even.going })
         (subst (λ (i : ℕ). Scoped i shown.first) (sym many) shown.scoped) (way_from env m shown.first both.0) (λ e. absurd (cc))))
 
-    others_do : DoesTree d.items shown.others_tree env n n
+    others_do : DoesTree d.items shown.others_tree env n n []
     others_do =
-        subst (λ (t : Option Tree). Does d.items d.area others_cut n t env n) shown.others_run
-        (subst (λ (i : ℕ). Does d.items d.area others_cut n (run_tree d.items d.area others_cut shown.fuel false n.place i shown.second) env n) many
-        (run_does d.items d.area others_cut n shown.fuel false n.place env n shown.second 0
+        subst (λ (t : Option Tree). Does d.items n t env n []) shown.others_run
+        (subst (λ (i : ℕ). Does d.items n (run_tree d.items d.area others_cut shown.fuel false n.place i shown.second) env n []) many
+        (run_does d.items d.area others_cut n shown.fuel false n.place env n shown.second [] 0
         (record { items_are = (cert.others_know.home n others).items_are; layout_is = (cert.others_know.home n others).layout_is; going = stands.even.others_going })
         (subst (λ (i : ℕ). Scoped i shown.second) (sym many) shown.others_scoped) (way_from env n shown.second both.1) (λ e. absurd (cc))))
 
@@ -58,10 +59,10 @@ module _ (Rel : Type 0) (Holds : Rel → Seen → Seen → Type 0) (At : ℕ →
 
     meets : Meets Rel Holds At c.items d.items k m n
     meets =
-        trees_meet Rel Holds At c.items d.items Fine cert.reading.reads cert.reading.writes Ready OthersReady cert.invariant.goes_on cert.others_invariant.goes_on cert.knows.steady
+        trees_meet Rel Holds At c.items d.items Fine cert.reading.reads cert.reading.writes cert.reading.gets cert.reading.got Ready OthersReady cert.invariant.goes_on cert.others_invariant.goes_on cert.knows.steady
         cert.others_know.steady
         m n ready others k shown.tree shown.others_tree shown.same env m n small
-        (record { even = stands.even; items = (cert.knows.home m ready).items_are; others_items = (cert.others_know.home n others).items_are; fine = cert.knows.fine m ready }) does others_do
+        (record { even = stands.even; items = (cert.knows.home m ready).items_are; others_items = (cert.others_know.home n others).items_are; fine = cert.knows.fine m ready }) [] does others_do
 
   piecewise : Piecewise Rel Holds At Ready OthersReady c d
   piecewise = record {

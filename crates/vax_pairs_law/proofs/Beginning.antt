@@ -29,7 +29,7 @@ way_goes x m z w k Stay e = (suc zero, (omega arith, Going _ z [] zero e Stay))
 way_goes x m z w k (Going p y v l f way) e = (let h = way_goes x y z v l way e in (suc h.0, (omega arith, Going p y v h.0 f h.1.1)))
 way_goes x m z w k (Writing p y b v l f way) e = (let h = way_goes x y z v l way e in (suc h.0, (omega arith, Writing p y b v h.0 f h.1.1)))
 
-way_writes : (x m z : State) (b : ℕ) (w : List ℕ) (k : ℕ) → Way x m w k → step_of x ≡ Writes b z → (j : ℕ) × ((0 < j) × Way z m (w ++ b ∷ []) j)
+pub way_writes : (x m z : State) (b : ℕ) (w : List ℕ) (k : ℕ) → Way x m w k → step_of x ≡ Writes b z → (j : ℕ) × ((0 < j) × Way z m (w ++ b ∷ []) j)
 way_writes x m z b w k Stay e = (suc zero, (omega arith, Writing _ z b [] zero e Stay))
 way_writes x m z b w k (Going p y v l f way) e = (let h = way_writes x y z b v l way e in (suc h.0, (omega arith, Going p y (v ++ b ∷ []) h.0 f h.1.1)))
 way_writes x m z b w k (Writing p y a v l f way) e = (let h = way_writes x y z b v l way e in (suc h.0, (omega arith, Writing p y a (v ++ b ∷ []) h.0 f h.1.1)))

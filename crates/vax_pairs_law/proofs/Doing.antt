@@ -6,7 +6,8 @@ use Rattle.vax_pairs.specs.TermStates.{TermState, dressed}
 use Rattle.vax_pairs.specs.Trees.{Tree}
 use Rattle.vax_pairs.specs.Shown.{StandsFor}
 use Rattle.vax_pairs.specs.Laws.{TreesAreDone}
-use Rattle.vax_pairs_law.proofs.Running.{Does, run_does}
+use Rattle.vax_pairs_law.proofs.Telling.{Does}
+use Rattle.vax_pairs_law.proofs.Running.{run_does}
 
 module _ (env : List ℕ) where
   dressed_is : (m : State) (s : TermState) → StandsFor env s m → dressed env m m.place s ≡ m
@@ -17,6 +18,6 @@ module _ (env : List ℕ) where
 
 pub trees_are_done : TreesAreDone
 trees_are_done is_cut fuel env m s t going scoped stands run =
-    subst (λ (o : Option Tree). Does m.items m.layout is_cut m o env m) run
-    (run_does m.items m.layout is_cut m fuel false m.place env m s 0 (record { items_are = refl; layout_is = refl; going = going })
+    subst (λ (o : Option Tree). Does m.items m o env m []) run
+    (run_does m.items m.layout is_cut m fuel false m.place env m s [] 0 (record { items_are = refl; layout_is = refl; going = going })
     scoped (way_from env m s stands) (λ e. absurd (cc)))

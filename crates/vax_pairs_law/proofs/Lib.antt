@@ -7,5 +7,6 @@ pub mod Meeting
 pub mod Telling
 pub mod Operating
 pub mod Computing
+pub mod Serving
 pub mod Running
 pub mod Doing

@@ -17,9 +17,9 @@ use Rattle.vax_pairs.specs.vax_machine.specs.Step.{step_of}
 use Rattle.vax_pairs.specs.vax_machine_lists.specs.Sound.{AllBelow}
 use Rattle.vax_pairs.specs.vax_machine_lists.specs.Sound.{Behind as StepBehind}
 use Rattle.vax_pairs.specs.Ways.{Nearer, Forward, Lower}
-use Rattle.vax_pairs.specs.Standing.{Seen, Even, IsSteady}
+use Rattle.vax_pairs.specs.Standing.{Seen, Bare, Even, IsSteady}
 use Rattle.vax_pairs.specs.Piecewise.{Meets, Onward, Ending, Calling, Returning}
-use Rattle.vax_pairs.specs.Events.{worth, Event, Reads, Stores, Lowers, Divides, occurs}
+use Rattle.vax_pairs.specs.Events.{worth, Event, Reads, Stores, Lowers, Divides, Gets, Puts, next_byte, bytes_behind, occurs, wrote}
 use Rattle.vax_pairs.specs.TermStates.{TermState, coded, valued_registers, dressed}
 use Rattle.vax_pairs.specs.Trees.{Tree, Emits, Asks, Arrives, CallsHere, ReturnsHere, Choose, Behind, DoesTree}
 use Rattle.vax_pairs.specs.SameTrees.{Agree, SameEvent, SameTree}
@@ -36,10 +36,15 @@ one_below : (bound v : ℕ) (xs : List ℕ) → AllBelow bound xs → v < bound 
 one_below bound v [] h lt = (lt, tt)
 one_below bound v (x ∷ xs) h lt = (h.0, one_below bound v xs h.1 lt)
 
+-- a byte of such an input is read
+abbrev getting : List ℕ → State → List ℕ → Result (List ℕ × State) Stop
+getting env n i = Ok (env ++ next_byte i ∷ [], record n { input = bytes_behind i })
+
 -- Fine: what holds of the first machine's states as long as a piece lasts, so that what is read is a longword
 module _ (Rel : Type 0) (Holds : Rel → Seen → Seen → Type 0) (At : ℕ → ℕ → ℕ → Rel → Type 0) (cs ds : List CodeItem) (Fine : State → Type 0)
     (fine_reads : (m : State) → Fine m → (a : ℕ) (s : Size) (v : ℕ) → read m a s ≡ Ok v → v < 2 ^ 32)
-    (fine_writes : (m : State) → Fine m → (a : ℕ) (s : Size) (v : ℕ) (n : State) → written m a s v ≡ Ok n → Fine n) where
+    (fine_writes : (m : State) → Fine m → (a : ℕ) (s : Size) (v : ℕ) (n : State) → written m a s v ≡ Ok n → Fine n)
+    (fine_gets : (m : State) → Fine m → next_byte m.input < 2 ^ 32) (fine_got : (m : State) → Fine m → Fine (record m { input = bytes_behind m.input })) where
   pub record Base (m n : State) : Type 0 where
     pub even : Even Rel Holds At m n
     pub items : m.items ≡ cs
@@ -98,18 +103,40 @@ module _ (Rel : Type 0) (Holds : Rel → Seen → Seen → Type 0) (At : ℕ →
         subst (λ (x : ℕ). Occurs (occurs (Lowers a) env m) (cond (nat_lt x 2139095040) (Err stack_full) (Ok (env, n)))) (h env small) (choose_by (nat_lt (worth env a) 2139095040) stack_full)
     event_same (Divides a) (Divides b) h =
         subst (λ (x : ℕ). Occurs (occurs (Divides a) env m) (cond (x == 0) (Err Trapped) (Ok (env, n)))) (h env small) (choose_by (worth env a == 0) Trapped)
-    event_same (Reads z a) (Stores y b w) h = absurd h
-    event_same (Reads z a) (Lowers b) h = absurd h
-    event_same (Reads z a) (Divides b) h = absurd h
-    event_same (Stores z a v) (Reads y b) h = absurd h
-    event_same (Stores z a v) (Lowers b) h = absurd h
-    event_same (Stores z a v) (Divides b) h = absurd h
-    event_same (Lowers a) (Reads y b) h = absurd h
-    event_same (Lowers a) (Stores y b w) h = absurd h
-    event_same (Lowers a) (Divides b) h = absurd h
-    event_same (Divides a) (Reads y b) h = absurd h
-    event_same (Divides a) (Stores y b w) h = absurd h
-    event_same (Divides a) (Lowers b) h = absurd h
+    event_same Gets Gets h =
+        let i : List ℕ = m.input in (
+          record n { input = bytes_behind i },
+          (
+            ap (getting env n) (ap (λ (b : Bare). b.input) base.even.bare),
+            (
+              record {
+                even = record {
+                  going = base.even.going;
+                  others_going = base.even.others_going;
+                  long = base.even.long;
+                  others_long = base.even.others_long;
+                  bare = ap (λ (b : Bare). record b { input = bytes_behind i }) base.even.bare;
+                  frames = base.even.frames;
+                };
+                items = base.items;
+                others_items = base.others_items;
+                fine = fine_got m base.fine;
+              },
+              one_below (2 ^ 32) (next_byte i) env small (fine_gets m base.fine),
+            ),
+          ),
+        )
+    event_same (Puts a) (Puts b) h = (n, (refl, (base, small)))
+    event_same e f h = absurd h
+
+    wrote_same : (e f : Event) → SameEvent e f → (w : List ℕ) → wrote f env w ≡ wrote e env w
+    wrote_same (Reads z a) (Reads y b) h w = refl
+    wrote_same (Stores z a v) (Stores y b u) h w = refl
+    wrote_same (Lowers a) (Lowers b) h w = refl
+    wrote_same (Divides a) (Divides b) h w = refl
+    wrote_same Gets Gets h w = refl
+    wrote_same (Puts a) (Puts b) h w = ap (λ (v : ℕ). w ++ v ∷ []) (sym (h env small))
+    wrote_same e f h w = absurd h
 
     -- states in which two pieces end
     dressed_even : (p q : ℕ) (s t : TermState) → length s.registers ≡ 15 → length t.registers ≡ 15 → Agree (get_or t.registers 12 (Constant 0)) (get_or s.registers 12 (Constant 0))
@@ -140,12 +167,12 @@ module _ (Rel : Type 0) (Holds : Rel → Seen → Seen → Type 0) (At : ℕ →
     abbrev M : Type 0
     M = Meets Rel Holds At cs ds k x y
 
-    emits_meet : (P Q : List ℕ → State → Type 0) (r s : Result (List ℕ × State) Stop) → Occurs r s → Behind x P r → Behind y Q s
+    emits_meet : (w : List ℕ) (P Q : List ℕ → State → Type 0) (r s : Result (List ℕ × State) Stop) → Occurs r s → Behind x w P r → Behind y w Q s
         → ((env : List ℕ) (m n : State) → AllBelow (2 ^ 32) env → Base m n → P env m → Q env n → M) → M
-    emits_meet P Q (Ok z) s (n, (e, (base, small))) h g go = go z.0 z.1 n small base h (subst (Behind y Q) e g)
-    emits_meet P Q (Err q) s e h g go =
-        let k = subst (Behind y Q) e g in
-        Ending h.1.0 k.1.0 [] h.0 k.0 q h.1.1.0 k.1.1.0 h.1.1.1 k.1.1.1
+    emits_meet w P Q (Ok z) s (n, (e, (base, small))) h g go = go z.0 z.1 n small base h (subst (Behind y w Q) e g)
+    emits_meet w P Q (Err q) s e h g go =
+        let k = subst (Behind y w Q) e g in
+        Ending h.1.0 k.1.0 w h.0 k.0 q h.1.1.0 k.1.1.0 h.1.1.1 k.1.1.1
 
     nearer_by : (i j l : ℕ) (v w : Bool) → ((v ≡ true) × (w ≡ true)) ⊎ (l < k) → (v ≡ true → 0 < i) → (w ≡ true → 0 < j) → Nearer i j l k
     nearer_by i j l v w (inl h) f g = Forward (f h.0) (g h.1)
@@ -155,23 +182,25 @@ module _ (Rel : Type 0) (Holds : Rel → Seen → Seen → Type 0) (At : ℕ →
     asks_meet true b e A B C D h g f or = f h (subst (λ (c : Bool). Choose c C D) e g)
     asks_meet false b e A B C D h g f or = or h (subst (λ (c : Bool). Choose c C D) e g)
 
-    pub trees_meet : (s t : Tree) → SameTree Rel Holds At cs ds k s t → (env : List ℕ) (m n : State) → AllBelow (2 ^ 32) env → Base m n → DoesTree cs s env m x → DoesTree ds t env n y → M
-    trees_meet (Emits e s) (Emits f t) h env m n small base v w =
-        emits_meet (λ env m. DoesTree cs s env m x) (λ env n. DoesTree ds t env n y) (occurs e env m) (occurs f env n) (event_same env small m n base e f h.0) v w
-        (λ env m n small base v w. trees_meet s t h.1 env m n small base v w)
-    trees_meet (Asks u s a b) (Asks r t c d) h env m n small base v w =
+    pub trees_meet : (s t : Tree) → SameTree Rel Holds At cs ds k s t → (env : List ℕ) (m n : State) → AllBelow (2 ^ 32) env → Base m n → (said : List ℕ) → DoesTree cs s env m x said → DoesTree ds t env n y said → M
+    trees_meet (Emits e s) (Emits f t) h env m n small base said v w =
+        emits_meet said (λ more z. DoesTree cs s more z x (wrote e env said)) (λ more z. DoesTree ds t more z y (wrote f env said)) (occurs e env m) (occurs f env n)
+        (event_same env small m n base e f h.0) v w
+        (λ more i j low near k l. trees_meet s t h.1 more i j low near (wrote e env said) k
+        (subst (λ (u : List ℕ). DoesTree ds t more j y u) (wrote_same env small m n base e f h.0 said) l))
+    trees_meet (Asks u s a b) (Asks r t c d) h env m n small base said v w =
         asks_meet (passes u (coded env m.conditions s)) (passes r (coded env n.conditions t)) (h.0 env m.conditions n.conditions small)
-        (DoesTree cs a env m x) (DoesTree cs b env m x) (DoesTree ds c env n y) (DoesTree ds d env n y) v w
-        (λ v w. trees_meet a c h.1.0 env m n small base v w) (λ v w. trees_meet b d h.1.1 env m n small base v w)
-    trees_meet (Arrives u p s) (Arrives r q t) h env m n small base v w =
-        Onward v.0 w.0 h.nearer [] (dressed env m p s) (dressed env n q t) h.relation v.1.0 w.1.0 (nearer_by v.0 w.0 h.nearer u r h.lower v.1.1 w.1.1) (record {
+        (DoesTree cs a env m x said) (DoesTree cs b env m x said) (DoesTree ds c env n y said) (DoesTree ds d env n y said) v w
+        (λ v w. trees_meet a c h.1.0 env m n small base said v w) (λ v w. trees_meet b d h.1.1 env m n small base said v w)
+    trees_meet (Arrives u p s) (Arrives r q t) h env m n small base said v w =
+        Onward v.0 w.0 h.nearer said (dressed env m p s) (dressed env n q t) h.relation v.1.0 w.1.0 (nearer_by v.0 w.0 h.nearer u r h.lower v.1.1 w.1.1) (record {
           at = h.at;
           even = dressed_even env small m n base p q s t h.long h.others_long h.ap h.fp h.sp;
           holds = h.holds env m.conditions n.conditions small;
         })
-    trees_meet (CallsHere i f p s) (CallsHere j g q t) h env m n small base v w =
+    trees_meet (CallsHere i f p s) (CallsHere j g q t) h env m n small base said v w =
         let c = h.1.1 in
-        Calling v.1.0 w.1.0 [] (dressed env m v.0 s) (dressed env n w.0 t) v.1.1.0 w.1.1.0 base.even.going base.even.others_going (record {
+        Calling v.1.0 w.1.0 said (dressed env m v.0 s) (dressed env n w.0 t) v.1.1.0 w.1.1.0 base.even.going base.even.others_going (record {
           count = i;
           name = f;
           from = dressed env m p s;
@@ -186,15 +215,15 @@ module _ (Rel : Type 0) (Holds : Rel → Seen → Seen → Type 0) (At : ℕ →
           enters = c.enters env small;
           behind = (c.nearer, (c.relation, (c.at, c.later env small)));
         })
-    trees_meet (ReturnsHere p s) (ReturnsHere q t) h env m n small base v w =
-        Returning v.1.0 w.1.0 [] (dressed env m v.0 s) (dressed env n w.0 t) v.1.1.0 w.1.1.0 base.even.going base.even.others_going (record {
+    trees_meet (ReturnsHere p s) (ReturnsHere q t) h env m n small base said v w =
+        Returning v.1.0 w.1.0 said (dressed env m v.0 s) (dressed env n w.0 t) v.1.1.0 w.1.1.0 base.even.going base.even.others_going (record {
           from = dressed env m p s;
           other = dressed env n q t;
           does = v.1.1.1;
           others_does = w.1.1.1;
           even = dressed_even env small m n base p q s t h.long h.others_long h.ap h.fp h.sp;
           result = at_term env t 0 ∙ h.result env small ∙ sym (at_term env s 0);
-          steady = steady_placed (dressed env m v.0 s) p (steady _ (along_way Ready goes_on _ x [] v.1.0 v.1.1.0 ready));
-          others_steady = steady_placed (dressed env n w.0 t) q (others_steady _ (along_way OthersReady others_go_on _ y [] w.1.0 w.1.1.0 others));
+          steady = steady_placed (dressed env m v.0 s) p (steady _ (along_way Ready goes_on _ x said v.1.0 v.1.1.0 ready));
+          others_steady = steady_placed (dressed env n w.0 t) q (others_steady _ (along_way OthersReady others_go_on _ y said w.1.0 w.1.1.0 others));
         })
-    trees_meet s t h env m n small base v w = absurd h
+    trees_meet s t h env m n small base said v w = absurd h

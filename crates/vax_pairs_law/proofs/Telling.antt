@@ -1,5 +1,5 @@
 -- The tree of an instruction that computes says what the machine does.
-use Rattle.std.proofs.Common.{◌≡◌, ℕ, ◌≤◌, false, List, [], ◌∷◌, ◌++◌, map, length, Option, Some, None, Result, Ok, Err, refl, sym, ap, ◌∙◌, arith, append-nil, append_assoc}
+use Rattle.std.proofs.Common.{◌≡◌, ℕ, ◌≤◌, Bool, true, false, cond, List, [], ◌∷◌, ◌++◌, map, length, Option, Some, None, Result, Ok, Err, refl, sym, ap, ◌∙◌, arith, append-nil, append_assoc}
 use Rattle.std.proofs.Math.ListN.{get_or-append}
 use Rattle.std.proofs.lemmas.List.{length-append}
 use Rattle.std.specs.Prelude.{◌==◌, nat_lt}
@@ -10,14 +10,15 @@ use Rattle.vax_pairs.specs.term_core.specs.Shape.{Shape, Constant, Symbol, LastR
 use Rattle.vax_pairs.specs.term_core.specs.Operators.{unary, binary}
 use Rattle.vax_pairs.specs.vax_core.specs.declared.code.CodeItem.{CodeItem}
 use Rattle.vax_pairs.specs.vax_machine.specs.declared.turn.Stop.{Stop}
+use Rattle.vax_pairs.specs.vax_machine.specs.declared.turn.Stop.TheVariants.{Trapped}
 use Rattle.vax_pairs.specs.vax_machine.specs.declared.function.Conditions.{Conditions}
-use Rattle.vax_pairs.specs.vax_machine.specs.State.{State, ◌>>=◌}
+use Rattle.vax_pairs.specs.vax_machine.specs.State.{State, stack_full, ◌>>=◌}
 use Rattle.vax_pairs.specs.vax_machine.specs.Memory.{read, written}
 use Rattle.vax_pairs.specs.vax_machine.specs.Functions.{extended, is_negative_at, applied}
 use Rattle.vax_pairs.specs.vax_machine.specs.Calls.{Acts}
 use Rattle.vax_pairs.specs.vax_machine.specs.Step.{next_of, act}
 use Rattle.vax_pairs.specs.Ways.{Way}
-use Rattle.vax_pairs.specs.Events.{worth, Reads, Stores}
+use Rattle.vax_pairs.specs.Events.{worth, Reads, Stores, Lowers, Divides, Gets, Puts, next_byte, bytes_behind}
 use Rattle.vax_pairs.specs.TermStates.{Signs, SignsBefore, Tests, Compares, Carry, CarryBefore, Off, Below, Made, carry_in, signed, carried, TermState, coded, valued_registers, dressed}
 use Rattle.vax_pairs.specs.Trees.{Tree, Halts, Behind, DoesTree}
 use Rattle.vax_pairs.specs.Scopes.{Under, AllUnder, SignsUnder, CarryUnder, Scoped}
@@ -128,16 +129,25 @@ kept env n = Ok (env, n)
 
 -- ---- what a tree says of an act
 
-module _ (items : List CodeItem) (x x0 : State) (k0 : ℕ) (way : Way x0 x [] k0) (going : x0.over ≡ None) where
+-- what a tree says is done, where there is one
+abbrev pub Does : List CodeItem → State → Option Tree → List ℕ → State → List ℕ → Type 0
+Does items x None env m w = Unit {0}
+Does items x (Some t) env m w = DoesTree items t env m x w
+
+-- x0: the state before the instruction, to which a way leads from x that writes `said`
+module _ (items : List CodeItem) (x x0 : State) (said : List ℕ) (k0 : ℕ) (way : Way x0 x said k0) (going : x0.over ≡ None) where
   abbrev pub Says : Option Tree → List ℕ → State → Acts → Type 0
   Says None env m r = Unit {0}
-  Says (Some t) env m r = act x0 ≡ r → DoesTree items t env m x
+  Says (Some t) env m r = act x0 ≡ r → DoesTree items t env m x said
 
-  pub halts_by : (r : Acts) (q : Stop) → r ≡ Err q → act x0 ≡ r → Halts x q
+  pub halts_by : (r : Acts) (q : Stop) → r ≡ Err q → act x0 ≡ r → Halts x said q
   halts_by r q e is = (x0, (k0, (way, going_is x0 going ∙ ap next_of (is ∙ e))))
 
-  reads_by : (t : Tree) (env : List ℕ) (m : State) (o : Result ℕ Stop) (r : Acts) → ((v : ℕ) → o ≡ Ok v → DoesTree items t (env ++ v ∷ []) m x) → ((q : Stop) → o ≡ Err q → r ≡ Err q)
-      → act x0 ≡ r → Behind x (λ env m. DoesTree items t env m x) (o >>= known env m)
+  abbrev On : Tree → List ℕ → State → Type 0
+  On t env m = DoesTree items t env m x said
+
+  reads_by : (t : Tree) (env : List ℕ) (m : State) (o : Result ℕ Stop) (r : Acts) → ((v : ℕ) → o ≡ Ok v → On t (env ++ v ∷ []) m) → ((q : Stop) → o ≡ Err q → r ≡ Err q)
+      → act x0 ≡ r → Behind x said (λ env m. On t env m) (o >>= known env m)
   reads_by t env m (Ok v) r go over is = go v refl
   reads_by t env m (Err q) r go over is = halts_by r q (over q refl) is
 
@@ -146,8 +156,8 @@ module _ (items : List CodeItem) (x x0 : State) (k0 : ℕ) (way : Way x0 x [] k0
   reads_says size a None env m r go over = tt
   reads_says size a (Some t) env m r go over = λ is. reads_by t env m (read m (worth env a) size) r (λ v e. go v e is) over is
 
-  stores_by : (t : Tree) (env : List ℕ) (o : Result State Stop) (r : Acts) → ((n : State) → o ≡ Ok n → DoesTree items t env n x) → ((q : Stop) → o ≡ Err q → r ≡ Err q)
-      → act x0 ≡ r → Behind x (λ env m. DoesTree items t env m x) (o >>= kept env)
+  stores_by : (t : Tree) (env : List ℕ) (o : Result State Stop) (r : Acts) → ((n : State) → o ≡ Ok n → On t env n) → ((q : Stop) → o ≡ Err q → r ≡ Err q)
+      → act x0 ≡ r → Behind x said (λ env m. On t env m) (o >>= kept env)
   stores_by t env (Ok n) r go over is = go n refl
   stores_by t env (Err q) r go over is = halts_by r q (over q refl) is
 
@@ -155,3 +165,28 @@ module _ (items : List CodeItem) (x x0 : State) (k0 : ℕ) (way : Way x0 x [] k0
       → ((q : Stop) → written m (worth env a) size (worth env v) ≡ Err q → r ≡ Err q) → Says (before (Stores size a v) rest) env m r
   stores_says size a v None env m r go over = tt
   stores_says size a v (Some t) env m r go over = λ is. stores_by t env (written m (worth env a) size (worth env v)) r (λ n e. go n e is) over is
+
+  stops_by : (t : Tree) (env : List ℕ) (m : State) (q : Stop) (b : Bool) (r : Acts) → (b ≡ false → On t env m) → (b ≡ true → r ≡ Err q)
+      → act x0 ≡ r → Behind x said (λ env m. On t env m) (cond b (Err q) (Ok (env, m)))
+  stops_by t env m q true r go over is = halts_by r q (over refl) is
+  stops_by t env m q false r go over is = go refl
+
+  pub lowers_says : (a : Shape) (rest : Option Tree) (env : List ℕ) (m : State) (r : Acts) → (nat_lt (worth env a) 2139095040 ≡ false → Says rest env m r)
+      → (nat_lt (worth env a) 2139095040 ≡ true → r ≡ Err stack_full) → Says (before (Lowers a) rest) env m r
+  lowers_says a None env m r go over = tt
+  lowers_says a (Some t) env m r go over = λ is. stops_by t env m stack_full (nat_lt (worth env a) 2139095040) r (λ e. go e is) over is
+
+  pub divides_says : (a : Shape) (rest : Option Tree) (env : List ℕ) (m : State) (r : Acts) → ((worth env a == 0) ≡ false → Says rest env m r)
+      → ((worth env a == 0) ≡ true → r ≡ Err Trapped) → Says (before (Divides a) rest) env m r
+  divides_says a None env m r go over = tt
+  divides_says a (Some t) env m r go over = λ is. stops_by t env m Trapped (worth env a == 0) r (λ e. go e is) over is
+
+  pub gets_says : (rest : Option Tree) (env : List ℕ) (m : State) (r : Acts)
+      → Says rest (env ++ next_byte m.input ∷ []) (record m { input = bytes_behind m.input }) r → Says (before Gets rest) env m r
+  gets_says None env m r go = tt
+  gets_says (Some t) env m r go = λ is. go is
+
+  pub puts_says : (b : Shape) (rest : Option Tree) (env : List ℕ) (m : State) (r : Acts) → (act x0 ≡ r → Does items x rest env m (said ++ worth env b ∷ []))
+      → Says (before (Puts b) rest) env m r
+  puts_says b None env m r go = tt
+  puts_says b (Some t) env m r go = λ is. go is
