@@ -1,6 +1,5 @@
 -- One instruction of a piece, by the run on terms.
-use Rattle.std.proofs.Common.{◌≡◌, ℕ, suc, ◌-◌, ◌<◌, Bool, true, false, cond, List, ◌++◌, map, Option, Some, sym, ap, ◌∙◌, arith}
-use Rattle.std.proofs.lemmas.List.{map-append}
+use Rattle.std.proofs.Common.{◌≡◌, ℕ, suc, ◌-◌, ◌<◌, Bool, true, false, cond, List, map, Option, Some, ap, ◌∙◌, arith}
 use Rattle.std.specs.Prelude.{slice_get, ◌&&◌}
 use Rattle.vax_core.specs.declared.code.AreaItem.{AreaItem}
 use Rattle.vax_core.specs.declared.code.CodeItem.{CodeItem}
@@ -10,14 +9,13 @@ use Rattle.vax_pairs.specs.Events.{Event}
 use Rattle.vax_pairs.specs.TermStates.{TermState}
 use Rattle.vax_pairs.specs.Trees.{Tree, Asks, Arrives}
 use Rattle.vax_pairs.specs.TermRuns.{asked, item_tree, run_tree}
-use Rattle.vax_pairs_walk.specs.declared.operands.Event as held
 use Rattle.vax_pairs_walk.specs.declared.tree.Stop as held_stop
 use Rattle.vax_pairs_walk.specs.declared.tree.Straight as held_straight
-use Rattle.vax_pairs_walk.specs.Computing.{Done}
-use Rattle.vax_pairs_walk.specs.Stepping.{Stop, Step, On, Halt, stepped_from}
+use Rattle.vax_pairs_walk.specs.Taking.{Front}
+use Rattle.vax_pairs_walk.specs.Stepping.{Step, stepped_from}
 use Rattle.vax_pairs_walk.specs.Views.{state_of, event_of}
 use Rattle.vax_pairs_walk.specs.Pieces.{emits, emitted, stop_of, stopped, after, goes_on}
-use Rattle.vax_pairs_walk.proofs.Continuing.{emitted_behind, emitted_some, item_is}
+use Rattle.vax_pairs_walk.proofs.Continuing.{emitted_some, item_is}
 
 module _ (items : List CodeItem) (layout : List AreaItem) (is_cut : ℕ → Bool) where
   abbrev Run : ℕ → Bool → ℕ → ℕ → TermState → Option Tree
@@ -36,48 +34,25 @@ module _ (items : List CodeItem) (layout : List AreaItem) (is_cut : ℕ → Bool
   run_by fuel left moved place n s b lt e c =
       ap (λ (k : ℕ). Run k moved place n s) (one_less fuel left lt e) ∙ ap (λ (x : Bool). Either x left moved place n s) c
 
-  -- at a cut
-  pub run_cut : (fuel left : ℕ) (moved : Bool) (place n : ℕ) (s : TermState) → 0 < fuel → left ≡ fuel - 1 → (moved && is_cut place) ≡ true
-      → Run fuel moved place n s ≡ Some (Arrives moved place s)
-  run_cut fuel left moved place n s lt e c = run_by fuel left moved place n s true lt e c
+  module _ (whole : Option Tree) (fuel left : ℕ) (moved : Bool) (place : ℕ) (x : Front) (front : whole ≡ emitted x.events (Run fuel moved place x.known x.state))
+      (some : 0 < fuel) (less : left ≡ fuel - 1) where
+    -- at a cut
+    pub front_cut : (moved && is_cut place) ≡ true → whole ≡ emitted x.events (Some (Arrives moved place x.state))
+    front_cut c = front ∙ ap (emitted x.events) (run_by fuel left moved place x.known x.state true some less c)
 
-  -- past an instruction
-  pub run_after : (fuel left : ℕ) (moved : Bool) (place n : ℕ) (s : TermState) (x : Step) → 0 < fuel → left ≡ fuel - 1 → (moved && is_cut place) ≡ false
-      → stepped_from items layout place n s ≡ Some x → Run fuel moved place n s ≡ after items layout is_cut left n (Some x)
-  run_after fuel left moved place n s x lt e c is =
-      run_by fuel left moved place n s false lt e c
-      ∙ item_is items layout is_cut left (slice_get items (next_item items place)) (next_item items place) n s
-      ∙ ap (after items layout is_cut left n) is
-
-  -- ---- the events so far in front of the tree from here on
-
-  -- at a cut
-  pub front_cut : (whole : Option Tree) (es : List Event) (fuel left : ℕ) (moved : Bool) (place n : ℕ) (s : TermState) → whole ≡ emitted es (Run fuel moved place n s)
-      → 0 < fuel → left ≡ fuel - 1 → (moved && is_cut place) ≡ true → whole ≡ emitted es (Some (Arrives moved place s))
-  front_cut whole es fuel left moved place n s front lt e c = front ∙ ap (emitted es) (run_cut fuel left moved place n s lt e c)
-
-  -- where the piece stops
-  pub front_halt : (whole : Option Tree) (es : List Event) (fuel left : ℕ) (moved : Bool) (place n : ℕ) (s : TermState) (stop : Stop) (t : TermState)
-      → whole ≡ emitted es (Run fuel moved place n s) → 0 < fuel → left ≡ fuel - 1 → (moved && is_cut place) ≡ false
-      → stepped_from items layout place n s ≡ Some (Halt stop t) → whole ≡ emitted es (stopped items layout is_cut left stop n t)
-  front_halt whole es fuel left moved place n s stop t front lt e c is =
-      front ∙ ap (emitted es) (run_after fuel left moved place n s (Halt stop t) lt e c is)
-
-  -- where it goes on
-  pub front_on : (whole : Option Tree) (es fs : List Event) (fuel left : ℕ) (moved : Bool) (place n : ℕ) (s : TermState) (d : Done) (next : ℕ)
-      → whole ≡ emitted es (Run fuel moved place n s) → 0 < fuel → left ≡ fuel - 1 → (moved && is_cut place) ≡ false
-      → stepped_from items layout place n s ≡ Some (On d next) → fs ≡ es ++ d.events → whole ≡ emitted fs (Run left true next d.known d.state)
-  front_on whole es fs fuel left moved place n s d next front lt e c is more =
-      front ∙ ap (emitted es) (run_after fuel left moved place n s (On d next) lt e c is)
-      ∙ sym (emitted_behind es d.events (Run left true next d.known d.state))
-      ∙ ap (λ (xs : List Event). emitted xs (Run left true next d.known d.state)) (sym more)
+    -- past an instruction
+    pub front_after : (moved && is_cut place) ≡ false → (y : Step × Front) → stepped_from items layout place x ≡ Some y → whole ≡ after items layout is_cut left (Some y)
+    front_after c y is =
+        front ∙ ap (emitted x.events) (run_by fuel left moved place x.known x.state false some less c)
+        ∙ item_is items layout is_cut left (slice_get items (next_item items place)) (next_item items place) x
+        ∙ ap (after items layout is_cut left) is
 
 -- where a piece stops
 pub stops_so : (items : List CodeItem) (layout : List AreaItem) (is_cut : ℕ → Bool) (whole : Option Tree) (r : held_straight.Straight) (stop : held_stop.Stop)
     → whole ≡ goes_on items layout is_cut r → r.stop ≡ stop
-    → whole ≡ emitted (map event_of r.events.items) (stopped items layout is_cut r.left (stop_of stop) r.known (state_of r.state))
+    → whole ≡ emitted (map event_of r.front.events.items) (stopped items layout is_cut r.left (stop_of stop) r.front.known (state_of r.front.state))
 stops_so items layout is_cut whole r stop front e =
-    front ∙ ap (λ (x : held_stop.Stop). emitted (map event_of r.events.items) (stopped items layout is_cut r.left (stop_of x) r.known (state_of r.state))) e
+    front ∙ ap (λ (x : held_stop.Stop). emitted (map event_of r.front.events.items) (stopped items layout is_cut r.left (stop_of x) r.front.known (state_of r.front.state))) e
 
 -- a question whose both ways have a tree
 pub asked_by : (whole : Option Tree) (es : List Event) (t : Test) (s : TermState) (a b : Option Tree) (x y : Tree) → whole ≡ emitted es (asked t s a b)
@@ -88,7 +63,3 @@ asked_by whole es t s a b x y front e f =
 -- where a piece ends
 pub ended_by : (whole : Option Tree) (es : List Event) (x : Tree) → whole ≡ emitted es (Some x) → whole ≡ Some (emits es x)
 ended_by whole es x front = front ∙ emitted_some es x
-
--- events behind others, as plain data
-pub events_behind : (es fs gs : List held.Event) → gs ≡ es ++ fs → map event_of gs ≡ map event_of es ++ map event_of fs
-events_behind es fs gs e = ap (map event_of) e ∙ map-append event_of es fs

@@ -10,3 +10,8 @@ Gives view (Err e) wanted = Unit {0}
 -- a number as it is
 abbrev pub itself : ℕ → ℕ
 itself n = n
+
+-- it is what is wanted, and so is the front behind it, or nothing is said
+abbrev pub Leads : {X Y Z : Type 0} → (X → Y) → Result X Gap → Z → Option (Y × Z) → Type 0
+Leads view (Ok x) behind wanted = wanted ≡ Some (view x, behind)
+Leads view (Err e) behind wanted = Unit {0}

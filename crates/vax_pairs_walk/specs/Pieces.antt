@@ -9,7 +9,7 @@ use Rattle.vax_pairs.specs.TermOperands.{before}
 use Rattle.vax_pairs.specs.TermRuns.{asked, run_tree}
 use Rattle.vax_pairs_walk.specs.Stepping as stepping
 use Rattle.vax_pairs_walk.specs.Views.{state_of, event_of}
-use Rattle.vax_pairs_walk.specs.Outcomes.{done_of}
+use Rattle.vax_pairs_walk.specs.Taking.{Front}
 use Rattle.vax_pairs_walk.specs.declared.tree.Stop.{Stop}
 use Rattle.vax_pairs_walk.specs.declared.tree.Stop.TheVariants as stops
 use Rattle.vax_pairs_walk.specs.declared.tree.Step.{Step}
@@ -25,8 +25,8 @@ stop_of (stops.Calls count name behind) = stepping.Calls count name behind
 stop_of (stops.Returns behind) = stepping.Returns behind
 
 abbrev pub step_of : Step → stepping.Step
-step_of (steps.On done place) = stepping.On (done_of done) place
-step_of (steps.Halt stop s) = stepping.Halt (stop_of stop) (state_of s)
+step_of (steps.On place) = stepping.On place
+step_of (steps.Halt stop) = stepping.Halt (stop_of stop)
 
 -- events in front of a tree
 abbrev pub emits : List events.Event → trees.Tree → trees.Tree
@@ -47,15 +47,19 @@ module _ (items : List CodeItem) (layout : List AreaItem) (is_cut : ℕ → Bool
   stopped left (stepping.Calls count name behind) n s = Some (trees.CallsHere count name behind s)
   stopped left (stepping.Returns behind) n s = Some (trees.ReturnsHere behind s)
 
-  -- the tree from an instruction on
-  abbrev pub after : ℕ → ℕ → Option stepping.Step → Option trees.Tree
-  after left n None = None
-  after left n (Some (stepping.On d place)) = emitted d.events (run_tree items layout is_cut left true place d.known d.state)
-  after left n (Some (stepping.Halt stop s)) = stopped left stop n s
+  -- the tree from a step on
+  abbrev pub onwards : ℕ → stepping.Step → ℕ → TermState → Option trees.Tree
+  onwards left (stepping.On place) n s = run_tree items layout is_cut left true place n s
+  onwards left (stepping.Halt stop) n s = stopped left stop n s
+
+  -- the tree from an instruction on, behind the front of the piece
+  abbrev pub after : ℕ → Option (stepping.Step × Front) → Option trees.Tree
+  after left None = None
+  after left (Some y) = emitted y.1.events (onwards left y.0 y.1.known y.1.state)
 
   -- the tree of which this is the front
   abbrev pub goes_on : Straight → Option trees.Tree
-  goes_on r = emitted (map event_of r.events.items) (stopped r.left (stop_of r.stop) r.known (state_of r.state))
+  goes_on r = emitted (map event_of r.front.events.items) (stopped r.left (stop_of r.stop) r.front.known (state_of r.front.state))
 
 abbrev pub tree_of : Tree → trees.Tree
 tree_of (tree.Asks' es t s p a q b) = emits (map event_of es.items) (trees.Asks t (state_of s) (tree_of a) (tree_of b))

@@ -14,6 +14,7 @@ use Rattle.vax_pairs_walk.specs.declared.state.Carry.TheVariants as carries
 use Rattle.vax_pairs_walk.specs.declared.state.State.{State}
 use Rattle.vax_pairs_walk.specs.declared.operands.Event.{Event}
 use Rattle.vax_pairs_walk.specs.declared.operands.Event.TheVariants as event
+use Rattle.vax_pairs_walk.specs.declared.front.Front.{Front}
 use Rattle.vax_pairs_walk.specs.declared.operands.Spot.{Spot}
 use Rattle.vax_pairs_walk.specs.declared.operands.Spot.TheVariants as spot
 use Rattle.vax_pairs_walk.specs.declared.operands.Goal.{Goal}
@@ -38,6 +39,13 @@ state_of s = record { registers = map shape_of s.registers.items; signs = signs_
 abbrev pub event_of : Event → events.Event
 event_of (event.Reads size a) = events.Reads size (held a)
 event_of (event.Stores size a t) = events.Stores size (held a) (held t)
+event_of (event.Lowers t) = events.Lowers (held t)
+event_of (event.Divides t) = events.Divides (held t)
+event_of event.Gets = events.Gets
+event_of (event.Puts t) = events.Puts (held t)
+
+abbrev pub front_of : Front → taking.Front
+front_of x = record { events = map event_of x.events.items; known = x.known; state = state_of x.state }
 
 abbrev pub spot_of : Spot → spots.Spot
 spot_of (spot.Number t) = spots.Number (held t)
@@ -49,13 +57,7 @@ goal_of None = None
 goal_of (Some g) = Some (spot_of g.spot, g.size)
 
 abbrev pub taken_of : Taken → taking.Taken
-taken_of x = record { events = map event_of x.events.items; known = x.known; number = held x.number; goal = goal_of x.goal }
+taken_of x = record { number = held x.number; goal = goal_of x.goal }
 
 abbrev pub arguments_of : Arguments → taking.Arguments
-arguments_of x = record {
-  events = map event_of x.events.items;
-  known = x.known;
-  first = held x.first;
-  second = held x.second;
-  goal = goal_of x.goal;
-}
+arguments_of x = record { first = held x.first; second = held x.second; goal = goal_of x.goal }

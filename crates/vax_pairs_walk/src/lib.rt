@@ -2,10 +2,12 @@
 #![tactic(auto)]
 
 pub mod code;
+pub mod front;
 pub mod gap;
 pub mod heap;
 pub mod operands;
 pub mod results;
+pub mod services;
 pub mod size;
 pub mod state;
 pub mod tree;

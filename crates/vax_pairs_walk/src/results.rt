@@ -2,17 +2,16 @@
 ghost use Rattle.std.specs.Prelude.{◌≡◌, Some, IfOk, OnOk};
 ghost use Rattle.gg_base.specs.declared.size.Size.TheVariants.{Long};
 ghost use Rattle.term_core.specs.Shape.{shape_of, Constant, Binary};
-ghost use Rattle.vax_pairs.specs.TermResults.{extended, of_value, given, carry_behind};
-ghost use Rattle.vax_pairs_walk.specs.Answers.{Gives};
-ghost use Rattle.vax_pairs_walk.specs.Computing.{set_at, put_at, finished, computed};
-ghost use Rattle.vax_pairs_walk.specs.Views.{signs_of, carry_of, state_of, goal_of, arguments_of};
-ghost use Rattle.vax_pairs_walk.specs.Outcomes.{given_of, done_of};
+ghost use Rattle.vax_pairs.specs.TermResults.{extended, of_value, given, carry_behind, coded_behind};
+ghost use Rattle.vax_pairs_walk.specs.Computing.{put_at, guarded_in, finished, computed, push_number, pushed};
+ghost use Rattle.vax_pairs_walk.specs.Views.{signs_of, carry_of, state_of, front_of, goal_of, arguments_of};
+ghost use Rattle.vax_pairs_walk.specs.Outcomes.{given_of};
 
 use crate::code::Walk;
+use crate::front::Front;
 use crate::gap::Gap;
 use crate::heap::{applied, boxed, copied, joined};
-use crate::operands::{Arguments, Event, Goal, Spot, truncated};
-use crate::size::{TERM_LIMIT, room_behind};
+use crate::operands::{Arguments, Event, Goal, Spot, register_with, truncated};
 use crate::state::{Carry, Signs, State};
 use gg_base::{NoMemory, Size};
 use std::alloc::Global;
@@ -27,14 +26,6 @@ pub struct Outcome {
     pub signs: Signs,
 }
 
-/// What an instruction that computes does: its events, and the state behind it; so many symbols are known there.
-#[derive(Drop)]
-pub struct Done {
-    pub events: Vec<Event>,
-    pub known: u8,
-    pub state: State,
-}
-
 fn extended(alloc: Global, size: Size, t: Box<Term>) -> Result<Box<Term>, NoMemory>
     ensures { IfOk result (λ r. shape_of r.value ≡ extended size (shape_of t.value)) }
 {
@@ -46,8 +37,8 @@ fn extended(alloc: Global, size: Size, t: Box<Term>) -> Result<Box<Term>, NoMemo
 }
 
 // A number whose own sign and zero are N and Z.
-fn of_value(alloc: Global, size: Size, number: Box<Term>) -> Result<Outcome, Gap>
-    ensures { Gives given_of result (of_value size (shape_of number.value)) }
+fn of_value(alloc: Global, size: Size, number: Box<Term>) -> Result<Outcome, NoMemory>
+    ensures { IfOk result (λ g. given_of g ≡ of_value size (shape_of number.value)) }
 {
     let tested = copied(alloc, &number)?;
     Ok(Outcome {
@@ -57,8 +48,8 @@ fn of_value(alloc: Global, size: Size, number: Box<Term>) -> Result<Outcome, Gap
 }
 
 // What an operator on two numbers gives.
-fn of_two(alloc: Global, op: BinaryOp, a: &Term, b: &Term) -> Result<Outcome, Gap>
-    ensures { Gives given_of result (of_value Long (Binary op (shape_of a.now) (shape_of b.now))) }
+fn of_two(alloc: Global, op: BinaryOp, a: &Term, b: &Term) -> Result<Outcome, NoMemory>
+    ensures { IfOk result (λ g. given_of g ≡ of_value Long (Binary op (shape_of a.now) (shape_of b.now))) }
 {
     let a = copied(alloc, a)?;
     let b = copied(alloc, b)?;
@@ -66,18 +57,18 @@ fn of_two(alloc: Global, op: BinaryOp, a: &Term, b: &Term) -> Result<Outcome, Ga
 }
 
 // What a comparison gives, which has no number.
-fn compared(alloc: Global, signs: Signs) -> Result<Outcome, Gap>
-    ensures { Gives given_of result (Some (Constant 0, signs_of signs)) }
+fn compared(alloc: Global, signs: Signs) -> Result<Outcome, NoMemory>
+    ensures { IfOk result (λ g. given_of g ≡ (Constant 0, signs_of signs)) }
 {
     match boxed(alloc, Term::K(0)) {
         Ok(number) => Ok(Outcome { number, signs }),
-        Err(NoMemory) => Err(Gap::NoMemory),
+        Err(NoMemory) => Err(NoMemory),
     }
 }
 
-// What a function gives of two operands; a quotient gives nothing here.
-fn given(alloc: Global, function: Function, a: &Term, b: &Term) -> Result<Outcome, Gap>
-    ensures { Gives given_of result (given function (shape_of a.now) (shape_of b.now)) }
+// What a function gives of two operands.
+fn given(alloc: Global, function: Function, a: &Term, b: &Term) -> Result<Outcome, NoMemory>
+    ensures { IfOk result (λ g. given_of g ≡ given function (shape_of a.now) (shape_of b.now)) }
 {
     match function {
         Function::Copy(size) => of_value(alloc, size, copied(alloc, a)?),
@@ -101,7 +92,7 @@ fn given(alloc: Global, function: Function, a: &Term, b: &Term) -> Result<Outcom
         Function::Add => of_two(alloc, BinaryOp::Add, a, b),
         Function::Subtract => of_two(alloc, BinaryOp::Sub, b, a),
         Function::Multiply => of_two(alloc, BinaryOp::Mul, a, b),
-        Function::Divide => Err(Gap::NoTree),
+        Function::Divide => of_two(alloc, BinaryOp::Div, b, a),
         Function::Increment => of_two(alloc, BinaryOp::Add, a, &Term::K(1)),
         Function::Decrement => of_two(alloc, BinaryOp::Sub, a, &Term::K(1)),
         Function::BitSet => of_two(alloc, BinaryOp::Or, a, b),
@@ -152,23 +143,32 @@ impl State {
         Ok(())
     }
 
-    // A register holds this; None where the term is too large, or the register is ap, fp or sp.
-    fn set_register(&mut self, r: Reg, t: Box<Term>) -> Result<(), Gap>
-        ensures { OnOk result (Some (state_of self.new) ≡ set_at (state_of self.old) r (shape_of t.value)) }
+    // N, Z and C behind a function of these operands.
+    fn set_codes(
+        &mut self,
+        alloc: Global,
+        function: Function,
+        a: &Term,
+        b: &Term,
+        signs: Signs,
+    ) -> Result<(), NoMemory>
+        ensures { OnOk result (state_of self.new
+            ≡ coded_behind (state_of self.old) function (shape_of a.now) (shape_of b.now) (signs_of signs)) }
     {
-        let n = r.number();
-        if n >= 12 || n >= self.registers.len() || room_behind(&t, TERM_LIMIT).is_none() {
-            return Err(Gap::NoTree);
+        match self.set_carry(alloc, function, a, b) {
+            Ok(()) => {
+                self.signs = signs;
+                Ok(())
+            }
+            Err(NoMemory) => Err(NoMemory),
         }
-        self.registers[n] = Box::into_inner(t);
-        Ok(())
     }
 }
 
-impl Done {
+impl Front {
     // The number at a destination.
-    fn put(&mut self, goal: Option<Goal>, t: Box<Term>) -> Result<(), Gap>
-        ensures { OnOk result (Some (done_of self.new) ≡ put_at (done_of self.old) (goal_of goal) (shape_of t.value)) }
+    fn put(&mut self, alloc: Global, goal: Option<Goal>, t: Box<Term>) -> Result<(), Gap>
+        ensures { OnOk result (Some (front_of self.new) ≡ put_at (front_of self.old) (goal_of goal) (shape_of t.value)) }
     {
         let Some(Goal { spot, size }) = goal else {
             return Ok(());
@@ -176,7 +176,7 @@ impl Done {
         match spot {
             Spot::Number(_) => Err(Gap::NoTree),
             Spot::Register(r) => match size {
-                Size::Long => self.state.set_register(r, t),
+                Size::Long => self.set_register(alloc, r, t),
                 Size::Byte | Size::Word => Err(Gap::NoTree),
             },
             Spot::Place(a) => {
@@ -185,46 +185,81 @@ impl Done {
             }
         }
     }
-}
 
-// What an instruction does whose operands are evaluated.
-fn finished(alloc: Global, state: State, function: Function, x: Arguments) -> Result<Done, Gap>
-    ensures { Gives done_of result (finished (state_of state) function (arguments_of x)) }
-{
-    let Arguments {
-        events,
-        known,
-        first,
-        second,
-        goal,
-    } = x;
-    let Outcome { number, signs } = given(alloc, function, &first, &second)?;
-    let mut state = state;
-    state.set_carry(alloc, function, &first, &second)?;
-    state.signs = signs;
-    let mut done = Done {
-        events,
-        known,
-        state,
-    };
-    done.put(goal, number)?;
-    Ok(done)
+    // A divisor may be zero.
+    fn guard(&mut self, alloc: Global, function: Function, a: &Term) -> Result<(), Gap>
+        ensures { OnOk result (front_of self.new ≡ guarded_in (front_of self.old) function (shape_of a.now)) }
+    {
+        match function {
+            Function::Divide => {
+                let a = copied(alloc, a)?;
+                self.events.push(Event::Divides(a))?;
+                Ok(())
+            }
+            _ => Ok(()),
+        }
+    }
+
+    // What an instruction does whose operands are evaluated.
+    fn finish(&mut self, alloc: Global, function: Function, x: Arguments) -> Result<(), Gap>
+        ensures { OnOk result (Some (front_of self.new) ≡ finished (front_of self.old) function (arguments_of x)) }
+    {
+        let Arguments {
+            first,
+            second,
+            goal,
+        } = x;
+        self.guard(alloc, function, &first)?;
+        let Outcome { number, signs } = given(alloc, function, &first, &second)?;
+        self.state
+            .set_codes(alloc, function, &first, &second, signs)?;
+        self.put(alloc, goal, number)
+    }
+
+    // A longword is pushed, which N and Z are of.
+    fn push(&mut self, alloc: Global, t: Box<Term>) -> Result<(), Gap>
+        ensures { OnOk result (Some (front_of self.new) ≡ push_number (front_of self.old) (shape_of t.value)) }
+    {
+        let sp = register_with(alloc, &self.state, BinaryOp::Sub, Reg::Sp, 4)?;
+        let a = copied(alloc, &sp)?;
+        let tested = copied(alloc, &t)?;
+        self.set_register(alloc, Reg::Sp, sp)?;
+        self.events.push(Event::Stores(Size::Long, a, t))?;
+        self.state.signs = Signs::Tests(Size::Long, tested);
+        Ok(())
+    }
 }
 
 impl<'a> Walk<'a> {
-    /// What an instruction that computes does.
+    /// An instruction that computes.
     pub fn computed(
         self,
-        known: u8,
-        state: State,
+        front: &mut Front,
         function: Function,
         kinds: &[OperandKind],
         operands: &[Operand],
-    ) -> Result<Done, Gap>
-        ensures { Gives done_of result (computed self.entry.layout.now known (state_of state) function kinds.now operands.now) }
+    ) -> Result<(), Gap>
+        ensures { OnOk result (Some (front_of front.new)
+            ≡ computed self.entry.layout.now (front_of front.old) function kinds.now operands.now) }
     {
-        match self.all_evaluated(known, &state, kinds, operands) {
-            Ok(arguments) => finished(self.alloc, state, function, arguments),
+        match self.all_evaluated(front, kinds, operands) {
+            Ok(arguments) => front.finish(self.alloc, function, arguments),
+            Err(gap) => Err(gap),
+        }
+    }
+
+    /// An instruction that pushes.
+    pub fn pushed(
+        self,
+        front: &mut Front,
+        kinds: &[OperandKind],
+        operands: &[Operand],
+    ) -> Result<(), Gap>
+        ensures { OnOk result (Some (front_of front.new)
+            ≡ pushed self.entry.layout.now (front_of front.old) kinds.now operands.now) }
+    {
+        match self.all_evaluated(front, kinds, operands) {
+            Ok(Arguments { first, .. }) => front.push(self.alloc, first),
             Err(gap) => Err(gap),
         }
     }

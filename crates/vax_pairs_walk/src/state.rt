@@ -1,11 +1,12 @@
 // A state on terms: what is known of the registers and of the condition codes.
-ghost use Rattle.std.specs.Prelude.{◌≡◌, map, slice_set, IfOk};
+ghost use Rattle.std.specs.Prelude.{◌≡◌, map, IfOk, OnOk};
 ghost use Rattle.term_core.specs.Shape.{shape_of};
-ghost use Rattle.vax_core.specs.Registers.{reg_number};
-ghost use Rattle.vax_pairs.specs.TermOperands.{in_register};
+ghost use Rattle.vax_pairs.specs.TermOperands.{in_register, holding};
 ghost use Rattle.vax_pairs_walk.specs.Views.{signs_of, carry_of, state_of};
 
+use crate::gap::Gap;
 use crate::heap::{boxed, copied};
+use crate::size::{TERM_LIMIT, room_behind};
 use gg_base::{NoMemory, Size};
 use std::alloc::Global;
 use term_core::{Term, copy};
@@ -99,5 +100,15 @@ impl State {
             Some(t) => copied(alloc, t),
             None => boxed(alloc, Term::K(0)),
         }
+    }
+    /// A register holds this; None where the term is too large.
+    pub fn hold(&mut self, r: usize, t: Box<Term>) -> Result<(), Gap>
+        ensures { OnOk result (state_of self.new ≡ holding (state_of self.old) r (shape_of t.value)) }
+    {
+        if r >= self.registers.len() || room_behind(&t, TERM_LIMIT).is_none() {
+            return Err(Gap::NoTree);
+        }
+        self.registers[r] = Box::into_inner(t);
+        Ok(())
     }
 }

@@ -1,7 +1,7 @@
 // The tree of a piece of code.
 
+use crate::front::Front;
 use crate::operands::Event;
-use crate::results::Done;
 use crate::state::State;
 use gg_base::Name;
 use vax_machine::function::Test;
@@ -19,19 +19,17 @@ pub enum Stop {
     Returns(usize),
 }
 
-/// What an instruction does: it leads on to a place, or the piece stops there in this state.
+/// What an instruction does: it leads on to a place, or the piece stops there.
 #[derive(Drop)]
 pub enum Step {
-    On(Done, usize),
-    Halt(Stop, State),
+    On(usize),
+    Halt(Stop),
 }
 
 /// What a piece of code does before it stops, with so many instructions left of those that were allowed.
 #[derive(Drop)]
 pub struct Straight {
-    pub events: Vec<Event>,
-    pub known: u8,
-    pub state: State,
+    pub front: Front,
     pub left: u32,
     pub stop: Stop,
 }
