@@ -1,5 +1,5 @@
 -- What an instruction that computes or pushes does on terms, and what the services do, without what comes behind it.
-use Rattle.std.specs.Prelude.{ℕ, ◌+◌, List, [], ◌∷◌, ◌++◌, Option, Some, None}
+use Rattle.std.specs.Prelude.{◌+◌, List, [], ◌∷◌, ◌++◌, Option, Some, None}
 use Rattle.gg_base.specs.declared.size.Size.TheVariants.{Byte, Word, Long}
 use Rattle.term_core.specs.declared.operator.UnaryOp.TheVariants.{Zx8}
 use Rattle.term_core.specs.declared.operator.BinaryOp.TheVariants.{Add}

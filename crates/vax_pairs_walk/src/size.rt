@@ -3,7 +3,7 @@
 use term_core::{Form, Term, form_of};
 
 /// The greatest size of a term that a register may hold: so many constants, symbols and operators.
-pub const TERM_LIMIT: u8 = 64;
+pub const TERM_LIMIT: u8 = 250;
 
 /// What is left of the room for so many constants, symbols and operators behind those of a term; None where it has more.
 pub fn room_behind(t: &Term, room: u8) -> Option<u8> {

@@ -21,7 +21,7 @@ returns c =
     let y : Arguments = arguments_of c.args.x in
     let ez : front_of c.guard.new.self ≡ guarded_in (front_of c.args.self.now) f (shape_of c.args.x.first.value) = cc (c.in_ok-guard.ensures, c.deref.ensures) in
     let eg : (held c.in_ok-number.field-0.number, signs_of c.in_ok-number.signs) ≡ given f (shape_of c.args.x.first.value) (shape_of c.args.x.second.value) =
-    cc (c.in_ok-number.ensures, c.in_ok-number.number-is, c.in_ok-number.signs-is, c.deref-2.ensures, c.deref-3.ensures) in
+    cc (c.in_ok-number.ensures, c.in_ok-number.signs-is, c.deref-2.ensures, c.deref-3.ensures) in
     let es : state_of c.set_codes.new.self
     ≡ coded_behind (state_of c.guard.new.self.state) f (shape_of c.args.x.first.value) (shape_of c.args.x.second.value) (signs_of c.in_ok-number.signs) =
     cc (c.in_ok-set_codes.ensures, c.deref-4.ensures, c.deref-5.ensures) in

@@ -1,8 +1,6 @@
 use Rattle.std.proofs.Common.{◌≡◌, List, map, slice_set, ap, ◌∙◌}
 use Rattle.std.proofs.lemmas.List.{map-set}
-use Rattle.term_core.specs.declared.term.Term.{Term}
 use Rattle.term_core.specs.Shape.{Shape, shape_of}
-use Rattle.vax_pairs.specs.TermStates.{TermState}
 use Rattle.vax_pairs_walk.specs.Views.{signs_of, carry_of}
 use Rattle.vax_pairs_walk.proofs.state.State.hold.Goals as goal
 
