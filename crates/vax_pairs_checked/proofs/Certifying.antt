@@ -59,8 +59,8 @@ module _ (Rel : Type 0) (Holds : Rel → Seen → Seen → Type 0) (At : ℕ →
 
     meets : Meets Rel Holds At c.items d.items k m n
     meets =
-        trees_meet Rel Holds At c.items d.items Fine cert.reading.reads cert.reading.writes cert.reading.gets cert.reading.got Ready OthersReady cert.invariant.goes_on cert.others_invariant.goes_on cert.knows.steady
-        cert.others_know.steady
+        trees_meet Rel Holds At c.items d.items Fine cert.reading.reads cert.reading.writes cert.reading.gets cert.reading.got Ready OthersReady
+        cert.invariant.goes_on cert.others_invariant.goes_on cert.knows.steady cert.others_know.steady
         m n ready others k shown.tree shown.others_tree shown.same env m n small
         (record { even = stands.even; items = (cert.knows.home m ready).items_are; others_items = (cert.others_know.home n others).items_are; fine = cert.knows.fine m ready }) [] does others_do
 

@@ -4,7 +4,6 @@ use Rattle.std.proofs.lemmas.Option.{same_Some}
 use Rattle.std.specs.Prelude.{slice_get}
 use Rattle.vax_pairs.specs.vax_core.specs.declared.code.CodeItem.{CodeItem}
 use Rattle.vax_pairs.specs.vax_core.specs.declared.code.CodeItem.TheVariants as item_kind
-use Rattle.vax_pairs.specs.vax_core.specs.declared.code.Instr.{Instr}
 use Rattle.vax_pairs.specs.vax_machine.specs.Labels.{skipped, next_item, label_place}
 use Rattle.vax_pairs.specs.vax_machine.specs.Calls.{entry_mask}
 use Rattle.vax_pairs.specs.Functions.{Functions, has}

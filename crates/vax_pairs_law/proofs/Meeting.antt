@@ -182,7 +182,8 @@ module _ (Rel : Type 0) (Holds : Rel → Seen → Seen → Type 0) (At : ℕ →
     asks_meet true b e A B C D h g f or = f h (subst (λ (c : Bool). Choose c C D) e g)
     asks_meet false b e A B C D h g f or = or h (subst (λ (c : Bool). Choose c C D) e g)
 
-    pub trees_meet : (s t : Tree) → SameTree Rel Holds At cs ds k s t → (env : List ℕ) (m n : State) → AllBelow (2 ^ 32) env → Base m n → (said : List ℕ) → DoesTree cs s env m x said → DoesTree ds t env n y said → M
+    pub trees_meet : (s t : Tree) → SameTree Rel Holds At cs ds k s t → (env : List ℕ) (m n : State) → AllBelow (2 ^ 32) env → Base m n → (said : List ℕ)
+        → DoesTree cs s env m x said → DoesTree ds t env n y said → M
     trees_meet (Emits e s) (Emits f t) h env m n small base said v w =
         emits_meet said (λ more z. DoesTree cs s more z x (wrote e env said)) (λ more z. DoesTree ds t more z y (wrote f env said)) (occurs e env m) (occurs f env n)
         (event_same env small m n base e f h.0) v w

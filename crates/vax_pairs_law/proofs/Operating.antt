@@ -19,7 +19,7 @@ use Rattle.vax_pairs.specs.vax_core.specs.declared.op.OperandKind.{OperandKind}
 use Rattle.vax_pairs.specs.vax_core.specs.declared.code.AreaItem.{AreaItem}
 use Rattle.vax_pairs.specs.gg_base.specs.Arithmetic.{add32, sub32, mul32}
 use Rattle.vax_pairs.specs.gg_base.specs.Sizes.{bytes_of}
-use Rattle.vax_pairs.specs.term_core.specs.declared.operator.BinaryOp.TheVariants.{Add, Sub, Mul}
+use Rattle.vax_pairs.specs.term_core.specs.declared.operator.BinaryOp.TheVariants.{Add, Sub}
 use Rattle.vax_pairs.specs.vax_core.specs.declared.code.CodeItem.{CodeItem}
 use Rattle.vax_pairs.specs.vax_machine.specs.declared.turn.Stop.{Stop}
 use Rattle.vax_pairs.specs.vax_machine.specs.declared.operands.Location.{Location}

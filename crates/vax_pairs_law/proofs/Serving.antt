@@ -1,5 +1,5 @@
 -- The tree of a call of a service says what the machine does.
-use Rattle.std.proofs.Common.{◌≡◌, ℕ, ◌+◌, List, [], ◌∷◌, ◌++◌, length, Option, None, Some, Result, Ok, Err, refl, sym, ap, subst, ◌∙◌, arith}
+use Rattle.std.proofs.Common.{◌≡◌, ℕ, ◌+◌, List, [], ◌∷◌, ◌++◌, length, Option, None, Some, Result, Ok, refl, sym, ap, subst, ◌∙◌, arith}
 use Rattle.std.proofs.Math.Seq.{get_or-append_seam}
 use Rattle.std.proofs.lemmas.List.{length-append}
 use Rattle.std.specs.Prelude.{◌%◌, ◌^◌}
@@ -23,9 +23,9 @@ use Rattle.vax_pairs.specs.Trees.{Tree}
 use Rattle.vax_pairs.specs.Scopes.{Under, Scoped}
 use Rattle.vax_pairs.specs.TermOperands.{in_register, before, holding, set_register}
 use Rattle.vax_pairs.specs.TermRuns.{uncoded, put_tree, get_tree}
-use Rattle.vax_pairs_law.proofs.Telling.{extends_one, worth_more, scoped_more, dressed_more, under_more, Does, reads_says, gets_says, puts_says}
+use Rattle.vax_pairs_law.proofs.Telling.{extends_one, worth_more, scoped_more, dressed_more, Does, reads_says, gets_says, puts_says}
 use Rattle.vax_pairs_law.proofs.Telling.{Says as TreeSays}
-use Rattle.vax_pairs_law.proofs.Operating.{register_is, register_under, read_dressed, holding_scoped, holding_is, held_says}
+use Rattle.vax_pairs_law.proofs.Operating.{register_under, read_dressed, holding_scoped, holding_is, held_says}
 use Rattle.vax_pairs_law.proofs.Computing.{Home}
 
 uncoded_scoped : (n : ℕ) (s : TermState) → Scoped n s → Scoped n (uncoded s)
