@@ -1,0 +1,14 @@
+// How far pieces of code are walked.
+
+/// How many instructions a way through a piece may have, and how many questions the piece.
+#[derive(Clone, Copy)]
+pub struct Limits {
+    pub instructions: u32,
+    pub questions: u32,
+}
+
+/// Enough for the pieces of programs that are written by hand.
+pub const LIMITS: Limits = Limits {
+    instructions: 10_000,
+    questions: 1_000,
+};

@@ -1,0 +1,5 @@
+pub mod Agreeing
+pub mod Answering
+pub mod Facts
+pub mod Emitting
+pub mod Sizes
