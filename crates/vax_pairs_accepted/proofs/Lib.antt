@@ -1,0 +1,4 @@
+pub mod Numbers
+pub mod Showing
+pub mod Alike
+pub mod Accepting
