@@ -7,7 +7,7 @@ pub struct Limits {
     pub questions: u32,
 }
 
-/// Enough for the pieces of programs that are written by hand.
+/// Limits that the pieces of a usual program keep.
 pub const LIMITS: Limits = Limits {
     instructions: 10_000,
     questions: 1_000,

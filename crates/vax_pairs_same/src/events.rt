@@ -25,6 +25,13 @@ fn same_event(alloc: Global, a: &Event, b: &Event) -> Result<(), Doubt>
             agree(alloc, v, w)?;
             Ok(())
         }
+        (Event::Lowers(s), Event::Lowers(t))
+        | (Event::Divides(s), Event::Divides(t))
+        | (Event::Puts(s), Event::Puts(t)) => {
+            agree(alloc, s, t)?;
+            Ok(())
+        }
+        (Event::Gets, Event::Gets) => Ok(()),
         _ => Err(Doubt::NotShown),
     }
 }
