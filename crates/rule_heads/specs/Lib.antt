@@ -1,0 +1,3 @@
+pub mod Laws
+pub use Rattle.md_reader
+pub use Rattle.sel_target
