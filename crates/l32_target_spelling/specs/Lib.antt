@@ -1,0 +1,5 @@
+pub mod Laws
+pub use Rattle.l32_target_meaning
+pub use Rattle.judging_laws
+pub use Rattle.l32_target_meaning.specs.l32_templates as l32_templates
+pub use Rattle.l32_target_meaning.specs.vax_target_meaning as vax_target_meaning
