@@ -1,0 +1,4 @@
+pub mod Taken
+pub mod All
+pub mod Table
+pub mod Performing
