@@ -1,0 +1,4 @@
+pub mod Words
+pub mod Scene
+pub mod Storing
+pub mod Law
