@@ -110,7 +110,8 @@ impl<'a> Pair<'a> {
         s: &State,
         t: &State,
     ) -> Result<(), Doubt>
-        ensures { OnOk result (SameArrival (List known.Fact) AreSo (IsCut (map cut_of self.entry.cuts.now)) self.entry.first.items.now self.entry.second.items.now
+        ensures { OnOk result (SameArrival (List known.Fact) AreSo (IsCut (map cut_of self.entry.cuts.now))
+            self.entry.first.items.now self.entry.second.items.now
             rank moved.0 moved.1 places.0 places.1 (state_of s.now) (state_of t.now)) }
     {
         let cut = self.cut_at(places.0, places.1)?;
@@ -156,8 +157,8 @@ impl<'a> Pair<'a> {
 
     /// Both pieces return with one result.
     pub fn same_return(self, s: &State, t: &State) -> Result<(), Doubt>
-        ensures { OnOk result (SameReturn (List known.Fact) AreSo (IsCut (map cut_of self.entry.cuts.now)) self.entry.first.items.now self.entry.second.items.now
-            (state_of s.now) (state_of t.now)) }
+        ensures { OnOk result (SameReturn (List known.Fact) AreSo (IsCut (map cut_of self.entry.cuts.now))
+            self.entry.first.items.now self.entry.second.items.now (state_of s.now) (state_of t.now)) }
     {
         same_control(self.alloc, s, t)?;
         same_result(self.alloc, s, t)?;
