@@ -1,0 +1,4 @@
+//! Statements of L32's templates that branch and jump do so.
+#![tactic(auto)]
+
+pub mod laws;
