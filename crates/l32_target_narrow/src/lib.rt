@@ -1,0 +1,4 @@
+//! The constants of the effects of L32's templates are longwords.
+#![tactic(auto)]
+
+pub mod laws;
