@@ -1,12 +1,15 @@
 -- The law, field by field.
-use Rattle.std.proofs.Common.{◌≡◌, true, false, Option, Some, None, Ok, List, [], refl, sym, ap, subst, ◌∙◌}
+use Rattle.std.proofs.Common.{◌≡◌, ℕ, true, false, Option, Some, None, Ok, List, [], ◌∷◌, refl, sym, ap, subst, ◌∙◌}
 use Rattle.std.specs.List.{AllByRecursion}
+use Rattle.std.proofs.lemmas.Option.{same_Some}
 use Rattle.gg_base.specs.declared.size.Size.{Size}
+use Rattle.gg_base.specs.declared.size.Size.TheVariants.{Long}
 use Rattle.gg_base.proofs.Facts.{err_ok, ok_same}
 use Rattle.l32_target_rules.specs.vax_target_meaning.specs.tree_core.specs.declared.program.TreeProgram.{TreeProgram}
 use Rattle.l32_target_rules.specs.vax_target_meaning.specs.tree_meaning.specs.State.{Extent}
 use Rattle.l32_target_rules.specs.judging_laws.specs.md_reader_pieces.specs.declared.piece.Line.{Line}
 use Rattle.l32_target_rules.specs.judging_laws.specs.md_reader_pieces.specs.declared.piece.Piece.{Piece}
+use Rattle.l32_target_rules.specs.judging_laws.specs.md_reader_pieces.specs.declared.piece.Piece.TheVariants as piece
 use Rattle.l32_target_rules.specs.judging_laws.specs.md_reader.specs.declared.types.Class.{Class}
 use Rattle.l32_target_rules.specs.judging_laws.specs.md_reader.specs.declared.types.Kind.{Kind}
 use Rattle.l32_target_rules.specs.judging_laws.specs.md_reader.specs.declared.types.Kind.TheVariants as kind
@@ -15,33 +18,36 @@ use Rattle.l32_target_rules.specs.judging_laws.specs.md_reader.specs.declared.ty
 use Rattle.l32_target_rules.specs.judging_laws.specs.md_reader.specs.declared.types.Give.TheVariants as give
 use Rattle.l32_target_rules.specs.judging_laws.specs.md_reader.specs.Patterns.{kind_at}
 use Rattle.l32_target_rules.specs.judging_laws.specs.md_reader.specs.Restrictions.{is_nothing}
-use Rattle.l32_target_rules.specs.judging_laws.specs.term_core.specs.Shape.{Shape}
+use Rattle.l32_target_rules.specs.judging_laws.specs.term_core.specs.Shape.{Shape, Symbol}
 use Rattle.l32_target_rules.specs.judging_laws.specs.sel_terms.specs.Effects as effects
 use Rattle.l32_target_rules.specs.judging_laws.specs.sel_terms.specs.Effects.{ActShape, EffectShape}
 use Rattle.l32_target_rules.specs.judging_laws.specs.sel_target.specs.sel_terms_meaning.specs.Meaning.{terms_of_act}
 use Rattle.l32_target_rules.specs.judging_laws.specs.sel_target.specs.declared.attr.Attr.{Attr}
 use Rattle.l32_target_rules.specs.judging_laws.specs.sel_target.specs.declared.attr.Attr.TheVariants as attr
 use Rattle.l32_target_rules.specs.judging_laws.specs.sel_target.specs.Courses.{comes}
-use Rattle.l32_target_rules.specs.judging_laws.specs.sel_target.specs.Values.{View, value, IsRead}
-use Rattle.l32_target_rules.specs.judging_laws.specs.sel_target.specs.Instances.{lines_of, IsResult, Instance, Ready}
+use Rattle.l32_target_rules.specs.judging_laws.specs.sel_target.specs.Values as target
+use Rattle.l32_target_rules.specs.judging_laws.specs.sel_target.specs.Values.{View, value, IsRead, own_operand}
+use Rattle.l32_target_rules.specs.judging_laws.specs.sel_target.specs.Instances.{hole, Fit, lines_of, IsResult, Instance, Ready}
 use Rattle.l32_target_rules.specs.judging_laws.specs.sel_target.specs.Outcomes.{Keeps}
 use Rattle.l32_target_rules.specs.judging_laws.specs.vax_templates.specs.declared.setting.Own.TheVariants as own
 use Rattle.l32_target_rules.specs.judging_laws.specs.vax_templates.specs.declared.setting.Hole.{Hole}
 use Rattle.l32_target_rules.specs.judging_laws.specs.vax_templates.specs.declared.setting.Setting.{Setting}
-use Rattle.l32_target_rules.specs.judging_laws.specs.vax_templates.specs.Settings.{holes_of, setting_of, own_of}
+use Rattle.l32_target_rules.specs.judging_laws.specs.vax_templates.specs.Settings.{hole_at, holes_of, setting_of, own_of}
+use Rattle.l32_target_rules.specs.judging_laws.specs.vax_templates.specs.HoleTerms.{constant_of}
 use Rattle.l32_target_rules.specs.judging_laws.specs.vax_templates.specs.Standing.{Where, ◌>>=◌}
-use Rattle.l32_target_rules.specs.judging_laws.specs.vax_templates.specs.GiveLines.{address_given, value_given, place_given}
+use Rattle.l32_target_rules.specs.judging_laws.specs.vax_templates.specs.GiveLines.{number_given, address_given, value_given, place_given}
 use Rattle.l32_target_rules.specs.judging_laws.specs.template_judging.specs.Lines.{given_by}
 use Rattle.l32_target_rules.specs.judging_laws.specs.Each.{Each}
 use Rattle.l32_target_rules.specs.judging_laws.proofs.Binds.{chained}
 use Rattle.l32_target_rules.specs.judging_effects.proofs.Founds.{front_safe}
 use Rattle.l32_target_rules.specs.l32_templates.specs.declared.form.Form.{Form}
+use Rattle.l32_target_rules.specs.l32_templates.specs.declared.form.Form.TheVariants as form
 use Rattle.l32_target_rules.specs.l32_templates.specs.l32_core.specs.declared.operand.Operand32.{Operand32}
 use Rattle.l32_target_rules.specs.l32_templates.specs.l32_machine.specs.State.{State}
 use Rattle.l32_target_rules.specs.l32_templates.specs.Instructions.{shape_of_pieces}
 use Rattle.l32_target_rules.specs.l32_templates.specs.Standing.{form_where}
 use Rattle.l32_target_rules.specs.l32_templates.specs.Taking.{sourced}
-use Rattle.l32_target_rules.specs.l32_templates.specs.Filled.{filled, filled_or_spare}
+use Rattle.l32_target_rules.specs.l32_templates.specs.Filled.{attr_at, filled, filled_or_spare}
 use Rattle.l32_target_rules.specs.l32_templates.specs.GiveLines.{shape_given, shape_read, given_shape}
 use Rattle.l32_target_rules.specs.l32_target_meaning.specs.Reading.{named, reads}
 use Rattle.l32_target_rules.specs.l32_target_meaning.specs.L32.{l32}
@@ -49,6 +55,7 @@ use Rattle.l32_target_rules.specs.l32_target_operands.specs.Scenes.{Scene, worth
 use Rattle.l32_target_rules.specs.l32_target_operands.specs.Places.{FormIsShort, Stands}
 use Rattle.l32_target_rules.specs.l32_target_operands.proofs.Forms.{operands_stand}
 use Rattle.l32_target_rules.specs.l32_target_operands.proofs.Short.{shape_short}
+use Rattle.l32_target_rules.specs.l32_target_operands.proofs.Holes.{constant_known}
 use Rattle.l32_target_rules.specs.l32_target_lines.specs.Lines.{MayHold}
 use Rattle.l32_target_rules.specs.l32_target_runs.specs.Runs.{spots_of}
 use Rattle.l32_target_rules.specs.Scene.{scene_of}
@@ -56,6 +63,7 @@ use Rattle.l32_target_rules.proofs.Instances.{instances_are_seen}
 use Rattle.l32_target_rules.proofs.Results.{rule_is, comes_so}
 use Rattle.l32_target_shapes.specs.Laws.{ShapesStand}
 use Rattle.l32_target_shapes.proofs.Standing.{value_so, place_so, address_so}
+use Rattle.l32_target_shapes.proofs.Symbols.{all_own, filled_with, number_spelled, home_stays, alone_form, register_stays, number_of}
 
 shape_is : (o : Option Form) (f : Form) → shape_read o ≡ Ok f → o ≡ Some f
 shape_is None f e = absurd (err_ok _ f e)
@@ -114,6 +122,30 @@ gives_so classes rule e l k a taken gives kind_is act =
     let is = shape_is (shape_of_pieces l.pieces) d.first d.is in
     record { form_of = d.first; is = is; short = subst (Each FormIsShort) is (shape_short l.pieces); given = d.then_so ∙ ap (λ (x : ActShape). Ok x) deed }
 
+-- a hole alone
+alone_given : (s : Setting) (roles : List Hole) (k : Option Kind) (i : ℕ) (ps : List Piece) (f : Form) (a : ActShape) → ps ≡ piece.Hole i ∷ [] → shape_of_pieces ps ≡ Some f
+    → shape_given s roles k f ≡ Ok a → shape_given s roles k (form.Hole i) ≡ Ok a
+alone_given s roles k i ps f a only is e =
+    let same : form.Hole i ≡ f = same_Some (form.Hole i) f (sym (alone_form i) ∙ ap shape_of_pieces (sym only) ∙ is) in
+    ap (shape_given s roles k) same ∙ e
+
+-- a symbol's own place
+home_so : (q : TreeProgram) (classes : List Class) (rule : Rule) (e : EffectShape) (size : Size) (i : ℕ) (l : Line) (hs : List (Attr Operand32)) (h : Attr Operand32) →
+    l32.effect classes rule ≡ Ok e → rule.give ≡ give.Shape l → e.act ≡ effects.PlaceHome size i → Fit l32 classes rule.right hs → hole hs i ≡ Some h
+    → own_operand l32 h ≡ Some (l32.operand q l hs)
+home_so q classes rule e size i l hs h taken gives act fit there =
+    let g = gives_so classes rule e l (kind_at classes rule.left) (effects.PlaceHome size i) taken gives refl act in
+    let stays = home_stays q (setting_of classes rule) (holes_of classes rule.right) hs (all_own q classes rule.right hs fit) (kind_at classes rule.left) g.form_of size i g.given in
+    sym (ap (own_operand l32) (filled_with hs i h there)) ∙ stays ∙ sym (ap (λ (o : Option Form). Some (filled_or_spare q hs o)) g.is)
+
+-- a symbol's register
+register_so : (classes : List Class) (rule : Rule) (e : EffectShape) (i : ℕ) (l : Line) → l32.effect classes rule ≡ Ok e → rule.give ≡ give.Shape l
+    → kind_at classes rule.left ≡ Some kind.Reg → l.pieces ≡ piece.Hole i ∷ [] → e.act ≡ effects.Value (Symbol i)
+register_so classes rule e i l taken gives kind_is only =
+    let g = gives_so classes rule e l (Some kind.Reg) e.act taken gives kind_is refl in
+    register_stays (setting_of classes rule) (holes_of classes rule.right) i e.act
+    (alone_given (setting_of classes rule) (holes_of classes rule.right) (Some kind.Reg) i l.pieces g.form_of e.act only g.is g.given)
+
 module _ (q : TreeProgram) (f : Extent) (fs : List Extent) (classes : List Class) (rule : Rule) (e : EffectShape) (l : Line) (hs : List (Attr Operand32)) (v : View) (m : State)
     (i : Instance l32 true q f fs classes rule e hs v m) (gives : rule.give ≡ give.Shape l) where
   abbrev S : Scene
@@ -139,6 +171,17 @@ module _ (q : TreeProgram) (f : Extent) (fs : List Extent) (classes : List Class
   address_shape t kind_is act =
       let g = gives_so classes rule e l (Some kind.Ea) (effects.Address t) i.taken gives kind_is act in
       ap (λ (o : Option Form). named m (filled_or_spare q hs o)) g.is ∙ addresses S m seen g.form_of g.short t g.given (safe (effects.Address t) act).0
+
+  pub number_shape : (j n : ℕ) (h : Attr Operand32) → kind_at classes rule.left ≡ Some kind.Con → l.pieces ≡ piece.Hole j ∷ [] → hole hs j ≡ Some h
+      → target.worth l32 q Long h m ≡ Some n → (t : Shape) × (e.act ≡ effects.Number t) × (value v t ≡ n)
+  number_shape j n h kind_is only there known =
+      let g = gives_so classes rule e l (Some kind.Con) e.act i.taken gives kind_is refl in
+      let roles = holes_of classes rule.right in
+      let given = alone_given (setting_of classes rule) roles (Some kind.Con) j l.pieces g.form_of e.act only g.is g.given in
+      let d = chained (constant_of (hole_at roles j) j) number_given e.act (number_of (setting_of classes rule) roles j e.act given) in
+      let is_number = constant_known S m (hole_at roles j) j d.first (attr_at hs attr.Nothing j) (seen.means j (λ lost. absurd (let x : false ≡ true = lost in cc))) d.is in
+      let spelled = number_spelled q (setting_of classes rule) roles hs (all_own q classes rule.right hs i.holes_fit) j d.first d.is in
+      (d.first, sym (ok_same (effects.Number d.first) e.act d.then_so), sym is_number.is ∙ spelled q m n (ap (λ a. target.worth l32 q Long a m) (filled_with hs j h there) ∙ known))
 
   no_statement : is_nothing (kind_at classes rule.left) ≡ false
   no_statement = by (kind_at classes rule.left) refl where
@@ -168,4 +211,7 @@ shapes_stand = record {
   value_shape = λ q f fs classes rule e t size l hs v m i gives kind_is act. value_shape q f fs classes rule e l hs v m i gives t size kind_is act;
   place_shape = λ q f fs classes rule e a size l hs v m i gives kind_is act. place_shape q f fs classes rule e l hs v m i gives a size kind_is act;
   address_shape = λ q f fs classes rule e t size l hs v m i gives kind_is act. address_shape q f fs classes rule e l hs v m i gives t kind_is act;
+  home_shape = home_so;
+  register_shape = register_so;
+  number_shape = λ q f fs classes rule e j n l hs h v m i gives kind_is only there known. number_shape q f fs classes rule e l hs v m i gives j n h kind_is only there known;
 }
