@@ -3,9 +3,9 @@
 # token and some patterns more, and on changed ones, from which rules are dropped and to which chain rules, restrictions and classes that
 # turn in a circle are added. Both must say the same: that a description is accepted, and then which rule isn't shown; or that some tree
 # blocks or loops, and then the plain program parses the tree that `ggvax check` tells to that very end. Where `ggdesk` is there, the
-# numbers of tuples must be the same too. The shipped description may take at most 10 times the plain program's processor time, and 64 MiB.
+# numbers of tuples must be the same too. The shipped description may take at most 1.5 times the plain program's processor time, and 64 MiB.
 # Usage: bench/check.sh [SMALL [CHANGED [RULES]]]; so many small (default 500) and so many changed descriptions (default 20: each takes as
-# long as the shipped one). With RULES, a description of so many rules comes last, with some millions of tuples: it may take at most 3 GiB.
+# long as the shipped one). With RULES, a description of so many rules comes last, with some millions of tuples: it may take at most 1 GiB.
 # MD_REFERENCE names the folder of the plain program, a Cargo project with the modules that bench/descriptions_plain.rs names: where it
 # isn't set or isn't there, nothing is compared. BUILT may name a folder with programs that were built before; else they are built here.
 set -eu
@@ -240,9 +240,9 @@ def compare_speed(text):
     least, wanted = min(done.seconds for done in mine), min(done.seconds for done in other)
     peak = max(done.peak for done in mine)
     print(f"the shipped description: {mine[0].told.rstrip()}, {other[0].told.split(chr(10))[0]}")
-    print(f"  {least:.2f} s of processor against {wanted:.2f} s, {least / wanted:.1f} times (at most 10),", end=" ")
+    print(f"  {least:.2f} s of processor against {wanted:.2f} s, {least / wanted:.1f} times (at most 1.5),", end=" ")
     print(f"{peak:.0f} MiB (at most 64)", flush=True)
-    return least > 10 * wanted or peak > 64
+    return least > 1.5 * wanted or peak > 64
 
 
 def check_many(head, rules):
@@ -252,7 +252,7 @@ def check_many(head, rules):
     said = mine.report.split("\n")[0]
     print(f"{many} rules: {said}; {other.told.split(chr(10))[0]}:", end=" ")
     print(f"{mine.seconds:.0f} s of processor against {other.seconds:.0f} s, {mine.peak / 1024:.2f} GiB (at most 3)", flush=True)
-    return mine.status != UNSHOWN or mine.peak > 3 * 1024
+    return mine.status != UNSHOWN or mine.peak > 1024
 
 
 text = open(shipped).read()
