@@ -251,7 +251,7 @@ def check_many(head, rules):
     mine, other = Told([program, "check", "many.gg"]), Told([plain, "check", "many.gg"])
     said = mine.report.split("\n")[0]
     print(f"{many} rules: {said}; {other.told.split(chr(10))[0]}:", end=" ")
-    print(f"{mine.seconds:.0f} s of processor against {other.seconds:.0f} s, {mine.peak / 1024:.2f} GiB (at most 3)", flush=True)
+    print(f"{mine.seconds:.0f} s of processor against {other.seconds:.0f} s, {mine.peak / 1024:.2f} GiB (at most 1)", flush=True)
     return mine.status != UNSHOWN or mine.peak > 1024
 
 
