@@ -1,5 +1,5 @@
 -- Facts that hold of states on terms hold of what they stand for.
-use Rattle.std.proofs.Common.{◌≡◌, ◌⊎◌, ℕ, zero, suc, ◌<◌, Bool, true, List, [], ◌∷◌, map, Option, Some, None, refl, sym, ap, ◌∙◌, subst, ◌+◌}
+use Rattle.std.proofs.Common.{◌≡◌, ◌⊎◌, inl, inr, ℕ, zero, suc, ◌<◌, Bool, true, List, [], ◌∷◌, map, Option, Some, None, refl, sym, ap, ◌∙◌, subst, ◌+◌, arith}
 use Rattle.std.specs.Prelude.{◌^◌, slice_index, slice_get, slice_index_or}
 use Rattle.term_core.specs.Shape.{Shape, Constant}
 use Rattle.vax_core.specs.declared.code.CodeItem.{CodeItem}
@@ -9,14 +9,14 @@ use Rattle.vax_machine.specs.Labels.{next_item, label_place}
 use Rattle.vax_machine_lists.specs.Sound.{AllBelow}
 use Rattle.vax_pairs.specs.Events.{worth}
 use Rattle.vax_pairs.specs.Piecewise.{Enters}
+use Rattle.vax_pairs.specs.Standing.{Seen, Resumed, Later}
 use Rattle.vax_pairs.specs.SameTrees.{Agree, SameArrival, SameCall, SameReturn}
 use Rattle.vax_pairs.specs.TermStates.{TermState, term_at, valued_registers, sight}
 use Rattle.vax_pairs.specs.Facts.{Fact, Equal, First, Second, IsSo, AreSo}
 use Rattle.vax_pairs_checked.specs.Accepted as accepted
 use Rattle.vax_pairs_checked.specs.Accepted.{IsCut}
-use Rattle.vax_pairs_checked.proofs.Facts as known
 use Rattle.vax_pairs_checked.proofs.Facts.{facts_later}
-use Rattle.vax_pairs_same.specs.Parts.{IsEntry, SameControl, HoldsOn, AllHold, AllOutlast, BothEnter}
+use Rattle.vax_pairs_same.specs.Parts.{IsEntry, SameControl, HoldsOn, AllHold, Lasts, AllLast, BothEnter}
 use Rattle.vax_pairs_cuts.specs.Views.{fact_of, cut_of}
 use Rattle.vax_pairs_cuts.specs.declared.cut.Cut.{Cut}
 
@@ -46,9 +46,25 @@ any_codes s t env small (f ∷ fs) h = (one f h.0, any_codes s t env small fs h.
   one (First r v) h = (h.0, index_worth env s.registers r ∙ h.1 env small)
   one (Second r v) h = (h.0, index_worth env t.registers r ∙ h.1 env small)
 
-all_outlast : (fs : List Fact) → AllOutlast fs → known.AllOutlast fs
-all_outlast [] h = tt
-all_outlast (f ∷ fs) h = (h.0, all_outlast fs h.1)
+-- facts that hold behind a call
+module _ (At : ℕ → ℕ → ℕ → List Fact → Type 0) (s t : TermState) (env : List ℕ) (small : AllBelow (2 ^ 32) env) where
+  one_later : (f : Fact) (a b : Seen) → Lasts f s t → Resumed (valued_registers env s) a → Resumed (valued_registers env t) b
+      → slice_index b.registers 0 ≡ slice_index a.registers 0 → IsSo f a b
+  one_later (Equal q r) a b (inl o) g k e = (
+    let z = o.0 in omega (arith, z),
+    (
+      let z = o.1 in omega (arith, z),
+      ap (λ (x : ℕ). slice_index b.registers x) o.0 ∙ e ∙ sym (ap (λ (x : ℕ). slice_index a.registers x) o.1),
+    ),
+  )
+  one_later (First r v) a b (inl o) g k e = absurd o
+  one_later (Second r v) a b (inl o) g k e = absurd o
+  one_later f a b (inr h) g k e = (facts_later At (f ∷ []) (valued_registers env s) (valued_registers env t) cleared cleared (h.0, tt)
+      (any_codes s t env small (f ∷ []) (h.1, tt)) a b g k e).0
+
+  later_is : (fs : List Fact) → AllLast fs s t → Later (List Fact) AreSo At fs (valued_registers env s) (valued_registers env t)
+  later_is [] h a b g k e = tt
+  later_is (f ∷ fs) h a b g k e = (one_later f a b h.0 g k e, later_is fs h.1 a b g k e)
 
 abbrev seen_cut : Option Cut → Option accepted.Cut
 seen_cut None = None
@@ -106,9 +122,9 @@ module _ (At : ℕ → ℕ → ℕ → List Fact → Type 0) (cs ds : List CodeI
   }
 
   pub call_is : (cuts : List accepted.Cut) (name : List ℕ) (p q near : ℕ) (fs : List Fact) (s t : TermState)
-      → BothEnter cuts cs ds (label_place cs name) (label_place ds name) → IsCut cuts near p q fs → SameControl s t → AllOutlast fs → AllHold fs s t
+      → BothEnter cuts cs ds (label_place cs name) (label_place ds name) → IsCut cuts near p q fs → SameControl s t → AllLast fs s t
       → SameCall (List Fact) AreSo (IsCut cuts) cs ds name p q s t
-  call_is cuts name p q near fs s t into at same outlast holds = record {
+  call_is cuts name p q near fs s t into at same last = record {
     long = same.long;
     others_long = same.others_long;
     ap = same.ap;
@@ -118,8 +134,7 @@ module _ (At : ℕ → ℕ → ℕ → List Fact → Type 0) (cs ds : List CodeI
     nearer = near;
     relation = fs;
     at = at;
-    later = λ env small. facts_later (IsCut cuts) fs (valued_registers env s) (valued_registers env t) cleared cleared (all_outlast fs outlast)
-        (any_codes s t env small fs holds);
+    later = λ env small. later_is (IsCut cuts) s t env small fs last;
   }
 
   pub return_is : (s t : TermState) → SameControl s t → Agree (term_at t 0) (term_at s 0) → SameReturn (List Fact) AreSo At cs ds s t

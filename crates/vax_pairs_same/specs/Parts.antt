@@ -1,5 +1,5 @@
 -- What is seen to be the same of two trees, part by part.
-use Rattle.std.specs.Prelude.{◌≡◌, ℕ, ◌+◌, ◌<◌, Bool, true, false, List, [], ◌∷◌, length, Some, slice_get}
+use Rattle.std.specs.Prelude.{◌≡◌, ◌⊎◌, ℕ, ◌+◌, ◌<◌, Bool, true, false, List, [], ◌∷◌, length, Some, slice_get}
 use Rattle.term_core.specs.Shape.{Constant}
 use Rattle.vax_core.specs.declared.code.CodeItem.{CodeItem}
 use Rattle.vax_machine.specs.Labels.{next_item}
@@ -60,10 +60,19 @@ reads_carry t = false
 abbrev pub CarryFor : Test → Carry → Carry → Type 0
 CarryFor t a b = reads_carry t ≡ true → SameCarry a b
 
--- facts that hold behind calls
-abbrev pub AllOutlast : List Fact → Type 0
-AllOutlast [] = Unit {0}
-AllOutlast (f ∷ fs) = Outlasts f × AllOutlast fs
+-- both machines have the same r0
+abbrev pub IsSameResult : Fact → Type 0
+IsSameResult (Equal q r) = (q ≡ 0) × (r ≡ 0)
+IsSameResult (First r v) = ⊥
+IsSameResult (Second r v) = ⊥
+
+-- a fact holds behind a call that is made in two states: r0 is what the call gives, and a fact about registers that are kept holds before
+abbrev pub Lasts : Fact → TermState → TermState → Type 0
+Lasts f s t = IsSameResult f ⊎ (Outlasts f × HoldsOn f s t)
+
+abbrev pub AllLast : List Fact → TermState → TermState → Type 0
+AllLast [] s t = Unit {0}
+AllLast (f ∷ fs) s t = Lasts f s t × AllLast fs s t
 
 -- behind the label at a place, and behind others, an entry mask stands in front of a place
 abbrev pub IsEntry : List CodeItem → (label place mask : ℕ) → Type 0

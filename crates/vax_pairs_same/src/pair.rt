@@ -10,7 +10,7 @@ ghost use Rattle.vax_pairs_same.specs.Parts.{IsEntry, BothEnter};
 ghost use Rattle.vax_pairs_cuts.specs.Views.{fact_of, cut_of};
 
 use crate::doubt::Doubt;
-use crate::states::{all_outlast, facts_hold, same_control, same_result};
+use crate::states::{facts_hold, facts_last, same_control, same_result};
 use std::alloc::Global;
 use vax_core::CodeItem;
 use vax_pairs_cuts::cut::Cut;
@@ -134,7 +134,7 @@ impl<'a> Pair<'a> {
         Ok(())
     }
 
-    /// Both pieces call one function, and come back to a cut whose facts hold and outlast the call.
+    /// Both pieces call one function, and come back to a cut whose facts hold behind the call.
     pub fn same_call(
         self,
         name: &[u8],
@@ -148,10 +148,7 @@ impl<'a> Pair<'a> {
         self.both_enter(name)?;
         let cut = self.cut_at(places.0, places.1)?;
         same_control(self.alloc, s, t)?;
-        if !all_outlast(&cut.facts) {
-            return Err(Doubt::NotShown);
-        }
-        facts_hold(self.alloc, &cut.facts, s, t)?;
+        facts_last(self.alloc, &cut.facts, s, t)?;
         Ok(())
     }
 

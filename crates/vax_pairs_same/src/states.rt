@@ -7,7 +7,7 @@ ghost use Rattle.vax_pairs.specs.SameTrees.{Agree};
 ghost use Rattle.vax_pairs.specs.TermStates.{term_at};
 ghost use Rattle.vax_pairs_walk.specs.Views.{state_of};
 ghost use Rattle.vax_pairs_cuts.specs.Views.{fact_of};
-ghost use Rattle.vax_pairs_same.specs.Parts.{SameControl, HoldsOn, AllHold, AllOutlast};
+ghost use Rattle.vax_pairs_same.specs.Parts.{SameControl, HoldsOn, AllHold, IsSameResult, Lasts, AllLast};
 
 use crate::doubt::Doubt;
 use crate::terms::agree;
@@ -98,7 +98,7 @@ fn is_result(r: Reg) -> bool
     r.number() == 0
 }
 
-// Whether the fact holds behind calls.
+// Whether the fact holds behind calls where it holds in front of them.
 fn outlasts(fact: &Fact) -> bool
     ensures { IsTrue result → Outlasts (fact_of fact.now) }
 {
@@ -110,12 +110,40 @@ fn outlasts(fact: &Fact) -> bool
     }
 }
 
-/// Whether all these facts hold behind calls.
-pub fn all_outlast(facts: &[Fact]) -> bool
-    ensures { IsTrue result → AllOutlast (map fact_of facts.now) }
+// Whether it says that both machines have the same r0.
+fn is_same_result(fact: &Fact) -> bool
+    ensures { IsTrue result → IsSameResult (fact_of fact.now) }
+{
+    match *fact {
+        Fact::Equal { second, first } => is_result(second) && is_result(first),
+        Fact::First(_, _) | Fact::Second(_, _) => false,
+    }
+}
+
+// The fact, of r0 to r11, holds behind a call that is made in the two states.
+fn fact_lasts(alloc: Global, fact: &Fact, s: &State, t: &State) -> Result<(), Doubt>
+    ensures { OnOk result (Lasts (fact_of fact.now) (state_of s.now) (state_of t.now)) }
+{
+    if is_same_result(fact) {
+        return Ok(());
+    }
+    if !outlasts(fact) {
+        return Err(Doubt::NotShown);
+    }
+    fact_holds(alloc, fact, s, t)?;
+    Ok(())
+}
+
+/// All these facts hold behind a call that is made in the two states: r0 is what the call gives.
+pub fn facts_last(alloc: Global, facts: &[Fact], s: &State, t: &State) -> Result<(), Doubt>
+    ensures { OnOk result (AllLast (map fact_of facts.now) (state_of s.now) (state_of t.now)) }
 {
     match facts {
-        [] => true,
-        [fact, facts @ ..] => outlasts(fact) && all_outlast(facts),
+        [] => Ok(()),
+        [fact, facts @ ..] => {
+            fact_lasts(alloc, fact, s, t)?;
+            facts_last(alloc, facts, s, t)?;
+            Ok(())
+        }
     }
 }

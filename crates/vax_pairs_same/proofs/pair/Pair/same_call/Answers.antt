@@ -3,7 +3,7 @@ use Rattle.vax_pairs_cuts.specs.declared.fact.Fact.{Fact}
 use Rattle.vax_pairs_cuts.specs.Views.{fact_of, cut_of}
 use Rattle.vax_pairs_checked.specs.Accepted.{IsCut}
 use Rattle.vax_pairs_walk.specs.Views.{state_of}
-use Rattle.vax_pairs_same.specs.Parts.{AllHold, AllOutlast}
+use Rattle.vax_pairs_same.specs.Parts.{AllLast}
 use Rattle.vax_pairs_same.proofs.Facts.{call_is}
 use Rattle.vax_pairs_same.proofs.pair.Pair.same_call.Goals as goal
 
@@ -16,5 +16,4 @@ returns c =
     call_is (IsCut (map cut_of w.cuts.now)) w.first.items.now w.second.items.now (map cut_of w.cuts.now) c.args.name.now
     c.args.places.0 c.args.places.1 cut.rank (map fact_of cut.facts.items) s t
     c.in_ok-both_enter.ensures c.in_ok-cut.ensures c.in_ok-same_control.ensures
-    (subst (λ (fs : List Fact). AllOutlast (map fact_of fs)) c.deref.ensures.value (c.all_outlast.ensures c.if-not-all_outlast.false))
-    (subst (λ (fs : List Fact). AllHold (map fact_of fs) s t) c.deref-2.ensures.value c.in_ok-facts_hold.ensures)
+    (subst (λ (fs : List Fact). AllLast (map fact_of fs) s t) c.deref.ensures.value c.in_ok-facts_last.ensures)
