@@ -5,13 +5,14 @@ use std::alloc::Global;
 use vax_core::{CodeItem, Instr};
 use vax_machine::function::{Action, action_of};
 use vax_pairs_masks::labels::Labels;
+use vax_pairs_walk::services::{is_getchar, is_putchar};
 
 /// Which labels pieces stop at.
 #[derive(Clone, Copy, Debug, PartialEq, Eq)]
 pub enum Heads {
-    /// Those to which a branch goes back.
+    /// Those to which a branch goes back; pieces go on behind calls of services.
     Loops,
-    /// Those to which any branch goes.
+    /// Those to which any branch goes; pieces stop behind calls of services as well.
     All,
 }
 
@@ -22,6 +23,12 @@ impl Heads {
             Heads::Loops => to <= from,
             Heads::All => true,
         }
+    }
+
+    // Whether pieces stop behind an instruction.
+    fn stops_behind(self, instr: &Instr) -> bool {
+        matches!(action_of(instr.op), Action::Call)
+            && (matches!(self, Heads::All) || !is_service(instr))
     }
 
     // The head that an instruction at a place makes.
@@ -38,6 +45,14 @@ impl Heads {
 // Whether an item is a line that does nothing.
 fn is_line(item: &CodeItem) -> bool {
     matches!(item, CodeItem::Label(_) | CodeItem::Globl(_))
+}
+
+// Whether the function that an instruction calls is a service.
+fn is_service(instr: &Instr) -> bool {
+    match &instr.target {
+        None => false,
+        Some(name) => is_putchar(name.as_slice()) || is_getchar(name.as_slice()),
+    }
 }
 
 // The place to which an instruction branches.
@@ -78,7 +93,7 @@ impl Stops {
         if let Some(to) = heads.head(place, instr, labels) {
             self.mark(to);
         }
-        if matches!(action_of(instr.op), Action::Call) {
+        if heads.stops_behind(instr) {
             self.mark(place.saturating_add(1));
         }
     }
