@@ -46,17 +46,14 @@ any_codes s t env small (f ∷ fs) h = (one f h.0, any_codes s t env small fs h.
   one (First r v) h = (h.0, index_worth env s.registers r ∙ h.1 env small)
   one (Second r v) h = (h.0, index_worth env t.registers r ∙ h.1 env small)
 
+low : {r : ℕ} → r ≡ 0 → r < 12
+low z = omega (arith, z)
+
 -- facts that hold behind a call
 module _ (At : ℕ → ℕ → ℕ → List Fact → Type 0) (s t : TermState) (env : List ℕ) (small : AllBelow (2 ^ 32) env) where
   one_later : (f : Fact) (a b : Seen) → Lasts f s t → Resumed (valued_registers env s) a → Resumed (valued_registers env t) b
       → slice_index b.registers 0 ≡ slice_index a.registers 0 → IsSo f a b
-  one_later (Equal q r) a b (inl o) g k e = (
-    let z = o.0 in omega (arith, z),
-    (
-      let z = o.1 in omega (arith, z),
-      ap (λ (x : ℕ). slice_index b.registers x) o.0 ∙ e ∙ sym (ap (λ (x : ℕ). slice_index a.registers x) o.1),
-    ),
-  )
+  one_later (Equal q r) a b (inl o) g k e = (low o.0, (low o.1, ap (λ (x : ℕ). slice_index b.registers x) o.0 ∙ e ∙ sym (ap (λ (x : ℕ). slice_index a.registers x) o.1)))
   one_later (First r v) a b (inl o) g k e = absurd o
   one_later (Second r v) a b (inl o) g k e = absurd o
   one_later f a b (inr h) g k e = (facts_later At (f ∷ []) (valued_registers env s) (valued_registers env t) cleared cleared (h.0, tt)
