@@ -181,8 +181,12 @@ pub fn search(alloc: Global, heads: Heads, c: &Code, d: &Code) -> Result<Vec<Cut
     let (items, others) = (c.items.as_slice(), d.items.as_slice());
     let labels = Labels::of(alloc, items)?;
     let others_labels = Labels::of(alloc, others)?;
-    let stops = Stops::of(alloc, heads, items, &labels)?;
-    let others_stops = Stops::of(alloc, heads, others, &others_labels)?;
+    let mut stops = Stops::of(alloc, heads, items, &labels)?;
+    let mut others_stops = Stops::of(alloc, heads, others, &others_labels)?;
+    stops.beside(heads, items, &others_stops, others, &others_labels);
+    others_stops.beside(heads, others, &stops, items, &labels);
+    stops.spread(items);
+    others_stops.spread(others);
     let mut finder = Finder {
         alloc,
         first: Walk {
