@@ -25,7 +25,7 @@ use Rattle.l32_target_operands.specs.l32_templates.specs.Filled.{filled}
 use Rattle.l32_target_operands.specs.Scenes.{Scene, worth, Sees}
 use Rattle.l32_target_operands.proofs.Forms.{operands_stand}
 use Rattle.l32_target_lines.specs.Takings.{IsDestination, AreRead, CanAim, IsTaken, is_aimed, aims, aims_once, AreArguments, MayStand, Takes}
-use Rattle.l32_target_lines.proofs.Taken.{registered_term, one_taken, plain_taken}
+use Rattle.l32_target_lines.proofs.Taken.{registered_term, role_so, one_taken, plain_taken}
 
 front_read : (c : Scene) (xs ys : List Shape) → AreRead c (xs ++ ys) → AreRead c xs
 front_read c [] ys h = tt
@@ -92,7 +92,7 @@ module _ (c : Scene) (zero' : Option Shape) (m : State) (h : Sees c zero' m) whe
       let w = chained (form_where c.setting c.roles zero' f) (taken c.setting zero' role) d.first d.is in
       let r = chained (all_evaluated c.setting c.roles zero' ps fs) (put_in_front d.first) x d.then_so in
       let front = front_is d.first r.first x r.then_so in
-      let none = plain_taken c zero' m h role w.first d.first (not_true (is_aimed role) (first_true (not (is_aimed role)) _ p)) w.then_so in
+      let none = plain_taken c.setting zero' role w.first d.first (not_true (is_aimed role) (first_true (not (is_aimed role)) _ p)) w.then_so in
       (front.plainly none).2 ∙ all_plain ps fs r.first (second_true (not (is_aimed role)) _ p) r.is
 
   -- registers are of no wrong size, and no memory
@@ -132,7 +132,7 @@ module _ (c : Scene) (zero' : Option Shape) (m : State) (h : Sees c zero' m) whe
   aim_rest role ps fs t r x w once is all f aim = by (is_aimed role) refl where
     by : (b : Bool) → is_aimed role ≡ b → CanAim c r.target
     by true eq = subst (CanAim c) (sym (all_plain ps fs r (subst (λ (y : Bool). (not y || list_all (λ (q : Part). not (aims q)) ps) ≡ true) eq once) all)) tt
-    by false eq = subst (CanAim c) ((f.plainly (plain_taken c zero' m h role w t eq is)).2) aim
+    by false eq = subst (CanAim c) ((f.plainly (plain_taken c.setting zero' role w t eq is)).2) aim
 
   reads_front : (t : Taken) (r x : Arguments) → Front t r x → AreRead c x.reads → t.target ≡ None → AreRead c t.reads
   reads_front t r x f calm none = front_read c t.reads r.reads (subst (AreRead c) (f.plainly none).3 calm)
@@ -182,8 +182,8 @@ module _ (c : Scene) (zero' : Option Shape) (m : State) (h : Sees c zero' m) whe
       let front = front_is d.first r.first x r.then_so in
       let wrong : (d.first.missized || r.first.missized) ≡ false = sym front.missized ∙ right in
       let stands = operands_stand c zero' m f w.first h may.0.short may.0.may w.is in
-      let one = one_taken c zero' m h role w.first (filled c.program c.holes c.own f) d.first stands w.then_so (first_false d.first.missized r.first.missized wrong)
-      (reads_front d.first r.first x front calm) (aim_front d.first r.first x front aim) in
+      let one = one_taken c zero' m h role w.first (filled c.program c.holes c.own f) d.first stands (role_so c.setting c.roles zero' f w.first w.is) w.then_so
+      (first_false d.first.missized r.first.missized wrong) (reads_front d.first r.first x front calm) (aim_front d.first r.first x front aim) in
       let rest = all_taken n ps fs r.first (second_true (not (is_aimed role) || list_all (λ (q : Part). not (aims q)) ps) (aims_once ps) once) (omega (arith, few)) may.1 r.is
       (second_false d.first.missized r.first.missized wrong) (reads_rest d.first r.first x front calm)
       (aim_rest role ps fs d.first r.first x w.first (first_true (not (is_aimed role) || list_all (λ (q : Part). not (aims q)) ps) (aims_once ps) once) w.then_so r.is front aim) in

@@ -1,4 +1,5 @@
 pub mod Taken
 pub mod All
 pub mod Table
+pub mod Whole
 pub mod Performing

@@ -5,6 +5,7 @@ use Rattle.std.specs.List.{AllByRecursion, list_any, list_all}
 use Rattle.std.proofs.lemmas.Option.{none-some, same_Some}
 use Rattle.gg_base.specs.declared.relation.Rel.{Rel}
 use Rattle.gg_base.specs.declared.size.Size.{Size}
+use Rattle.gg_base.specs.declared.size.Size.TheVariants.{Long}
 use Rattle.gg_base.specs.Relations.{holds}
 use Rattle.gg_base.proofs.Facts.{err_ok, ok_same, first_false, second_false}
 use Rattle.l32_target_operands.specs.vax_target_meaning.specs.tree_core.specs.declared.tree.Att.TheVariants as att
@@ -65,6 +66,7 @@ use Rattle.l32_target_operands.proofs.Tables.{functions_mean}
 use Rattle.l32_target_lines.specs.Takings.{aims, IsDestination, AreRead, CanAim, AreArguments, MayStand, Takes}
 use Rattle.l32_target_lines.specs.Lines.{ZeroHolds, DoesDeed, MayEnd, DoesLine, EndIsRead, NoneIsZero, IsSettled, LinesDo}
 use Rattle.l32_target_lines.proofs.All.{all_plain, all_clean, all_taken}
+use Rattle.l32_target_lines.proofs.Whole.{IsWhole, IsWholeIfLast, MayPut, may_put}
 use Rattle.l32_target_lines.proofs.Table.{goes, label_is, written_once, computes, plain_unless, ret_is, relation_parts, relation_action}
 
 pub in_order_ok : (b : Bool) (u d : Deed) → in_order b u ≡ Ok d → (u.missized ≡ false) × (b ≡ false) × (u ≡ d)
@@ -111,26 +113,26 @@ module _ (c : Scene) (held : Option Shape) (m : State) (h : Sees c held m) (sett
   stored_so a z size v w same is = in_memory m a size v ∙ ap (λ (y : Size). course_of (silent (written m a y v))) (sym same) ∙ ap (λ (n : ℕ). course_of (silent (written m a z n))) is
 
   put_did : (op : Op32) (to : Option Target) (dest : Option Destination) (t : Shape) (v : ℕ) (d : Deed) → put op to t ≡ Ok d → v ≡ worth c t → IsDestination c m to dest
-      → Did d (course_of (finished m dest (Some v)))
-  put_did op None dest t v d e is aim = absurd (err_ok _ d e)
-  put_did op (Some to) None t v d e is aim = absurd aim
-  put_did op (Some ToOwn) (Some (destinations.Register n)) t v d e is aim =
+      → (is_last_result t ≡ true → IsWhole dest) → Did d (course_of (finished m dest (Some v)))
+  put_did op None dest t v d e is aim whole = absurd (err_ok _ d e)
+  put_did op (Some to) None t v d e is aim whole = absurd aim
+  put_did op (Some ToOwn) (Some (destinations.Register n)) t v d e is aim whole =
       subst (λ (y : Deed). Did y (course_of (finished m (Some (destinations.Register n)) (Some v)))) (ok_same (puts t) d e)
       (record {
         is = in_register m n v ∙ ap (λ (k : ℕ). comes (with_reg m n k)) is ∙ ap (λ a. comes (with_reg m (register_in a) (worth c t))) (sym aim.0);
         may = aim.2;
         last_may = tt;
       })
-  put_did op (Some (ToSlot z)) (Some (destinations.Memory a size)) t v d e is aim =
+  put_did op (Some (ToSlot z)) (Some (destinations.Memory a size)) t v d e is aim whole =
       ended (act.StoreHome z 0 t) d (course_of (finished m (Some (destinations.Memory a size)) (Some v))) (inr aim.2)
       (record { address = a; there = inl (aim.2, aim.1); is = stored_so a z size v (worth c t) aim.0 is }) e
-  put_did op (Some (ToHome z i)) (Some (destinations.Memory a size)) t v d e is aim =
+  put_did op (Some (ToHome z i)) (Some (destinations.Memory a size)) t v d e is aim whole =
       ended (act.StoreHome z i t) d (course_of (finished m (Some (destinations.Memory a size)) (Some v))) (inl aim.2)
       (record { address = a; there = inr aim.1; is = stored_so a z size v (worth c t) aim.0 is }) e
-  put_did op (Some (ToMemory z x)) (Some (destinations.Memory a size)) t v d e is aim =
+  put_did op (Some (ToMemory z x)) (Some (destinations.Memory a size)) t v d e is aim whole =
       ended (act.StoreAt z x t) d (course_of (finished m (Some (destinations.Memory a size)) (Some v))) (inl aim.2)
       (record { address = a; there = aim.1; is = stored_so a z size v (worth c t) aim.0 is }) e
-  put_did op (Some ToZero) (Some (destinations.Register n)) t v d e is aim =
+  put_did op (Some ToZero) (Some (destinations.Register n)) t v d e is aim whole =
       let r = cond_ok (is_lw op) (leaves (Returning t)) d NotInstr e in
       subst (λ (y : Deed). Did y (course_of (finished m (Some (destinations.Register n)) (Some v)))) r.1
       (record {
@@ -138,27 +140,27 @@ module _ (c : Scene) (held : Option Shape) (m : State) (h : Sees c held m) (sett
         may = tt;
         last_may = aim.1;
       })
-  put_did op (Some (ToSaved i)) (Some (destinations.Memory a size)) t v d e is aim = by (is_last_result t) refl e where
+  put_did op (Some (ToSaved i)) (Some (destinations.Memory a size)) t v d e is aim whole = by (is_last_result t) refl e where
     by : (b : Bool) → is_last_result t ≡ b → cond b (deeds.ends (act.Save i)) (Err NotInstr) ≡ Ok d → Did d (course_of (finished m (Some (destinations.Memory a size)) (Some v)))
     by false q e = absurd (err_ok _ d e)
     by true q e =
-        ended (act.Save i) d (course_of (finished m (Some (destinations.Memory a size)) (Some v))) (inl aim.2)
-        (size, record { address = a; there = (aim.0, aim.1); is = stored_so a size size v (worth c LastResult) refl (is ∙ ap (worth c) (last_is t q)) }) e
-  put_did op (Some to) (Some x) t v d e is aim = absurd aim
+        ended (act.Save i) d (course_of (finished m (Some (destinations.Memory a size)) (Some v))) (inl aim.1)
+        (record { address = a; there = aim.0; is = stored_so a Long size v (worth c LastResult) (sym (whole q)) (is ∙ ap (worth c) (last_is t q)) }, aim.2) e
+  put_did op (Some to) (Some x) t v d e is aim whole = absurd aim
 
   -- ---- what is computed
 
   computed_did : (op : Op32) (to : Option Target) (g : Given) (o : Option ℕ) (dest : Option Destination) (d : Deed) → computed op to g ≡ Ok d → IsGiven c g o → IsDestination c m to dest
-      → NoneIsZero c d.divisors → Did d (course_of (finished m dest o))
-  computed_did op to (Computes t) o dest d e x aim some = subst (λ y. Did d (course_of (finished m dest y))) (sym x) (put_did op to dest t (worth c t) d e refl aim)
-  computed_did op to (Divides t w) o dest d e x aim some =
+      → IsWholeIfLast g dest → NoneIsZero c d.divisors → Did d (course_of (finished m dest o))
+  computed_did op to (Computes t) o dest d e x aim whole some = subst (λ y. Did d (course_of (finished m dest y))) (sym x) (put_did op to dest t (worth c t) d e refl aim whole)
+  computed_did op to (Divides t w) o dest d e x aim whole some =
       let u = chained (put op to t) (divided w) d e in
       let same = ok_same (record u.first { divisors = w ∷ [] }) d u.then_so in
       let not_zero : worth c w ≡ 0 → ⊥ = (subst (λ (y : Deed). NoneIsZero c y.divisors) (sym same) some).0 in
       subst (λ (y : Deed). Did y (course_of (finished m dest o))) same
-      (subst (λ y. Did u.first (course_of (finished m dest y))) (sym (x.divides not_zero)) (put_did op to dest t (worth c t) u.first u.is refl aim))
-  computed_did op to (Compares a b) o dest d e x aim some = absurd (err_ok _ d e)
-  computed_did op to (Tests t) o dest d e x aim some = absurd (err_ok _ d e)
+      (subst (λ y. Did u.first (course_of (finished m dest y))) (sym (x.divides not_zero)) (put_did op to dest t (worth c t) u.first u.is refl aim whole))
+  computed_did op to (Compares a b) o dest d e x aim whole some = absurd (err_ok _ d e)
+  computed_did op to (Tests t) o dest d e x aim whole some = absurd (err_ok _ d e)
 
   -- ---- what is written can be found
 
@@ -203,17 +205,18 @@ module _ (c : Scene) (held : Option Shape) (m : State) (h : Sees c held m) (sett
       subst (λ n. IsGiven c (given f x.first x.second) (applied f n y.second)) (sym a.first)
       (subst (λ n. IsGiven c (given f x.first x.second) (applied f (worth c x.first) n)) (sym a.second) (functions_mean c f x.first x.second))
 
-  acted_did : (a : Action) (op : Op32) (x : Arguments) (y : Numbers) (d : Deed) → action_of op ≡ a → acted c.setting a op x ≡ Ok d → AreArguments c m x y → NoneIsZero c d.divisors
-      → Did d (alone a y (label_behind op c.holes) m)
-  acted_did (action.Compute f) op x y d is e a some = computed_did op x.target (given f x.first x.second) (applied f y.first y.second) y.destination d e (computes_so f x y a) a.destination some
-  acted_did action.Push op x y d is e a some =
+  acted_did : (a : Action) (op : Op32) (x : Arguments) (y : Numbers) (d : Deed) → action_of op ≡ a → acted c.setting a op x ≡ Ok d → AreArguments c m x y
+      → MayPut a x y.destination → NoneIsZero c d.divisors → Did d (alone a y (label_behind op c.holes) m)
+  acted_did (action.Compute f) op x y d is e a may some =
+      computed_did op x.target (given f x.first x.second) (applied f y.first y.second) y.destination d e (computes_so f x y a) a.destination may some
+  acted_did action.Push op x y d is e a may some =
       statement_did c.setting.is_statement (act.Push x.first) d (course_of (silent (pushed m y.first))) refl e (ap (λ (n : ℕ). course_of (silent (pushed m n))) a.first)
-  acted_did action.Jump op x y d is e a some =
+  acted_did action.Jump op x y d is e a may some =
       statement_did c.setting.is_statement act.Jump d (branching true (label_behind op c.holes) m) refl e (ap (λ l. branching true l m) (label_so op (ap goes is)))
-  acted_did (action.Branch r) op x y d is e a some = absurd (err_ok _ d e)
-  acted_did action.Enter op x y d is e a some = absurd (err_ok _ d e)
-  acted_did action.Call op x y d is e a some = absurd (err_ok _ d e)
-  acted_did action.Return op x y d is e a some = absurd (err_ok _ d e)
+  acted_did (action.Branch r) op x y d is e a may some = absurd (err_ok _ d e)
+  acted_did action.Enter op x y d is e a may some = absurd (err_ok _ d e)
+  acted_did action.Call op x y d is e a may some = absurd (err_ok _ d e)
+  acted_did action.Return op x y d is e a may some = absurd (err_ok _ d e)
 
   -- ---- the operands of a line
 
@@ -247,7 +250,8 @@ module _ (c : Scene) (held : Option Shape) (m : State) (h : Sees c held m) (sett
       (acted_aims (action_of op) op fs x.first u.first (plain_unless op) x.is u.is (subst (λ (y : Deed). EndIsRead c y.last) (sym o.2) ends_read)) in
       subst (Did d) (sym (performed_is op fs x.first t))
       (subst (λ (y : Deed). Did y (alone (action_of op) t.numbers (label_behind op c.holes) m)) o.2
-      (acted_did (action_of op) op x.first t.numbers u.first refl u.is t.so (subst (λ (y : Deed). NoneIsZero c y.divisors) (sym o.2) some)))
+      (acted_did (action_of op) op x.first t.numbers u.first refl u.is t.so
+      (may_put c.setting c.roles held m op fs x.first (map (filled c.program c.holes c.own) (take 3 fs)) t.numbers x.is t.is) (subst (λ (y : Deed). NoneIsZero c y.divisors) (sym o.2) some)))
 
   -- ---- a branch
 

@@ -1,5 +1,5 @@
 -- What an instruction takes of one operand on the machine is what its term says.
-use Rattle.std.proofs.Common.{◌≡◌, ℕ, inl, inr, ◌<◌, ◌⊎◌, Bool, true, false, cond, not, Option, Some, None, Result, Ok, Err, refl, sym, ap, subst, ◌∙◌}
+use Rattle.std.proofs.Common.{◌≡◌, ℕ, inl, inr, ◌<◌, ◌==◌, ◌⊎◌, Bool, true, false, cond, not, Option, Some, None, Result, Ok, Err, List, refl, sym, ap, subst, ◌∙◌}
 use Rattle.gg_base.specs.declared.size.Size.{Size}
 use Rattle.gg_base.specs.declared.size.Size.TheVariants.{Byte, Word, Long}
 use Rattle.gg_base.specs.Sizes.{low}
@@ -9,18 +9,23 @@ use Rattle.l32_target_operands.specs.judging_laws.specs.sel_terms.specs.Same.{sa
 use Rattle.l32_target_operands.specs.judging_laws.specs.sel_target.specs.declared.attr.Attr.TheVariants as attr
 use Rattle.l32_target_operands.specs.judging_laws.specs.sel_target.specs.declared.fault.TemplateKind.{TemplateKind}
 use Rattle.l32_target_operands.specs.judging_laws.specs.sel_target.specs.declared.fault.TemplateKind.TheVariants.{NotInstr}
+use Rattle.l32_target_operands.specs.judging_laws.specs.vax_templates.specs.declared.setting.Hole.{Hole}
+use Rattle.l32_target_operands.specs.judging_laws.specs.vax_templates.specs.declared.setting.Hole.TheVariants as hole_kind
 use Rattle.l32_target_operands.specs.judging_laws.specs.vax_templates.specs.declared.setting.Own.{Own}
 use Rattle.l32_target_operands.specs.judging_laws.specs.vax_templates.specs.declared.setting.Own.TheVariants as own
 use Rattle.l32_target_operands.specs.judging_laws.specs.vax_templates.specs.declared.setting.Opening.{Opening}
 use Rattle.l32_target_operands.specs.judging_laws.specs.vax_templates.specs.declared.setting.Opening.TheVariants as opening
 use Rattle.l32_target_operands.specs.judging_laws.specs.vax_templates.specs.declared.setting.Setting.{Setting}
-use Rattle.l32_target_operands.specs.judging_laws.specs.vax_templates.specs.Standing.{Where, Immediate, Register, OwnRegister, RegisterZero, Value, Place, Local, SavedPlace, Saved, At, ◌>>=◌}
+use Rattle.l32_target_operands.specs.judging_laws.specs.vax_templates.specs.Standing.{Where, Immediate, Register, OwnRegister, RegisterZero, Value, Place, Local, SavedPlace, Saved, At, ◌>>=◌, where_own, where_hole, where_zero, at, displaced, pointed, negated, itself}
 use Rattle.l32_target_operands.specs.judging_laws.specs.sel_target.specs.Values.{IsRead}
-use Rattle.l32_target_operands.specs.judging_laws.specs.vax_templates.specs.HoleTerms.{own_value}
+use Rattle.l32_target_operands.specs.judging_laws.specs.vax_templates.specs.HoleTerms.{own_value, constant_of, absolute_term, register_term}
 use Rattle.l32_target_operands.specs.judging_laws.specs.vax_templates.specs.Targets.{Target, ToOwn, ToSlot, ToHome, ToMemory, ToZero, ToSaved, is_long, memory_target, zero_target}
 use Rattle.l32_target_operands.specs.judging_laws.specs.vax_templates.specs.Taking.{Taken, taken_term, taken_read, taken_missized, sized, last_result, cut_term, fetched, pointer_read, written}
 use Rattle.l32_target_operands.specs.judging_laws.specs.vax_templates.specs.Giving.{truncated}
+use Rattle.l32_target_operands.specs.judging_laws.specs.vax_templates.specs.Settings.{hole_at}
+use Rattle.l32_target_operands.specs.judging_laws.specs.Each.{EachOk}
 use Rattle.l32_target_operands.specs.judging_laws.proofs.Binds.{chained}
+use Rattle.l32_target_operands.specs.judging_laws.proofs.Parts.{if_ok, of_ok}
 use Rattle.l32_target_operands.specs.l32_templates.specs.l32_core.specs.declared.op.Role.{Role}
 use Rattle.l32_target_operands.specs.l32_templates.specs.l32_core.specs.declared.op.Role.TheVariants as roles
 use Rattle.l32_target_operands.specs.l32_templates.specs.l32_core.specs.declared.operand.Operand32.{Operand32}
@@ -31,8 +36,11 @@ use Rattle.l32_target_operands.specs.l32_templates.specs.l32_machine.specs.decla
 use Rattle.l32_target_operands.specs.l32_templates.specs.l32_machine.specs.declared.operands.Evaluated.TheVariants as evaluations
 use Rattle.l32_target_operands.specs.l32_templates.specs.l32_machine.specs.State.{State, reg}
 use Rattle.l32_target_operands.specs.l32_templates.specs.l32_machine.specs.State as state
-use Rattle.l32_target_operands.specs.l32_templates.specs.l32_machine.specs.Operands.{address_of, register_of, as_number}
+use Rattle.l32_target_operands.specs.l32_templates.specs.l32_machine.specs.Operands.{register_of, as_number}
 use Rattle.l32_target_operands.specs.l32_templates.specs.l32_machine.specs.Operands as machine
+use Rattle.l32_target_operands.specs.l32_templates.specs.declared.form.Form.{Form}
+use Rattle.l32_target_operands.specs.l32_templates.specs.declared.form.Form.TheVariants as form
+use Rattle.l32_target_operands.specs.l32_templates.specs.Standing.{where_deferred, form_where}
 use Rattle.l32_target_operands.specs.l32_templates.specs.Taking.{numbered, registered, sourced, addressed, own_register, register_target, statement_store, store_target, taken}
 use Rattle.l32_target_operands.specs.l32_templates.specs.Homes.{home}
 use Rattle.l32_target_operands.specs.l32_templates.specs.Filled.{register_in, operand_in}
@@ -116,6 +124,88 @@ registered_term s z (Register x) t e = (x, ok_same (taken_term x) t e)
 registered_term s z OwnRegister t e = registered_cut (own_value s.own z) t e
 registered_term s z RegisterZero t e = registered_last s.opening z t e
 registered_term s z _ t e = absurd (err_ok _ t e)
+
+module _ (s : Setting) (zero : Option Shape) where
+  registered_is : (w : Where) (t : Taken) → registered s zero w ≡ Ok t → fetched s zero w Long ≡ Ok t
+  registered_is (Register x) t e = e
+  registered_is OwnRegister t e = e
+  registered_is RegisterZero t e = e
+  registered_is _ t e = absurd (err_ok _ t e)
+
+  sourced_is : (w : Where) (size : Size) (t : Taken) → sourced s zero w size ≡ Ok t → fetched s zero w size ≡ Ok t
+  sourced_is (Immediate x) size t e = absurd (err_ok _ t e)
+  sourced_is _ size t e = e
+
+  -- only what is written has a target
+  fetched_plain : (w : Where) (size : Size) (t : Taken) → fetched s zero w size ≡ Ok t → t.target ≡ None
+  unfolding fetched
+  fetched_plain (Immediate x) size t e = ok_plain _ t refl e
+  fetched_plain (Register x) size t e = ok_plain _ t refl e
+  fetched_plain OwnRegister size t e = cut_plain (own_value s.own zero) size t e
+  fetched_plain RegisterZero size t e = last_plain s.opening zero size t e
+  fetched_plain (Value z i) size t e = sized_plain z size _ t refl e
+  fetched_plain (Place z i) size t e = sized_plain z size _ t refl e
+  fetched_plain (Local i) size t e = sized_plain Long size _ t refl e
+  fetched_plain (SavedPlace z i) size t e = sized_plain z size _ t refl e
+  fetched_plain (Saved i) size t e = absurd (err_ok _ t e)
+  fetched_plain (At a p) size t e = ok_plain _ t refl e
+
+  -- what is only read has no target
+  pub plain_taken : (role : Role) (w : Where) (t : Taken) → is_aimed role ≡ false → taken s zero role w ≡ Ok t → t.target ≡ None
+  unfolding taken
+  plain_taken roles.Number w t p e = number_plain w t e
+  plain_taken roles.Words w t p e = absurd (err_ok _ t e)
+  plain_taken roles.Count w t p e = absurd (err_ok _ t e)
+  plain_taken roles.Destination w t p e = absurd cc
+  plain_taken roles.Register w t p e = fetched_plain w Long t (registered_is w t e)
+  plain_taken (roles.Source size) w t p e = fetched_plain w size t (sourced_is w size t e)
+  plain_taken (roles.Store size) w t p e = absurd cc
+  plain_taken roles.Address w t p e = addressed_plain w t e
+
+-- ---- what the hole stands for of an operand that stands at a symbol's own place
+
+abbrev pub IsOfRole : List Hole → Where → Type 0
+IsOfRole hs (Place z i) = hole_at hs i ≡ hole_kind.Place z
+IsOfRole hs (Local i) = hole_at hs i ≡ hole_kind.Local
+IsOfRole hs (Saved i) = hole_at hs i ≡ hole_kind.Saved
+IsOfRole hs w = Unit {0}
+
+module _ (s : Setting) (hs : List Hole) (zero : Option Shape) where
+  hole_role : (r : Hole) (i : ℕ) → hole_at hs i ≡ r → EachOk (IsOfRole hs) (where_hole r i)
+  hole_role (hole_kind.Place z) i is = is
+  hole_role hole_kind.Local i is = is
+  hole_role hole_kind.Saved i is = is
+  hole_role r i is = tt
+
+  own_role : (o : Own) → EachOk (IsOfRole hs) (where_own o)
+  own_role own.Nothing = tt
+  own_role o = tt
+
+  zero_role : (o : Opening) → EachOk (IsOfRole hs) (where_zero o)
+  zero_role opening.Other = tt
+  zero_role o = tt
+
+  deferred_role : (r : Hole) (i : ℕ) → EachOk (IsOfRole hs) (where_deferred r i)
+  deferred_role hole_kind.Local i = tt
+  deferred_role r i = tt
+
+  term_role : (r : Result Shape TemplateKind) (g : Shape → Result Where TemplateKind) → ((t : Shape) → EachOk (IsOfRole hs) (g t)) → EachOk (IsOfRole hs) (r >>= g)
+  term_role (Ok t) g h = h t
+  term_role (Err k) g h = tt
+
+  form_role : (f : Form) → EachOk (IsOfRole hs) (form_where s hs zero f)
+  unfolding form_where
+  form_role form.RegisterZero = zero_role s.opening
+  form_role (form.Hole i) =
+      if_ok (IsOfRole hs) (i == 0) (where_own s.own) (where_hole (hole_at hs i) i) (λ e. own_role s.own) (λ e. hole_role (hole_at hs i) i refl)
+  form_role (form.Immediate n) = term_role (absolute_term hs n) itself (λ t. tt)
+  form_role (form.Negative i) = term_role (constant_of (hole_at hs i) i) negated (λ t. tt)
+  form_role (form.Displacement n i) = term_role (displaced (absolute_term hs n) (register_term s hs zero i)) at (λ t. tt)
+  form_role (form.DisplacementDeferred n i) = term_role (displaced (absolute_term hs n) (register_term s hs zero i)) pointed (λ t. tt)
+  form_role (form.Deferred i) = deferred_role (hole_at hs i) i
+
+  pub role_so : (f : Form) (w : Where) → form_where s hs zero f ≡ Ok w → IsOfRole hs w
+  role_so f w e = of_ok (IsOfRole hs) (form_where s hs zero f) w e (form_role f)
 
 -- a pointer is read with what it points to
 pointer_safe_of : (c : Scene) (a : Shape) (q : Option Shape) → (q ≡ None) ⊎ (q ≡ Some a) → IsRead c.view a → IsReadIfAny c q
@@ -240,25 +330,25 @@ module _ (c : Scene) (zero : Option Shape) (m : State) (h : Sees c zero m) where
   home_named : (o : Operand32) (k : ℕ) → o ≡ home k → (a : ℕ) × (named m o ≡ Some a)
   home_named o k is = (_, ap (named m) is)
 
-  statement_taken : (p : Own) → c.setting.own ≡ p → c.setting.is_statement ≡ true → (w : Where) (o : Operand32) (size : Size) (x : Target × Bool) (t : Taken) → Stands c m o w
+  statement_taken : (p : Own) → c.setting.own ≡ p → c.setting.is_statement ≡ true → (w : Where) (o : Operand32) (size : Size) (x : Target × Bool) (t : Taken) → Stands c m o w → IsOfRole c.roles w
       → statement_store p w size ≡ Ok x → written x ≡ Ok t → t.missized ≡ false → CanAim c t.target → Evaluates c m (roles.Store size) o t
-  statement_taken (own.Slot z) p st OwnRegister o size x t s e wr right aim =
+  statement_taken (own.Slot z) p st OwnRegister o size x t s u e wr right aim =
       let slot : IsOwnSlot c = subst (OwnIs c) p h.own_is in
       let is : operand_in c.program c.own ≡ home slot.word = ap (operand_in c.program) slot.is in
       let there = home_named (operand_in c.program c.own) slot.word is in
       stores size o t (ToSlot size) there.0 (ap (named m) s ∙ there.1) ((written_is x t wr).0 ∙ ap (λ (y : Target × Bool). Some y.0) (sym (ok_same _ x e)))
       (refl, there.1, (z, p))
-  statement_taken p is st (Place z i) o size x t s e wr right aim =
+  statement_taken p is st (Place z i) o size x t s u e wr right aim =
       stores size o t (ToHome size i) s.1.address (ap (named m) s.0 ∙ s.1.named_so) ((written_is x t wr).0 ∙ ap (λ (y : Target × Bool). Some y.0) (sym (ok_same _ x e)))
       (refl, s.1.named_so, st)
-  statement_taken p is st (Local i) o size x t s e wr right aim =
+  statement_taken p is st (Local i) o size x t s u e wr right aim =
       stores size o t (ToHome size i) s.1.address (ap (named m) s.0 ∙ s.1.named_so) ((written_is x t wr).0 ∙ ap (λ (y : Target × Bool). Some y.0) (sym (ok_same _ x e)))
       (refl, s.1.named_so, st)
-  statement_taken p is st (Saved i) o size x t s e wr right aim =
+  statement_taken p is st (Saved i) o size x t s u e wr right aim =
       let there = home_named (operand_in c.program (filling_at c i)) s.1.local s.1.is in
       stores size o t (ToSaved i) there.0 (ap (named m) s.0 ∙ there.1) ((written_is x t wr).0 ∙ ap (λ (y : Target × Bool). Some y.0) (sym (ok_same _ x e)))
-      (there.1, s.1, st)
-  statement_taken p is st (At a q) o size x t s e wr right aim =
+      (there.1, st, u)
+  statement_taken p is st (At a q) o size x t s u e wr right aim =
       let to = (written_is x t wr).0 ∙ ap (λ (y : Target × Bool). Some y.0) (sym (memory_is p a size x e)) in
       let safe : IsRead c.view a = subst (CanAim c) to aim st in
       stores size o t (ToMemory size a) (worth c a) (s.named_so (pointer_safe a q s.pointer safe)) to (refl, refl, st)
@@ -267,17 +357,17 @@ module _ (c : Scene) (zero : Option Shape) (m : State) (h : Sees c zero m) where
       memory_is (own.Slot z) a size x e = absurd (err_ok _ x e)
       memory_is own.Nothing a size x e = ok_same (ToMemory size a, false) x e
       memory_is own.Register a size x e = ok_same (ToMemory size a, false) x e
-  statement_taken p is st w o size x t s e wr right aim = absurd (err_ok _ x e)
+  statement_taken p is st w o size x t s u e wr right aim = absurd (err_ok _ x e)
 
-  store_taken : (w : Where) (o : Operand32) (size : Size) (t : Taken) → Stands c m o w → (store_target c.setting w size >>= written) ≡ Ok t → t.missized ≡ false → CanAim c t.target
-      → Evaluates c m (roles.Store size) o t
-  store_taken w o size t s e right aim =
+  store_taken : (w : Where) (o : Operand32) (size : Size) (t : Taken) → Stands c m o w → IsOfRole c.roles w → (store_target c.setting w size >>= written) ≡ Ok t → t.missized ≡ false
+      → CanAim c t.target → Evaluates c m (roles.Store size) o t
+  store_taken w o size t s u e right aim =
       let d = chained (store_target c.setting w size) written t e in
       by c.setting.is_statement refl d.first d.is d.then_so
     where
       by : (b : Bool) → c.setting.is_statement ≡ b → (x : Target × Bool) → cond b (statement_store c.setting.own w size) (Err NotInstr) ≡ Ok x → written x ≡ Ok t
           → Evaluates c m (roles.Store size) o t
-      by true b x is wr = statement_taken c.setting.own refl b w o size x t s is wr right aim
+      by true b x is wr = statement_taken c.setting.own refl b w o size x t s u is wr right aim
       by false b x is wr = absurd (err_ok _ x is)
 
   -- ---- one operand
@@ -287,16 +377,6 @@ module _ (c : Scene) (zero : Option Shape) (m : State) (h : Sees c zero m) where
   number_taken (Immediate x) o t s e =
       gives_number roles.Number o t (taken_term x) (worth c x) (ap as_number (ap (machine.fetched m Long) s ∙ number_fetched m (worth c x) Long)) refl refl (ok_same (taken_term x) t e)
   number_taken _ o t s e = absurd (err_ok _ t e)
-
-  registered_is : (w : Where) (t : Taken) → registered c.setting zero w ≡ Ok t → fetched c.setting zero w Long ≡ Ok t
-  registered_is (Register x) t e = e
-  registered_is OwnRegister t e = e
-  registered_is RegisterZero t e = e
-  registered_is _ t e = absurd (err_ok _ t e)
-
-  sourced_is : (w : Where) (size : Size) (t : Taken) → sourced c.setting zero w size ≡ Ok t → fetched c.setting zero w size ≡ Ok t
-  sourced_is (Immediate x) size t e = absurd (err_ok _ t e)
-  sourced_is _ size t e = e
 
   register_taken : (o : Operand32) (t : Taken) → Reads o Long t → Evaluates c m roles.Register o t
   unfolding machine.evaluated
@@ -320,42 +400,16 @@ module _ (c : Scene) (zero : Option Shape) (m : State) (h : Sees c zero m) where
       gives_number roles.Address o t (taken_term (Symbol i)) (worth c (Symbol i)) (ap as_number (address_is m o (worth c (Symbol i)) s)) refl refl (ok_same _ t e)
   address_taken _ o t s e calm = absurd (err_ok _ t e)
 
-  -- only what is written has a target
-  fetched_plain : (w : Where) (size : Size) (t : Taken) → fetched c.setting zero w size ≡ Ok t → t.target ≡ None
-  unfolding fetched
-  fetched_plain (Immediate x) size t e = ok_plain _ t refl e
-  fetched_plain (Register x) size t e = ok_plain _ t refl e
-  fetched_plain OwnRegister size t e = cut_plain (own_value c.setting.own zero) size t e
-  fetched_plain RegisterZero size t e = last_plain c.setting.opening zero size t e
-  fetched_plain (Value z i) size t e = sized_plain z size _ t refl e
-  fetched_plain (Place z i) size t e = sized_plain z size _ t refl e
-  fetched_plain (Local i) size t e = sized_plain Long size _ t refl e
-  fetched_plain (SavedPlace z i) size t e = sized_plain z size _ t refl e
-  fetched_plain (Saved i) size t e = absurd (err_ok _ t e)
-  fetched_plain (At a p) size t e = ok_plain _ t refl e
-
-  pub one_taken : (role : Role) (w : Where) (o : Operand32) (t : Taken) → Stands c m o w → taken c.setting zero role w ≡ Ok t → t.missized ≡ false → (t.target ≡ None → AreRead c t.reads)
-      → CanAim c t.target → Evaluates c m role o t
+  pub one_taken : (role : Role) (w : Where) (o : Operand32) (t : Taken) → Stands c m o w → IsOfRole c.roles w → taken c.setting zero role w ≡ Ok t → t.missized ≡ false
+      → (t.target ≡ None → AreRead c t.reads) → CanAim c t.target → Evaluates c m role o t
   unfolding taken
-  one_taken roles.Number w o t s e right calm aim = number_taken w o t s e
-  one_taken roles.Words w o t s e right calm aim = absurd (err_ok _ t e)
-  one_taken roles.Count w o t s e right calm aim = absurd (err_ok _ t e)
-  one_taken roles.Destination w o t s e right calm aim = destination_taken w o t s e
-  one_taken roles.Register w o t s e right calm aim =
-      register_taken o t (read_so w o Long t s (registered_is w t e) right (calm (fetched_plain w Long t (registered_is w t e))))
-  one_taken (roles.Source size) w o t s e right calm aim =
-      source_taken o size t (read_so w o size t s (sourced_is w size t e) right (calm (fetched_plain w size t (sourced_is w size t e))))
-  one_taken (roles.Store size) w o t s e right calm aim = store_taken w o size t s e right aim
-  one_taken roles.Address w o t s e right calm aim = address_taken w o t s e (calm (addressed_plain w t e))
-
-  -- what is only read has no target
-  pub plain_taken : (role : Role) (w : Where) (t : Taken) → is_aimed role ≡ false → taken c.setting zero role w ≡ Ok t → t.target ≡ None
-  unfolding taken
-  plain_taken roles.Number w t p e = number_plain w t e
-  plain_taken roles.Words w t p e = absurd (err_ok _ t e)
-  plain_taken roles.Count w t p e = absurd (err_ok _ t e)
-  plain_taken roles.Destination w t p e = absurd cc
-  plain_taken roles.Register w t p e = fetched_plain w Long t (registered_is w t e)
-  plain_taken (roles.Source size) w t p e = fetched_plain w size t (sourced_is w size t e)
-  plain_taken (roles.Store size) w t p e = absurd cc
-  plain_taken roles.Address w t p e = addressed_plain w t e
+  one_taken roles.Number w o t s u e right calm aim = number_taken w o t s e
+  one_taken roles.Words w o t s u e right calm aim = absurd (err_ok _ t e)
+  one_taken roles.Count w o t s u e right calm aim = absurd (err_ok _ t e)
+  one_taken roles.Destination w o t s u e right calm aim = destination_taken w o t s e
+  one_taken roles.Register w o t s u e right calm aim =
+      register_taken o t (read_so w o Long t s (registered_is c.setting zero w t e) right (calm (fetched_plain c.setting zero w Long t (registered_is c.setting zero w t e))))
+  one_taken (roles.Source size) w o t s u e right calm aim =
+      source_taken o size t (read_so w o size t s (sourced_is c.setting zero w size t e) right (calm (fetched_plain c.setting zero w size t (sourced_is c.setting zero w size t e))))
+  one_taken (roles.Store size) w o t s u e right calm aim = store_taken w o size t s u e right aim
+  one_taken roles.Address w o t s u e right calm aim = address_taken w o t s e (calm (addressed_plain w t e))

@@ -3,6 +3,7 @@ use Rattle.std.specs.Prelude.{◌≡◌, ◌⊎◌, ℕ, true, false, Bool, List
 use Rattle.std.specs.List.{AllByRecursion}
 use Rattle.gg_base.specs.declared.relation.Rel.{Rel}
 use Rattle.gg_base.specs.declared.size.Size.{Size}
+use Rattle.gg_base.specs.declared.size.Size.TheVariants.{Long}
 use Rattle.gg_base.specs.Relations.{holds}
 use Rattle.l32_target_operands.specs.vax_target_meaning.specs.tree_core.specs.declared.tree.Att.TheVariants as att
 use Rattle.l32_target_operands.specs.vax_target_meaning.specs.tree_core.specs.Names.{label_name}
@@ -12,6 +13,7 @@ use Rattle.l32_target_operands.specs.judging_laws.specs.sel_terms.specs.Effects.
 use Rattle.l32_target_operands.specs.judging_laws.specs.sel_target.specs.sel_terms_meaning.specs.Meaning.{terms_of_act}
 use Rattle.l32_target_operands.specs.judging_laws.specs.sel_target.specs.Courses.{Course, Returns, ends, comes}
 use Rattle.l32_target_operands.specs.judging_laws.specs.sel_target.specs.StatementLaws.{att_of}
+use Rattle.l32_target_operands.specs.judging_laws.specs.vax_templates.specs.declared.setting.Hole.TheVariants as hole_kind
 use Rattle.l32_target_operands.specs.judging_laws.specs.vax_templates.specs.declared.setting.Own.TheVariants as own
 use Rattle.l32_target_operands.specs.judging_laws.specs.vax_templates.specs.Deeds.{Last, Returning, Ended, Deed}
 use Rattle.l32_target_operands.specs.l32_templates.specs.l32_core.specs.declared.code.Instr32.{Instr32}
@@ -23,7 +25,7 @@ use Rattle.l32_target_operands.specs.l32_templates.specs.Filled.{register_in, op
 use Rattle.l32_target_operands.specs.l32_templates.specs.FilledLines.{label_among, callee_among, call_of, filled_line}
 use Rattle.l32_target_operands.specs.l32_target_meaning.specs.Reading.{named}
 use Rattle.l32_target_operands.specs.l32_target_meaning.specs.Running.{course_of, branching, performed}
-use Rattle.l32_target_operands.specs.Scenes.{Scene, worth, filling_at, IsSavedLocal, Sees}
+use Rattle.l32_target_operands.specs.Scenes.{Scene, worth, role_at, filling_at, Sees}
 use Rattle.l32_target_lines.specs.Takings.{AreRead}
 
 -- a value that is to be returned is in a0
@@ -53,8 +55,7 @@ DoesDeed c m (Branch i a b) did =
 DoesDeed c m (Push t) did = did ≡ course_of (silent (pushed m (worth c t)))
 DoesDeed c m Call did = did ≡ performed (call_of c.program (callee_among c.holes)) m
 DoesDeed c m (Save i) did =
-    (z : Size) × Puts m z (worth c LastResult) (λ x. (named m (operand_in c.program (filling_at c i)) ≡ Some x)
-    × IsSavedLocal c (filling_at c i)) did
+    Puts m Long (worth c LastResult) (λ x. named m (operand_in c.program (filling_at c i)) ≡ Some x) did × (role_at c i ≡ hole_kind.Saved)
 DoesDeed c m (Return t) did = (did ≡ ends (Returns m)) × (reg m 0 ≡ worth c t)
 DoesDeed c m Jump did = did ≡ branching true (option_map label_name (label_among c.holes)) m
 DoesDeed c m a did = ⊥

@@ -5,6 +5,7 @@ use Rattle.gg_base.specs.declared.size.Size.{Size}
 use Rattle.l32_target_operands.specs.judging_laws.specs.term_core.specs.Shape.{Shape}
 use Rattle.l32_target_operands.specs.judging_laws.specs.sel_target.specs.declared.attr.Attr.TheVariants as attr
 use Rattle.l32_target_operands.specs.judging_laws.specs.sel_target.specs.Values.{IsRead}
+use Rattle.l32_target_operands.specs.judging_laws.specs.vax_templates.specs.declared.setting.Hole.TheVariants as hole_kind
 use Rattle.l32_target_operands.specs.judging_laws.specs.vax_templates.specs.declared.setting.Own.TheVariants as own
 use Rattle.l32_target_operands.specs.judging_laws.specs.vax_templates.specs.Targets.{Target, ToOwn, ToSlot, ToHome, ToMemory, ToZero, ToSaved}
 use Rattle.l32_target_operands.specs.judging_laws.specs.vax_templates.specs.Taking.{Taken, Arguments}
@@ -23,7 +24,7 @@ use Rattle.l32_target_operands.specs.l32_templates.specs.l32_machine.specs.Opera
 use Rattle.l32_target_operands.specs.l32_templates.specs.declared.form.Form.{Form}
 use Rattle.l32_target_operands.specs.l32_templates.specs.Filled.{operand_in, filled}
 use Rattle.l32_target_operands.specs.l32_target_meaning.specs.Reading.{named}
-use Rattle.l32_target_operands.specs.Scenes.{Scene, worth, filling_at, IsSavedLocal}
+use Rattle.l32_target_operands.specs.Scenes.{Scene, worth, role_at, filling_at}
 use Rattle.l32_target_operands.specs.Places.{FormIsShort, MayBeRead}
 
 -- Where a result goes; only a statement writes something else than `%0`.
@@ -36,7 +37,7 @@ IsTarget c m (ToHome z i) (destinations.Memory a size) =
     (z ≡ size) × (named m (operand_in c.program (filling_at c i)) ≡ Some a) × (c.setting.is_statement ≡ true)
 IsTarget c m (ToMemory z x) (destinations.Memory a size) = (z ≡ size) × (a ≡ worth c x) × (c.setting.is_statement ≡ true)
 IsTarget c m (ToSaved i) (destinations.Memory a size) =
-    (named m (operand_in c.program (filling_at c i)) ≡ Some a) × IsSavedLocal c (filling_at c i) × (c.setting.is_statement ≡ true)
+    (named m (operand_in c.program (filling_at c i)) ≡ Some a) × (c.setting.is_statement ≡ true) × (role_at c i ≡ hole_kind.Saved)
 IsTarget c m t d = ⊥
 
 abbrev pub IsDestination : Scene → State → Option Target → Option Destination → Type 0
