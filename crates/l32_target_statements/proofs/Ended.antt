@@ -7,7 +7,7 @@ use Rattle.gg_base.specs.declared.size.Size.{Size}
 use Rattle.l32_target_rules.specs.vax_target_meaning.specs.tree_core.specs.declared.program.TreeProgram.{TreeProgram}
 use Rattle.l32_target_rules.specs.vax_target_meaning.specs.tree_meaning.specs.State.{State as Trees, Extent}
 use Rattle.l32_target_rules.specs.vax_target_meaning.specs.tree_meaning.specs.Steps as steps
-use Rattle.l32_target_rules.specs.vax_target_meaning.specs.tree_meaning.specs.Steps.{Step, deed_step, with_local_set, with_pushed}
+use Rattle.l32_target_rules.specs.vax_target_meaning.specs.tree_meaning.specs.Steps.{Step}
 use Rattle.l32_target_rules.specs.judging_laws.specs.md_reader.specs.declared.types.Class.{Class}
 use Rattle.l32_target_rules.specs.judging_laws.specs.md_reader.specs.declared.types.Give.{Give}
 use Rattle.l32_target_rules.specs.judging_laws.specs.md_reader.specs.declared.types.Give.TheVariants as give

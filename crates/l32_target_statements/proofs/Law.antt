@@ -1,4 +1,4 @@
--- The lines of a statement that stores, pushes or returns do its deed.
+-- The lines of a statement that stores, pushes, saves or returns do its deed.
 use Rattle.std.proofs.Common.{◌≡◌, ℕ, zero, suc, ◌+◌, ◌-◌, ◌*◌, ◌<◌, ◌^◌, inl, inr, false, Option, Some, None, Result, Ok}
 use Rattle.std.proofs.Common.{List, map, length, refl, sym, ap, subst, ◌∙◌, arith}
 use Rattle.std.specs.Prelude.{slice_set}
@@ -7,17 +7,18 @@ use Rattle.gg_base.specs.declared.size.Size.{Size}
 use Rattle.gg_base.specs.declared.size.Size.TheVariants.{Long}
 use Rattle.l32_target_rules.specs.vax_target_meaning.specs.tree_core.specs.declared.program.TreeProgram.{TreeProgram}
 use Rattle.l32_target_rules.specs.vax_target_meaning.specs.tree_core.specs.declared.token.Tok.TheVariants as tok
+use Rattle.l32_target_rules.specs.vax_target_meaning.specs.tree_core.specs.declared.tree.Att.TheVariants as att
 use Rattle.l32_target_rules.specs.vax_target_meaning.specs.tree_core.specs.Area.{stored}
 use Rattle.l32_target_rules.specs.vax_target_meaning.specs.tree_meaning.specs.declared.value.Meaning.{Meaning as Place}
 use Rattle.l32_target_rules.specs.vax_target_meaning.specs.tree_meaning.specs.declared.value.Meaning.TheVariants as places
 use Rattle.l32_target_rules.specs.vax_target_meaning.specs.tree_meaning.specs.State.{State as Trees, Extent}
-use Rattle.l32_target_rules.specs.vax_target_meaning.specs.tree_meaning.specs.Deeds.{Deed, Puts as PutsDeed, Pushes, Returns as Leaves}
+use Rattle.l32_target_rules.specs.vax_target_meaning.specs.tree_meaning.specs.Deeds.{Deed, Puts as PutsDeed, Pushes, Saves, Returns as Leaves}
 use Rattle.l32_target_rules.specs.vax_target_meaning.specs.tree_meaning.specs.Steps as steps
 use Rattle.l32_target_rules.specs.vax_target_meaning.specs.tree_meaning.specs.Steps.{Step, deed_step, with_local_set, with_pushed}
 use Rattle.l32_target_rules.specs.judging_laws.specs.md_reader.specs.declared.types.Class.{Class}
 use Rattle.l32_target_rules.specs.judging_laws.specs.md_reader.specs.declared.types.Rule.{Rule}
-use Rattle.l32_target_rules.specs.judging_laws.specs.term_core.specs.Shape.{Shape}
-use Rattle.l32_target_rules.specs.judging_laws.specs.sel_terms.specs.Effects.{ActShape, EffectShape, StoreHome, StoreAt, Push, Return}
+use Rattle.l32_target_rules.specs.judging_laws.specs.term_core.specs.Shape.{Shape, LastResult}
+use Rattle.l32_target_rules.specs.judging_laws.specs.sel_terms.specs.Effects.{ActShape, EffectShape, StoreHome, StoreAt, Push, Save, Return}
 use Rattle.l32_target_rules.specs.judging_laws.specs.sel_target.specs.declared.attr.Attr.{Attr}
 use Rattle.l32_target_rules.specs.judging_laws.specs.sel_target.specs.declared.attr.Attr.TheVariants as attr
 use Rattle.l32_target_rules.specs.judging_laws.specs.sel_target.specs.Courses.{Course}
@@ -25,7 +26,7 @@ use Rattle.l32_target_rules.specs.judging_laws.specs.sel_target.specs.Meaning.{S
 use Rattle.l32_target_rules.specs.judging_laws.specs.sel_target.specs.Values.{View, value, own_operand, PlaceIs, local as is_local, argument as is_argument, memory as is_memory}
 use Rattle.l32_target_rules.specs.judging_laws.specs.sel_target.specs.Instances.{hole, some_touches, attr_touches, IsResult, Ready}
 use Rattle.l32_target_rules.specs.judging_laws.specs.sel_target.specs.Outcomes.{Untouched}
-use Rattle.l32_target_rules.specs.judging_laws.specs.sel_target.specs.StatementLaws.{IsStep, DoesAct, HomeIs}
+use Rattle.l32_target_rules.specs.judging_laws.specs.sel_target.specs.StatementLaws.{att_of, IsStep, DoesAct, HomeIs}
 use Rattle.l32_target_rules.specs.judging_laws.specs.vax_templates.specs.declared.setting.Own.TheVariants as own
 use Rattle.l32_target_rules.specs.judging_laws.specs.vax_templates.specs.Settings.{own_of, is_reuse}
 use Rattle.l32_target_rules.specs.l32_states.specs.call_pieces.specs.Piece.{word_of}
@@ -56,6 +57,7 @@ use Rattle.l32_target_rules.specs.Scene.{scene_of}
 use Rattle.l32_target_rules.proofs.Instances.{register_result}
 use Rattle.l32_target_rules.proofs.Results.{settled, avoided, avoids_at}
 use Rattle.l32_target_statements.specs.Laws.{IsDeed, IsStoring, StatementsStore}
+use Rattle.l32_target_statements.proofs.Saves.{saves_in}
 use Rattle.l32_target_statements.proofs.Ended.{no_slot, ended, agrees as agrees_there, room, live, goes as goes_there, statement_of, filled_hole, done}
 
 -- what a symbol's own place touches, its hole does
@@ -68,6 +70,7 @@ deed_of : (a : ActShape) → IsStoring a → IsDeed a
 deed_of (StoreHome z i t) s = tt
 deed_of (StoreAt z a t) s = tt
 deed_of (Push t) s = tt
+deed_of (Save i) s = tt
 deed_of (Return t) s = tt
 deed_of _ s = absurd s
 
@@ -178,6 +181,13 @@ module _ (q : TreeProgram) (f : Extent) (fs : List Extent) (classes : List Class
       (goes _ (with_pushed v.state (worth S t)) (x.1 ∙ ap (λ (r : Result State Stop32). course_of (silent r)) w.0) w.1 refl)
   push_goes t y (inr x) same = absurd (let z = x.1 in cc)
 
+  save_goes : (i k : ℕ) → IsDone S n (Save i) D → att_of (hole hs i) ≡ Some (att.Slot k) → k < f.locals → G (deed_step q v.state (Saves k))
+  save_goes i k (inl x) at lt =
+      let s = saves_in q f fs classes rule e hs res v m ready deed i k x.1.1 at in
+      subst (λ y. G (steps.Goes (with_local_set v.state k y))) s.result
+      (local_goes k x.1.0.address (worth S LastResult) lt s.low (worth_small S LastResult) (ap (named n) (sym s.place) ∙ x.1.0.there) x.1.0.is)
+  save_goes i k (inr x) at lt = absurd (let z = x.1 in cc)
+
   return_same : (a b : Shape) → Return a ≡ Return b → a ≡ b
   return_same a b e' = cc
 
@@ -207,6 +217,8 @@ module _ (q : TreeProgram) (f : Extent) (fs : List Extent) (classes : List Class
   does (StoreAt z a t) _ is s h = absurd h
   does (Push t) (Pushes y) is s h = push_goes t y (done_so (Push t) is) h
   does (Push t) _ is s h = absurd h
+  does (Save i) (Saves k) is s h = save_goes i k (done_so (Save i) is) h.0 h.1
+  does (Save i) _ is s h = absurd h
   does (Return t) (Leaves y) is s h = return_goes t y (done_so (Return t) is) h
   does (Return t) _ is s h = absurd h
   does _ d is s h = absurd s

@@ -1,3 +1,4 @@
 pub mod Given
 pub mod Ended
+pub mod Saves
 pub mod Law

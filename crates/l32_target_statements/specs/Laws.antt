@@ -1,4 +1,4 @@
--- The law of this crate: what the lines of a statement do that stores, pushes or returns.
+-- The law of this crate: what the lines of a statement do that stores, pushes, saves or returns.
 use Rattle.std.specs.Prelude.{List}
 use Rattle.l32_target_rules.specs.vax_target_meaning.specs.tree_core.specs.declared.program.TreeProgram.{TreeProgram}
 use Rattle.l32_target_rules.specs.vax_target_meaning.specs.tree_meaning.specs.State.{Extent}
@@ -27,11 +27,12 @@ IsDeed (Return t) = Unit {0}
 IsDeed Jump = Unit {0}
 IsDeed a = ⊥
 
--- a store, a push or a return
+-- a store, a push, a save of the last call's result or a return
 abbrev pub IsStoring : ActShape → Type 0
 IsStoring (StoreHome z i t) = Unit {0}
 IsStoring (StoreAt z a t) = Unit {0}
 IsStoring (Push t) = Unit {0}
+IsStoring (Save i) = Unit {0}
 IsStoring (Return t) = Unit {0}
 IsStoring a = ⊥
 
