@@ -1,0 +1,2 @@
+mod Statements
+pub mod Law
