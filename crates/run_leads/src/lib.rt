@@ -1,0 +1,4 @@
+//! When steps lead from one run to another, on any machine.
+#![tactic(auto)]
+
+pub mod laws;
