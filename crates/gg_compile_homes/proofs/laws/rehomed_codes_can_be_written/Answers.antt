@@ -1,0 +1,5 @@
+use Rattle.gg_compile_homes.proofs.Law as laws
+use Rattle.gg_compile_homes.proofs.laws.rehomed_codes_can_be_written.Goals as goal
+
+pub returns : goal.returns
+returns c = laws.rehomed_codes_can_be_written

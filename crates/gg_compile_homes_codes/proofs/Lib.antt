@@ -1,0 +1,3 @@
+pub mod Counting
+pub mod Bounding
+pub mod Law

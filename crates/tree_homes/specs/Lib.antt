@@ -1,0 +1,3 @@
+pub mod Rehoming
+pub mod Claims
+pub use Rattle.tree_meaning
