@@ -8,7 +8,7 @@ use vax_validated::Change;
 use vax_validated::copying::{copy_item, with_area_of};
 
 /// Dead code elimination: drops each instruction that does nothing but write registers and condition codes which no instruction reads
-/// before they are written again.
+/// before they are written again, or that moves a register to itself.
 #[derive(Drop)]
 pub struct DeadWrite;
 

@@ -1,104 +1,31 @@
-// Copies of registers and numbers.
+// Copies that are read.
 
-use crate::uses::effect_of;
-use bitflags::Flags;
+use crate::available::Available;
+use crate::copies::{Copies, Source};
+use crate::parts::{immediate_base, steps};
 use gg_base::{NoMemory, Size};
 use std::alloc::Global;
-use vax_core::{
-    Access, Addr, Base, Code, CodeItem, Instr, Op, Operand, OperandKind, Operands, Reg, RegSet,
-};
-use vax_machine::function::{Action, Test, action_of};
+use vax_core::{Access, Base, Code, CodeItem, Instr, Operand, OperandKind, Operands, Reg};
 use vax_validated::Change;
 use vax_validated::copying::{copy_item, copy_target, with_area_of};
 
-/// Copy propagation: behind `movl x,r`, where x is a register or a number, x is read in place of r, as long as neither is written and no
-/// label stands between. What is left of r is for dead code elimination.
+/// Copy propagation: where r is a copy of x, which is a register or a number, on all ways that lead there, x is read in place of r. What is
+/// left of r is for dead code elimination. Copies of registers are forgotten where loops begin and behind calls, where numbers alone are
+/// shown to be known.
 #[derive(Drop)]
 pub struct Forward;
 
-/// What a register is a copy of.
+/// What is read in place of copies.
 #[derive(Clone, Copy)]
-enum Source {
-    Register(Reg),
-    Number(u32),
-}
-
-/// One of r0 to r11, and what it is a copy of.
-#[derive(Clone, Copy)]
-struct Held {
-    register: Reg,
-    source: Source,
-}
-
-impl Held {
-    // Whether it is a copy no longer where these registers are written.
-    fn ends(self, written: RegSet) -> bool {
-        let own = self.register.set();
-        match self.source {
-            Source::Number(_) => written.intersects(own),
-            Source::Register(r) => written.intersects(own.union(r.set())),
-        }
-    }
-}
-
-fn is_general(r: Reg) -> bool {
-    r.number() < 12
-}
-
-// The copy that a move makes.
-fn moved(from: &Operand, r: Reg) -> Option<Held> {
-    let source = match &from.base {
-        Base::Reg(q) if is_general(*q) && *q != r => Source::Register(*q),
-        Base::Imm(Addr { name: None, offset }) => Source::Number(*offset),
-        _ => return None,
-    };
-    Some(Held {
-        register: r,
-        source,
-    })
-}
-
-// The copy that an instruction makes.
-fn copied(instr: &Instr) -> Option<Held> {
-    let (from, to) = match (instr.op, instr.operands.as_slice()) {
-        (Op::Movl, [from, to]) => (Some(from), to),
-        (Op::Clrl, [to]) => (None, to),
-        _ => return None,
-    };
-    let r = match &to.base {
-        Base::Reg(r) if is_general(*r) => *r,
-        _ => return None,
-    };
-    match from {
-        Some(from) => moved(from, r),
-        None => Some(Held {
-            register: r,
-            source: Source::Number(0),
-        }),
-    }
-}
-
-// Whether an operand steps a register.
-fn steps(operand: &Operand) -> bool {
-    matches!(operand.base, Base::Inc(_) | Base::IncDef(_) | Base::Dec(_))
-}
-
-/// The copies that are known at a place.
-#[derive(Drop)]
-struct Copies {
+struct Reading {
     alloc: Global,
-    held: Vec<Held>,
+    copies: Copies,
 }
 
-impl Copies {
-    fn source(&self, r: Reg) -> Option<Source> {
-        let held = self.held.iter().find(|held| held.register == r)?;
-        Some(held.source)
-    }
-
+impl Reading {
     // The register to read in place of one in an address.
     fn register(&self, r: Reg) -> Reg {
-        match self.source(r) {
+        match self.copies.source(r) {
             Some(Source::Register(q)) => q,
             Some(Source::Number(_)) | None => r,
         }
@@ -106,10 +33,14 @@ impl Copies {
 
     // What is read in place of a register at a size.
     fn read(&self, size: Size, r: Reg) -> Base {
-        match (self.source(r), size) {
-            (Some(Source::Register(q)), _) => Base::Reg(q),
-            (Some(Source::Number(offset)), Size::Long) => Base::Imm(Addr { name: None, offset }),
-            _ => Base::Reg(r),
+        let register = self.register(r);
+        let number = match self.copies.number(r) {
+            Some(n) => Some(n),
+            None => self.copies.number(register),
+        };
+        match (number, size) {
+            (Some(n), Size::Long) => immediate_base(n),
+            _ => Base::Reg(register),
         }
     }
 
@@ -156,55 +87,30 @@ impl Copies {
         })
     }
 
-    fn forget(&mut self, written: RegSet) {
-        self.held.retain(|held| !held.ends(written));
-    }
-
-    // What is known behind an instruction.
-    fn pass(&mut self, instr: &Instr) -> Result<(), NoMemory> {
-        if matches!(
-            action_of(instr.op),
-            Action::Branch(Test::Always) | Action::Return
-        ) {
-            self.held.clear();
-            return Ok(());
-        }
-        self.forget(effect_of(instr).writes.registers);
-        if let Some(held) = copied(instr) {
-            self.held.push(held)?;
-        }
-        Ok(())
-    }
-
-    // The item with sources in place of copies.
-    fn item(&mut self, item: &CodeItem) -> Result<CodeItem, NoMemory> {
+    // The item with sources in place of copies: none where it steps a register.
+    fn item(&self, item: &CodeItem) -> Result<CodeItem, NoMemory> {
         match item {
-            CodeItem::Label(_) | CodeItem::Mask(_) => self.held.clear(),
-            CodeItem::Globl(_) => {}
-            CodeItem::Instr(instr) => {
-                let stepped = instr.operands.as_slice().iter().any(steps);
-                if !stepped {
-                    let changed = self.instr(instr)?;
-                    self.pass(&changed)?;
-                    return Ok(CodeItem::Instr(changed));
-                }
-                self.pass(instr)?;
+            CodeItem::Instr(instr) if !instr.operands.as_slice().iter().any(steps) => {
+                Ok(CodeItem::Instr(self.instr(instr)?))
             }
+            _ => copy_item(self.alloc, item),
         }
-        copy_item(self.alloc, item)
     }
 }
 
 impl Change for Forward {
     fn change(&mut self, alloc: Global, code: &Code) -> Result<Code, NoMemory> {
-        let mut copies = Copies {
-            alloc,
-            held: Vec::new(alloc),
-        };
-        let mut items = Vec::new(alloc);
-        for item in code.items.as_slice() {
-            items.push(copies.item(item)?)?;
+        let items = code.items.as_slice();
+        let mut available = Available::of(alloc, items)?;
+        let mut changed = Vec::new(alloc);
+        for (place, item) in items.iter().enumerate() {
+            let reading = Reading {
+                alloc,
+                copies: available.here(),
+            };
+            changed.push(reading.item(item)?)?;
+            available.pass(place, item);
         }
-        with_area_of(alloc, code, items)
+        with_area_of(alloc, code, changed)
     }
 }

@@ -1,5 +1,6 @@
 // Which registers and condition codes may be read behind an instruction.
 
+use crate::parts::moves_to_itself;
 use crate::uses::{Uses, effect_of, is_calm_instr};
 use gg_base::NoMemory;
 use std::alloc::Global;
@@ -47,9 +48,11 @@ impl<'a> Live<'a> {
         }
     }
 
-    /// Whether nothing reads what an instruction writes, and it does nothing else.
+    /// Whether nothing reads what an instruction writes, or what it writes stands there, and it does nothing else.
     pub fn is_idle(&self, place: usize, instr: &Instr) -> bool {
-        is_calm_instr(instr) && !effect_of(instr).writes.meets(self.behind(place, instr))
+        let behind = self.behind(place, instr);
+        let is_dead = is_calm_instr(instr) && !effect_of(instr).writes.meets(behind);
+        is_dead || (moves_to_itself(instr) && !behind.signs)
     }
 
     /// The same of the item at a place.
